@@ -1,0 +1,79 @@
+//! Inputs in memory.
+ghost use Rattle.std.specs.Prelude.{◌≡◌, ◌≤◌, length, option_map};
+ghost use Rattle.host_core.specs.Memory.{input_named};
+
+use super::fuse::{Fuse, Fuses, raised};
+use crate::{Failed, Source, StartFault};
+use std::alloc::Global;
+
+/// Inputs by their names, of which a start copies what is to be read. A copy that is refused is a fault of it, and so is
+/// each call that its fuses name.
+#[derive(Drop)]
+pub struct MemorySource {
+    inputs: Vec<(String, Vec<u8>)>,
+    started: Vec<u8>,
+    from: usize,
+    fuses: Fuses,
+    faults: u64,
+    ghost within: { from ≤ length started.items },
+}
+
+fn input_named<'a>(inputs: &'a [(String, Vec<u8>)], name: &str) -> Option<&'a Vec<u8>>
+    ensures { option_map (λ bytes. bytes.now.items) result ≡ input_named inputs.now name.now }
+{
+    inputs
+        .iter()
+        .find(|input| input.0.as_str() == name)
+        .map(|input| &input.1)
+}
+
+impl MemorySource {
+    pub fn new(alloc: Global, inputs: Vec<(String, Vec<u8>)>, fuses: Vec<Fuse>) -> MemorySource
+        ensures { result.inputs ≡ inputs }
+    {
+        MemorySource {
+            inputs,
+            started: Vec::new(alloc),
+            from: 0,
+            fuses: Fuses::new(fuses),
+            faults: 0,
+        }
+    }
+}
+
+impl Source for MemorySource {
+    ghost use Rattle.std.specs.Prelude.{drop};
+    ghost use Rattle.host_core.specs.Memory.{input_named};
+
+    ghost tells = { Unit {0} };
+
+    ghost told = { λ s. record { inputs = input_named s.inputs.items; left = drop s.from s.started.items; faults = s.faults } };
+
+    fn start(&mut self, name: &str) -> Result<(), StartFault> {
+        if self.fuses.next().is_some() {
+            self.faults = raised(self.faults);
+            return Err(StartFault::Failed);
+        }
+        let Some(bytes) = input_named(&self.inputs, name) else {
+            return Err(StartFault::NoSuchName);
+        };
+        let Ok(started) = bytes.clone() else {
+            self.faults = raised(self.faults);
+            return Err(StartFault::Failed);
+        };
+        self.started = started;
+        self.from = 0;
+        Ok(())
+    }
+
+    fn read(&mut self, buf: &mut [u8]) -> Result<u64, Failed> {
+        if self.fuses.next().is_some() {
+            self.faults = raised(self.faults);
+            return Err(Failed);
+        }
+        let count = buf.len().min(self.started.len() - self.from);
+        buf[..count].copy_from_slice(&self.started[self.from..self.from + count]);
+        self.from += count;
+        Ok(count as u64)
+    }
+}

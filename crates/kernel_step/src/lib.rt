@@ -1,0 +1,6 @@
+//! What the kernel does to a network.
+#![tactic(auto)]
+
+mod stepping;
+
+pub use stepping::{StepFault, step};
