@@ -1,0 +1,70 @@
+-- What the one call of a change leaves, seen from before the dump.
+use Rattle.std.proofs.Common.{◌≡◌, ◌∙◌, ◌⊎◌, ◌≤◌, ℕ, inl, inr, Option, Some, None, refl, sym, ap, subst, arith}
+use Rattle.std.specs.Prelude.{⊤, Result, Ok, Err}
+use Rattle.net_model.specs.NetData.{NetData}
+use Rattle.net_model.specs.Kernel.{refusal, stepped}
+use Rattle.net_model.specs.declared.Call.{Call}
+use Rattle.host_core.specs.Faults.{Rose}
+use Rattle.host_core.specs.HostView.{HostView, State, WasRefused, Accepts, Refuses, MaybeCalled, refused, dumped}
+use Rattle.nmstate_top.specs.Merge.{broken_rule, merged, Leads}
+use Rattle.nmstate_top.specs.Changes.{OnKnown, SameState, HasMerged, IsApplied, IsPending, HasRefused, Leaves, CallLeaves, MakesCall, ChangesHost, ended}
+use Rattle.nmstate_top.specs.declared.document.LinkEntry.{LinkEntry}
+use Rattle.nmstate_top.specs.declared.report.Left.TheVariants as left
+use Rattle.nmstate_top.specs.declared.report.Cause.{Cause}
+use Rattle.nmstate_top.specs.declared.report.Cause.TheVariants.{Done, NotYet, MergeRefused, Usage, NoSuchName, ReadFault, WriteFault, HostFault, KernelRefused, OutOfMemory}
+
+same_some : (x y : NetData) → Some x ≡ Some y → x ≡ y
+same_some x y e = cc
+
+none_some : (k : ℕ) → None ≡ Some k → ⊥
+none_some k e = cc
+
+module _ (honest tells : Type 0) (tells_if : honest → tells) (entry : LinkEntry) (call : Call) (net : NetData) (old mid new : HostView)
+    (dump : honest → old.state.net ≡ Some net) (state : tells → mid.state ≡ old.state) (kernel : mid.kernel ≡ dumped old.kernel) (later : old.faults ≤ mid.faults)
+    (rules : broken_rule net entry ≡ None) (leads : Leads call net entry) where
+  has_net : honest → mid.state.net ≡ Some net
+  has_net h = ap (λ (s : State). s.net) (state (tells_if h)) ∙ dump h
+
+  accepted : (before after : Option NetData) → before ≡ Some net → Accepts call before after → after ≡ Some (merged net entry)
+  accepted (Some n) after is (ok, done) = done ∙ ap (λ (m : NetData). Some (stepped call m)) (same_some n net is) ∙ ap Some leads.1
+  accepted None after is h = absurd h
+
+  is_merged : honest → Accepts call mid.state.net new.state.net → HasMerged entry net new
+  is_merged h done = accepted mid.state.net new.state.net (has_net h) done
+
+  known : (P : NetData → Type 0) → (honest → P net) → OnKnown honest old P
+  known P holds h other is = subst P (same_some net other (sym (dump h) ∙ is)) (holds h)
+
+  not_refused : (k : ℕ) (before : Option NetData) → before ≡ Some net → Refuses call before k → ⊥
+  not_refused k (Some n) is r = none_some k (sym leads.0 ∙ ap (refusal call) (sym (same_some n net is)) ∙ r)
+  not_refused k None is r = r
+
+  either : honest → MaybeCalled call mid.state new.state → (new.state.net ≡ Some net) ⊎ HasMerged entry net new
+  either h (inl same) = inl (same ∙ has_net h)
+  either h (inr done) = inr (is_merged h done)
+
+  after_call : (c : Cause) → CallLeaves honest tells call mid new c → Leaves honest tells entry old new c
+  after_call Done m = known (λ n. IsApplied entry n new) (λ h. record { rules = rules; is_merged = is_merged h (m h); no_call = λ same. absurd (leads.2 same) })
+  after_call (HostFault left.Pending) m = record { rose = omega (arith, m.0, later); net = known (λ n. (new.state.net ≡ Some n) ⊎ HasMerged entry n new) (λ h. either h (m.1 h)) }
+  after_call (HostFault left.NotBegun) m = absurd m
+  after_call (HostFault left.RolledBack) m = absurd m
+  after_call (KernelRefused k n left.Pending) m =
+      let is : new.kernel ≡ refused k (dumped old.kernel) = m.1 ∙ ap (refused k) kernel in
+      record {
+        refused = record { rose = rw is (omega arith); last = rw (is, m.0) refl };
+        first = m.0;
+        state = λ t. m.3 t ∙ state t;
+        never = λ h. not_refused k mid.state.net (has_net h) (m.2 h);
+      }
+  after_call (KernelRefused k n left.NotBegun) m = absurd m
+  after_call (KernelRefused k n left.RolledBack) m = absurd m
+  after_call OutOfMemory m = λ t. m t ∙ state t
+  after_call NotYet m = absurd m
+  after_call (MergeRefused r) m = absurd m
+  after_call Usage m = absurd m
+  after_call NoSuchName m = absurd m
+  after_call ReadFault m = absurd m
+  after_call (WriteFault s) m = absurd m
+
+  pub changes : (r : Result ⊤ Cause) → MakesCall honest tells call mid new r → ChangesHost honest tells entry old new r
+  changes r m = after_call (ended r) m

@@ -1,0 +1,7 @@
+mod DocumentLemmas
+mod InputLemmas
+mod MergeLemmas
+mod ChangeLemmas
+mod Telling
+mod Exact
+mod Promised

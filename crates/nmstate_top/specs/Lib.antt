@@ -1,0 +1,11 @@
+pub mod Words
+pub mod Documents
+pub mod Inputs
+pub mod Merge
+pub mod Texts
+pub mod Reports
+pub mod Changes
+pub mod Answers
+pub mod Expected
+pub mod Runs
+pub mod Promises
