@@ -8,5 +8,5 @@ mod text;
 
 pub use items::Items;
 pub use memory::OutOfMemory;
-pub use path::{Path, PathStep};
+pub use path::{Path, PathStep, write_path};
 pub use text::Str;

@@ -5,7 +5,7 @@ use Rattle.net_model.specs.NetData.{NetData}
 use Rattle.net_model.specs.Kernel.{refusal, stepped}
 use Rattle.net_model.specs.declared.Call.{Call}
 use Rattle.host_core.specs.Faults.{Rose}
-use Rattle.host_core.specs.HostView.{HostView, State, WasRefused, Accepts, Refuses, MaybeCalled, refused, dumped}
+use Rattle.host_core.specs.HostView.{HostView, State, Kernel, counted, WasRefused, Accepts, Refuses, MaybeCalled, refused, dumped}
 use Rattle.nmstate_top.specs.Merge.{broken_rule, merged, Leads}
 use Rattle.nmstate_top.specs.Changes.{OnKnown, SameState, HasMerged, IsApplied, IsPending, HasRefused, Leaves, CallLeaves, MakesCall, ChangesHost, ended}
 use Rattle.nmstate_top.specs.declared.document.LinkEntry.{LinkEntry}
@@ -39,13 +39,17 @@ module _ (honest tells : Type 0) (tells_if : honest → tells) (entry : LinkEntr
   not_refused k (Some n) is r = none_some k (sym leads.0 ∙ ap (refusal call) (sym (same_some n net is)) ∙ r)
   not_refused k None is r = r
 
+  -- the first call since the dump
+  one : new.kernel ≡ counted mid.kernel → new.kernel.calls ≡ 1
+  one is = ap (λ (k : Kernel). k.calls) (is ∙ ap counted kernel)
+
   either : honest → MaybeCalled call mid.state new.state → (new.state.net ≡ Some net) ⊎ HasMerged entry net new
   either h (inl same) = inl (same ∙ has_net h)
   either h (inr done) = inr (is_merged h done)
 
   after_call : (c : Cause) → CallLeaves honest tells call mid new c → Leaves honest tells entry old new c
-  after_call Done m = known (λ n. IsApplied entry n new) (λ h. record { rules = rules; is_merged = is_merged h (m h); no_call = λ same. absurd (leads.2 same) })
-  after_call (HostFault left.Pending) m = record { rose = omega (arith, m.0, later); net = known (λ n. (new.state.net ≡ Some n) ⊎ HasMerged entry n new) (λ h. either h (m.1 h)) }
+  after_call Done m = known (λ n. IsApplied entry n new) (λ h. record { rules = rules; is_merged = is_merged h (m.1 h); no_call = λ same. absurd (leads.2 same); one_call = λ differs. one m.0 })
+  after_call (HostFault left.Pending) m = record { rose = omega (arith, m.1, later); one_call = one m.0; net = known (λ n. (new.state.net ≡ Some n) ⊎ HasMerged entry n new) (λ h. either h (m.2 h)) }
   after_call (HostFault left.NotBegun) m = absurd m
   after_call (HostFault left.RolledBack) m = absurd m
   after_call (KernelRefused k n left.Pending) m =

@@ -2,7 +2,7 @@
 use Rattle.std.specs.Prelude.{◌≡◌, ◌⊎◌, ◌≤◌, ⊤, ℕ, Some, None, Result, Ok, Err}
 use Rattle.net_model.specs.NetData.{NetData}
 use Rattle.host_core.specs.Faults.{Rose}
-use Rattle.host_core.specs.HostView.{HostView, WasRefused, Accepts, Refuses, MaybeCalled, refused}
+use Rattle.host_core.specs.HostView.{HostView, WasRefused, Accepts, Refuses, MaybeCalled, counted, refused}
 use Rattle.net_model.specs.declared.Call.{Call}
 use Rattle.nmstate_top.specs.Merge.{broken_rule, merged}
 use Rattle.nmstate_top.specs.declared.document.LinkEntry.{LinkEntry}
@@ -20,21 +20,25 @@ SameState old new = new.state ≡ old.state
 abbrev pub HasMerged : LinkEntry → NetData → HostView → Type 0
 HasMerged entry net host = host.state.net ≡ Some (merged net entry)
 
--- the merged network is there, and where nothing had to change no call was made
+-- the merged network is there, by one call, and by none where nothing had to change
 pub record IsApplied (entry : LinkEntry) (net : NetData) (new : HostView) : Type 0 where
   pub rules : broken_rule net entry ≡ None
   pub is_merged : HasMerged entry net new
   pub no_call : merged net entry ≡ net → new.kernel.calls ≡ 0
+  pub one_call : (merged net entry ≡ net → ⊥) → new.kernel.calls ≡ 1
 
+-- the dump alone was made
 pub record IsLeftAlone (tells : Type 0) (old new : HostView) : Type 0 where
   pub state : tells → SameState old new
   pub no_call : new.kernel.calls ≡ 0
 
--- the network of the document is the old one or the merged one
+-- the one call failed, and the network is the old one or the merged one
 pub record IsPending (honest : Type 0) (entry : LinkEntry) (old new : HostView) : Type 0 where
   pub rose : Rose old.faults new.faults
+  pub one_call : new.kernel.calls ≡ 1
   pub net : OnKnown honest old (λ net. (new.state.net ≡ Some net) ⊎ HasMerged entry net new)
 
+-- the dump failed, and no call was made
 pub record HasNotBegun (tells : Type 0) (old new : HostView) : Type 0 where
   pub rose : Rose old.faults new.faults
   pub state : tells → SameState old new
@@ -62,8 +66,8 @@ ended (Err c) = c
 
 -- what one call leaves, from a network that it was made for
 abbrev pub CallLeaves : Type 0 → Type 0 → Call → HostView → HostView → Cause → Type 0
-CallLeaves honest tells call old new Done = honest → Accepts call old.state.net new.state.net
-CallLeaves honest tells call old new (HostFault left.Pending) = Rose old.faults new.faults × (honest → MaybeCalled call old.state new.state)
+CallLeaves honest tells call old new Done = (new.kernel ≡ counted old.kernel) × (honest → Accepts call old.state.net new.state.net)
+CallLeaves honest tells call old new (HostFault left.Pending) = (new.kernel ≡ counted old.kernel) × Rose old.faults new.faults × (honest → MaybeCalled call old.state new.state)
 CallLeaves honest tells call old new (KernelRefused k n left.Pending) = (n ≡ 1) × (new.kernel ≡ refused k old.kernel) × (honest → Refuses call old.state.net k) × (tells → SameState old new)
 CallLeaves honest tells call old new OutOfMemory = tells → SameState old new
 CallLeaves honest tells call old new _ = ⊥

@@ -1,5 +1,5 @@
 //! A clock that stands still.
-ghost use Rattle.std.specs.Prelude.{[], ◌∷◌};
+ghost use Rattle.std.specs.Prelude.{◌≡◌, [], ◌∷◌};
 
 use crate::Clock;
 
@@ -10,7 +10,9 @@ pub struct FixedClock {
 }
 
 impl FixedClock {
-    pub fn new(now: u64) -> FixedClock {
+    pub fn new(now: u64) -> FixedClock
+        ensures { ⟦<FixedClock as Clock>⟧.coming result ≡ now ∷ [] }
+    {
         FixedClock { now }
     }
 }

@@ -23,7 +23,8 @@ pub struct MemoryHost {
 impl MemoryHost {
     /// A host with this network, which isn't settled.
     pub fn new(net: Net, fuses: Vec<Fuse>) -> MemoryHost
-        ensures { result.net ≡ net }
+        ensures net { (⟦<MemoryHost as Host>⟧.told result).state.net ≡ Some net }
+        ensures unsettled { (⟦<MemoryHost as Host>⟧.told result).settled → ⊥ }
     {
         MemoryHost {
             net,
@@ -37,8 +38,9 @@ impl MemoryHost {
         }
     }
 
+    /// The network that it has.
     pub fn net(&self) -> &Net
-        ensures { result.now ≡ self.now.net }
+        ensures { (⟦<MemoryHost as Host>⟧.told self.now).state.net ≡ Some result.now }
     {
         &self.net
     }

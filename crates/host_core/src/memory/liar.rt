@@ -15,8 +15,10 @@ pub struct LyingHost {
 }
 
 impl LyingHost {
+    /// A host with this network, which isn't settled.
     pub fn new(net: Net) -> LyingHost
-        ensures { result.net ≡ net }
+        ensures net { (⟦<LyingHost as Host>⟧.told result).state.net ≡ Some net }
+        ensures unsettled { (⟦<LyingHost as Host>⟧.told result).settled → ⊥ }
     {
         LyingHost {
             net,
@@ -25,8 +27,9 @@ impl LyingHost {
         }
     }
 
+    /// The network that it has.
     pub fn net(&self) -> &Net
-        ensures { result.now ≡ self.now.net }
+        ensures { (⟦<LyingHost as Host>⟧.told self.now).state.net ≡ Some result.now }
     {
         &self.net
     }

@@ -16,8 +16,9 @@ pub struct MemorySink {
 }
 
 impl MemorySink {
+    /// A sink to which nothing was written.
     pub fn new(alloc: Global, fuses: Vec<Fuse>) -> MemorySink
-        ensures { result.bytes.items ≡ [] }
+        ensures { (⟦<MemorySink as Sink>⟧.told result).written ≡ [] }
     {
         MemorySink {
             bytes: Vec::new(alloc),
@@ -28,7 +29,7 @@ impl MemorySink {
 
     /// What was written so far.
     pub fn bytes(&self) -> &Vec<u8>
-        ensures { result.now.items ≡ self.now.bytes.items }
+        ensures { result.now.items ≡ (⟦<MemorySink as Sink>⟧.told self.now).written }
     {
         &self.bytes
     }

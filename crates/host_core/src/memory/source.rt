@@ -29,7 +29,7 @@ fn input_named<'a>(inputs: &'a [(String, Vec<u8>)], name: &str) -> Option<&'a Ve
 
 impl MemorySource {
     pub fn new(alloc: Global, inputs: Vec<(String, Vec<u8>)>, fuses: Vec<Fuse>) -> MemorySource
-        ensures { result.inputs ≡ inputs }
+        ensures { (⟦<MemorySource as Source>⟧.told result).inputs ≡ input_named inputs.items }
     {
         MemorySource {
             inputs,
