@@ -44,8 +44,8 @@ pub has_mtu-same : (name : Text) (mtu : ℕ) (links : List Link) → set_mtu nam
 has_mtu-same name mtu [] h = refl
 has_mtu-same name mtu (l ∷ links) h =
     and_true (is_at name mtu l) (has_mtu name mtu links)
-      (is_at-if (is_named name l) mtu l (head_of (with_mtu name mtu l) l (set_mtu name mtu links) links h))
-      (has_mtu-same name mtu links (tail_of (with_mtu name mtu l) l (set_mtu name mtu links) links h))
+    (is_at-if (is_named name l) mtu l (head_of (with_mtu name mtu l) l (set_mtu name mtu links) links h))
+    (has_mtu-same name mtu links (tail_of (with_mtu name mtu l) l (set_mtu name mtu links) links h))
 
 pub not_both : (b : Bool) → b ≡ true → b ≡ false → ⊥
 not_both b p q = let e : true ≡ false = sym p ∙ q in cc

@@ -35,7 +35,7 @@ turned e c (inr is) = inr is
 pub complete : (r : Run) → Answered r → Complete r
 complete r a net host tells quiet_host quiet_source =
     told_either r (expected r.asking.words (r.asking.source.inputs stdin) net) a.answer a.told
-      (turned _ a.answer (expected_answered r.asking net host.honest host.net_is tells quiet_host quiet_source a.answer a.means))
+    (turned _ a.answer (expected_answered r.asking net host.honest host.net_is tells quiet_host quiet_source a.answer a.means))
 
 -- what is expected of a document of the first form
 entry_expected : (r : Run) (entry : LinkEntry) (net : NetData) → HasEntry r entry → (c : Cause) → by_rule (broken_rule net entry) ≡ c → expected r.asking.words (r.asking.source.inputs stdin) net ≡ c
@@ -58,10 +58,11 @@ merged_done r entry net has host means =
     let found : Some means.1.entry ≡ Some entry = sym means.1.document.form_is ∙ ap document read.2 ∙ ap (λ xs. document (take read_limit xs)) input ∙ has.form in
     subst (λ e. HasMerged e net r.asking.host_after) (same_entry means.1.entry entry found) (means.1.leaves host.honest net host.net_is).is_merged
   where
-  same_text : (x y : Text) → Some x ≡ Some y → x ≡ y
-  same_text x y e = cc
-  same_entry : (x y : LinkEntry) → Some x ≡ Some y → x ≡ y
-  same_entry x y e = cc
+    same_text : (x y : Text) → Some x ≡ Some y → x ≡ y
+    same_text x y e = cc
+
+    same_entry : (x y : LinkEntry) → Some x ≡ Some y → x ≡ y
+    same_entry x y e = cc
 
 done_told : (r : Run) (entry : LinkEntry) (net : NetData) → QuietSinks r → HasMerged entry net r.asking.host_after
     → (told : Result ⊤ Failed) → IsWritten r.sinks_tell Done r.out r.err r.out_after r.err_after told → Tells told Done r.report → IsDone r entry net
@@ -85,9 +86,9 @@ applied_by r entry net has host quiet answer means told (inr is) =
 pub applied : (r : Run) → Answered r → Applied r
 applied r a entry net has host rules quiet_host quiet_source quiet =
     let is : (expected r.asking.words (r.asking.source.inputs stdin) net ≡ a.answer) ⊎ (a.answer ≡ OutOfMemory) =
-        expected_answered r.asking net host.honest host.net_is has.given.tells quiet_host quiet_source a.answer a.means in
+    expected_answered r.asking net host.honest host.net_is has.given.tells quiet_host quiet_source a.answer a.means in
     applied_by r entry net has host quiet a.answer a.means a.told
-      (subst (λ e. (e ≡ a.answer) ⊎ (a.answer ≡ OutOfMemory)) (entry_expected r entry net has Done (ap by_rule rules)) is)
+    (subst (λ e. (e ≡ a.answer) ⊎ (a.answer ≡ OutOfMemory)) (entry_expected r entry net has Done (ap by_rule rules)) is)
 
 pub usage : (r : Run) → Answered r → UsageExactly r
 usage r a = record {

@@ -96,7 +96,7 @@ pub record NotYetExactly (r : Run) : Type 0 where
 pub record MergeRefusedExactly (r : Run) : Type 0 where
   pub only : (refused : Refused) → r.report.cause ≡ MergeRefused refused → Changed r.asking (MergeRefused refused)
   pub always : (refused : Refused) (entry : LinkEntry) (net : NetData) → HasEntry r entry → HasHonest r net → broken_rule net entry ≡ Some refused
-    → QuietHost r → QuietSource r → ToldUnlessMemory r (MergeRefused refused)
+      → QuietHost r → QuietSource r → ToldUnlessMemory r (MergeRefused refused)
 
 -- the document's change may stand
 pub record MayBeMerged (r : Run) : Type 0 where

@@ -11,10 +11,11 @@ use Rattle.nmstate_top.proofs.merging.change_of.Goals as goal
 pub returns-then-has_mtu : goal.returns-then-has_mtu
 returns-then-has_mtu c =
     let net = c.args.net.now in
-    let name = c.args.entry.now.name in
-    (search rules,
-     ap (λ o. record net { links = with_mtu_of name o net.links }) c.in-Some.is
-     ∙ ap (λ (ls : List Link). record net { links = ls }) (set_mtu-same name c.in-Some.mtu net.links (sym c.has_mtu.ensures ∙ c.if-has_mtu.true)))
+    let name = c.args.entry.now.name in (
+      search rules,
+      ap (λ o. record net { links = with_mtu_of name o net.links }) c.in-Some.is
+          ∙ ap (λ (ls : List Link). record net { links = ls }) (set_mtu-same name c.in-Some.mtu net.links (sym c.has_mtu.ensures ∙ c.if-has_mtu.true)),
+    )
 
 pub returns : goal.returns
 returns c =
