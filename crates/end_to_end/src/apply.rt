@@ -1,8 +1,9 @@
 //! `apply -`: answers, texts and what stands after them.
 
-use crate::trial::{Faults, NONE, fuses, run_words, two_devices};
+use crate::trial::{Faults, NONE, device, fuses, network, run_words, two_devices, vlan};
+use document_model::{Place, Refused};
 use host_core::{Fuse, LyingHost, MemoryHost};
-use net_model::{Name, Place, Refused};
+use net_model::Name;
 use nmstate_top::{Cause, Left};
 use std::test::Fail;
 
@@ -244,6 +245,20 @@ fn tells_a_refusal_that_is_not_written(rt: HostRuntime) -> Result<(), Fail> {
     let seen = run_words(rt.alloc(), APPLY, &mut host, None, NONE)?;
     assert!(&rt; seen.report.cause == Cause::NoSuchName);
     assert_eq!(&rt; seen.err.as_slice(), b"error: no such file\n".as_slice());
+    Ok(())
+}
+
+#[test]
+fn is_not_built_for_a_network_with_a_vlan(rt: HostRuntime) -> Result<(), Fail> {
+    let alloc = rt.alloc();
+    let mut links = Vec::new(alloc);
+    links.push(device(alloc, "eth1", 1500).expect(&rt, "a name"))?;
+    links.push(vlan(alloc).expect(&rt, "a VLAN"))?;
+    let mut host = MemoryHost::new(network(&rt, alloc, links), Vec::new(alloc));
+    let input = Vec::from_slice(alloc, MTU.as_bytes())?;
+    let seen = run_words(alloc, APPLY, &mut host, Some(input), NONE)?;
+    assert!(&rt; seen.report.cause == Cause::NotYet);
+    assert_eq!(&rt; host.net().links()[0].mtu, 1500);
     Ok(())
 }
 

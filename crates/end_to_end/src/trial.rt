@@ -1,7 +1,9 @@
 //! One run, and what is seen of it.
 
 use host_core::{FixedClock, Fuse, Host, MemorySink, MemorySource};
-use net_model::{Kind, Link, Mac, Name, Net};
+use net_model::{
+    BondOpts, BridgeOpts, Dns, Items, Kind, Link, Mac, Name, Net, PortOpts, Proto, VlanId,
+};
 use nmstate_top::{Report, run_command};
 use std::alloc::{AllocError, Global};
 use std::process::Abort;
@@ -39,27 +41,59 @@ pub fn fuses(alloc: Global, fuse: Option<Fuse>) -> Result<Vec<Fuse>, AllocError>
     Ok(all)
 }
 
-/// A device that is down.
-pub fn device(name: &str, mtu: u32) -> Option<Link> {
-    let mac = Mac {
-        bytes: [0x52, 0x54, 0, 0, 0, 1],
-    };
+const MAC: Mac = Mac {
+    bytes: [0x52, 0x54, 0, 0, 0, 1],
+};
+
+/// A link that is down, with all else at its defaults.
+fn link(alloc: Global, name: &str, kind: Kind, mtu: u32) -> Option<Link> {
     Some(Link {
         name: Name::of(name.as_bytes())?,
-        kind: Kind::Ethernet { permanent: mac },
+        kind,
         up: false,
         mtu,
-        mac,
+        mac: MAC,
+        controller: None,
+        bond: BondOpts::defaults(),
+        bridge: BridgeOpts::defaults(),
+        port: PortOpts::defaults(),
+        addrs: Items::of(Vec::new(alloc)),
     })
+}
+
+/// A device that is down.
+pub fn device(alloc: Global, name: &str, mtu: u32) -> Option<Link> {
+    link(alloc, name, Kind::Ethernet { permanent: MAC }, mtu)
+}
+
+/// A VLAN over `eth1`.
+pub fn vlan(alloc: Global) -> Option<Link> {
+    let base = Name::of(b"eth1")?;
+    let id = VlanId::of(5)?;
+    let kind = Kind::Vlan {
+        base,
+        id,
+        proto: Proto::Dot1q,
+    };
+    link(alloc, "eth1.5", kind, 1500)
+}
+
+/// The network of these links.
+pub fn network(rt: &impl Abort, alloc: Global, links: Vec<Link>) -> Net {
+    let dns = Dns {
+        servers: Items::of(Vec::new(alloc)),
+        search: Items::of(Vec::new(alloc)),
+    };
+    Net::new(alloc, links, Vec::new(alloc), Vec::new(alloc), dns).expect(rt, "a valid network")
 }
 
 /// The network of `eth1` with this MTU and `eth2` with 1500.
 pub fn two_devices(rt: &impl Abort, alloc: Global, mtu: u32) -> Result<Net, Fail> {
     let mut links = Vec::new(alloc);
     for (name, mtu) in [("eth2", 1500), ("eth1", mtu)] {
-        links.push(device(name, mtu).expect(rt, "a name"))?;
+        links.push(device(alloc, name, mtu).expect(rt, "a name"))?;
     }
-    Ok(Net::new(links).expect(rt, "a valid network"))
+    Ok(network(rt, alloc, links))
 }
 
 /// Runs the words on a host, with standard input where there is one.

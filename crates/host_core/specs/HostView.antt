@@ -1,7 +1,7 @@
 -- What a host tells.
-use Rattle.std.specs.Prelude.{◌≡◌, ◌⊎◌, ◌≤◌, ℕ, Option, Some, None}
+use Rattle.std.specs.Prelude.{◌≡◌, ◌⊎◌, ◌≤◌, ℕ, Option, Some, None, Ok, Err}
 use Rattle.net_model.specs.NetData.{NetData}
-use Rattle.net_model.specs.Kernel.{refusal, stepped}
+use Rattle.kernel_model.specs.Kernel.{step}
 use Rattle.net_model.specs.declared.Call.{Call}
 use Rattle.host_core.specs.Faults.{Rose, one_more}
 
@@ -22,14 +22,19 @@ pub record HostView : Type 1 where
   -- no call is in doubt
   pub settled : Type 0
 
--- the network takes the call and becomes this one
+-- the network takes the call and becomes this one, by the kernel's step
+pub record Accepted (call : Call) (old : NetData) (new : Option NetData) : Type 0 where
+  pub next : NetData
+  pub stepped : step call old ≡ Some (Ok next)
+  pub becomes : new ≡ Some next
+
 abbrev pub Accepts : Call → Option NetData → Option NetData → Type 0
-Accepts call (Some old) new = (refusal call old ≡ None) × (new ≡ Some (stepped call old))
+Accepts call (Some old) new = Accepted call old new
 Accepts call None new = ⊥
 
 -- the network refuses the call with this number
 abbrev pub Refuses : Call → Option NetData → ℕ → Type 0
-Refuses call (Some net) k = refusal call net ≡ Some k
+Refuses call (Some net) k = step call net ≡ Some (Err k)
 Refuses call None k = ⊥
 
 -- the call was done, or it wasn't

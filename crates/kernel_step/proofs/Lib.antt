@@ -1,1 +1,2 @@
-mod MtuLaw
+mod Mapped
+pub mod MtuLaw

@@ -1,74 +1,127 @@
--- A change of an MTU keeps a network valid and in order.
-use Rattle.std.proofs.Common.{◌≡◌, ℕ, ◌+◌, ◌<◌, Bool, true, false, if◌then◌else◌, List, [], ◌∷◌, map, length, get_or, Some, None, refl, sym, ap, ◌∙◌, arith, IsSortedByKey, nat_cmp, nat_le}
-use Rattle.std.specs.Prelude.{◌&&◌, ◌||◌, not}
+-- A change of an MTU on devices keeps a network valid and in order.
+use Rattle.std.proofs.Common.{◌≡◌, ◌∙◌, ℕ, zero, suc, Bool, true, false, not, ◌&&◌, ◌||◌, nat_le, List, [], ◌∷◌, map, length, Some, None, cond, refl, sym, ap}
+use Rattle.std.specs.Prelude.{Ok, if◌then◌else◌, is_some}
 use Rattle.std.specs.List.{list_any, list_all}
-use Rattle.std.specs.Ordering.{is_lt}
-use Rattle.std.specs.Cmp.Lexicographic.{slice_cmp}
-use Rattle.std.proofs.lemmas.List.{get_or-map, length-map}
-use Rattle.net_model.specs.Name.{same_bytes}
-use Rattle.net_model.specs.Links.{apart, is_named, same_name}
-use Rattle.net_model.specs.Valid.{names_differ, mtu_in_range, mtus_fit, counts_fit, first_false, least_broken_of}
-use Rattle.net_model.specs.NetData.{NetData, IsNet}
-use Rattle.net_model.specs.Kernel.{with_mtu, set_mtu}
+use Rattle.net_model.specs.Links.{is_named, named_passes, base_passes, find_link}
+use Rattle.net_model.specs.Standing.{base_chain}
+use Rattle.net_model.specs.Valid.{names_differ, bases_stand, controllers_take, bases_up, mtu_in_range, mtus_fit, ports_bare, addresses_fit, routes_stand, rules_differ, options_fit, limits_hold, least_broken, counts_fit, links_fit, unused_default}
+use Rattle.net_model.specs.Standing.{no_cycle}
+use Rattle.net_model.specs.Words.{first_false}
+use Rattle.net_model.specs.NetData.{NetData, IsNet, IsInOrder}
+use Rattle.kernel_model.specs.Kernel.{first_true, unless_refused, has_link, base_allows, is_over, mtu_after, with_mtu, set_mtu, mtu_refusal, step, is_ethernet, all_ethernet}
 use Rattle.net_model.specs.declared.Link.{Link}
-
--- the parts of validity, one by one
-record Holds (names mtus counts : Bool) : Type 0 where
-  names_ok : names ≡ true
-  mtus_ok : mtus ≡ true
-  counts_ok : counts ≡ true
-
-holds : (names mtus counts : Bool) → first_false ((1, names) ∷ (6, mtus) ∷ (12, counts) ∷ []) ≡ None → Holds names mtus counts
-holds true true true h = record { names_ok = refl; mtus_ok = refl; counts_ok = refl }
-holds true true false h = absurd (cc)
-holds true false counts h = absurd (cc)
-holds false mtus counts h = absurd (cc)
-
-with_mtu-name : (name : List ℕ) (mtu : ℕ) (l : Link) → (with_mtu name mtu l).name ≡ l.name
-with_mtu-name name mtu l = elim (is_named name l) as (λ b. let m : Link = (if b then record l { mtu = mtu } else l) in m.name ≡ l.name) [ true ↦ refl | false ↦ refl ]
-
-with_mtu-in_range : (name : List ℕ) (mtu : ℕ) (l : Link) → mtu_in_range mtu ≡ true → mtu_in_range l.mtu ≡ true → mtu_in_range (with_mtu name mtu l).mtu ≡ true
-with_mtu-in_range name mtu l new old = elim (is_named name l) as (λ b. let m : Link = (if b then record l { mtu = mtu } else l) in mtu_in_range m.mtu ≡ true) [ true ↦ new | false ↦ old ]
-
-list_any-named : (name : List ℕ) (mtu : ℕ) (n : List ℕ) (xs : List Link) → list_any (is_named n) (set_mtu name mtu xs) ≡ list_any (is_named n) xs
-list_any-named name mtu n [] = refl
-list_any-named name mtu n (x ∷ xs) =
-    ap (λ m. same_bytes m n || list_any (is_named n) (set_mtu name mtu xs)) (with_mtu-name name mtu x)
-    ∙ ap (λ b. is_named n x || b) (list_any-named name mtu n xs)
-
-names_differ-set_mtu : (name : List ℕ) (mtu : ℕ) (xs : List Link) → names_differ (set_mtu name mtu xs) ≡ names_differ xs
-names_differ-set_mtu name mtu [] = refl
-names_differ-set_mtu name mtu (x ∷ xs) =
-    ap (λ m. not (list_any (is_named m) (set_mtu name mtu xs)) && names_differ (set_mtu name mtu xs)) (with_mtu-name name mtu x)
-    ∙ ap (λ b. not b && names_differ (set_mtu name mtu xs)) (list_any-named name mtu x.name xs)
-    ∙ ap (λ b. not (list_any (is_named x.name) xs) && b) (names_differ-set_mtu name mtu xs)
+use Rattle.net_model.specs.declared.Kind.{Kind}
+use Rattle.net_model.specs.declared.Kind.TheVariants.{Ethernet, Bond, Bridge, Vlan, Vrf}
+use Rattle.net_model.specs.declared.Call.TheVariants.{SetMtu}
+use Rattle.net_model.proofs.AllParts.{all_parts, none_broken}
+use Rattle.kernel_step.proofs.Mapped.{changed, names_map, bases_map, controllers_map, cycles_map, ups_map, ports_map, addresses_map, routes_map, options_map, limits_map, rises_map, sorted_map}
 
 both : (a b : Bool) → (a && b) ≡ true → (a ≡ true) × (b ≡ true)
 both true b h = (refl, h)
 both false b h = absurd (cc)
 
-mtus_fit-set_mtu : (name : List ℕ) (mtu : ℕ) (xs : List Link) → mtu_in_range mtu ≡ true → mtus_fit xs ≡ true → mtus_fit (set_mtu name mtu xs) ≡ true
-mtus_fit-set_mtu name mtu [] new old = refl
-mtus_fit-set_mtu name mtu (x ∷ xs) new old =
-    let parts = both (mtu_in_range x.mtu) (mtus_fit xs) old in
-    rw (with_mtu-in_range name mtu x new parts.0, mtus_fit-set_mtu name mtu xs new parts.1) refl
+-- ---- devices stand on nothing
 
-sorted-set_mtu : (name : List ℕ) (mtu : ℕ) (xs : List Link) → IsSortedByKey (λ (l : Link). l.name) (slice_cmp nat_cmp) xs → IsSortedByKey (λ (l : Link). l.name) (slice_cmp nat_cmp) (set_mtu name mtu xs)
-sorted-set_mtu name mtu xs sorted k d low high =
-    let f : Link → Link = with_mtu name mtu in
-    let within : k + 1 < length xs = omega (arith, length-map xs f) in
-    let here : get_or (map f xs) k d ≡ f (get_or xs k d) = get_or-map f xs k d d (omega arith) in
-    let next : get_or (map f xs) (k + 1) d ≡ f (get_or xs (k + 1) d) = get_or-map f xs (k + 1) d d within in
-    ap (λ (l : Link). is_lt (slice_cmp nat_cmp l.name (get_or (map f xs) k d).name)) next
-    ∙ ap (λ (l : Link). is_lt (slice_cmp nat_cmp (f (get_or xs (k + 1) d)).name l.name)) here
-    ∙ ap (λ n. is_lt (slice_cmp nat_cmp n (f (get_or xs k d)).name)) (with_mtu-name name mtu (get_or xs (k + 1) d))
-    ∙ ap (λ n. is_lt (slice_cmp nat_cmp (get_or xs (k + 1) d).name n)) (with_mtu-name name mtu (get_or xs k d))
-    ∙ sorted k d low within
+chain_ethernet : (links : List Link) (n : ℕ) (k : Kind) → is_ethernet k ≡ true → base_chain links n k ≡ []
+chain_ethernet links zero k h = refl
+chain_ethernet links (suc n) (Ethernet permanent) h = refl
+chain_ethernet links (suc n) (Bond mode) h = absurd (cc)
+chain_ethernet links (suc n) Bridge h = absurd (cc)
+chain_ethernet links (suc n) (Vlan base id proto) h = absurd (cc)
+chain_ethernet links (suc n) (Vrf table) h = absurd (cc)
 
-pub set_mtu-IsNet : (name : List ℕ) (mtu : ℕ) (net : NetData) → mtu_in_range mtu ≡ true → IsNet net → IsNet (record net { links = set_mtu name mtu net.links })
-set_mtu-IsNet name mtu net new is =
-    let parts = holds (names_differ net.links) (mtus_fit net.links) (counts_fit net.links) is.valid in
+base_ethernet : (p : Link → Bool) (links : List Link) (k : Kind) → is_ethernet k ≡ true → base_passes p links k ≡ true
+base_ethernet p links (Ethernet permanent) h = refl
+base_ethernet p links (Bond mode) h = refl
+base_ethernet p links Bridge h = refl
+base_ethernet p links (Vlan base id proto) h = absurd (cc)
+base_ethernet p links (Vrf table) h = refl
+
+-- the named device alone is changed
+pub set_mtu-devices : (name : List ℕ) (mtu : ℕ) (all links : List Link) → all_ethernet links ≡ true
+    → map (λ l. with_mtu name mtu (is_over all name l) l) links ≡ map (with_mtu name mtu false) links
+set_mtu-devices name mtu all [] h = refl
+set_mtu-devices name mtu all (l ∷ links) h =
+    let parts = both (is_ethernet l.kind) (all_ethernet links) h in
+    let alone : is_over all name l ≡ false = ap (list_any (is_named name)) (chain_ethernet all (length all) l.kind parts.0) in
+    rw (alone, set_mtu-devices name mtu all links parts.1) refl
+
+pub has_link-any : (name : List ℕ) (links : List Link) → has_link name links ≡ list_any (is_named name) links
+has_link-any name [] = refl
+has_link-any name (l ∷ links) =
+    elim (is_named name l) as (λ b. is_some (cond b (Some l) (find_link name links)) ≡ (b || list_any (is_named name) links)) [ true ↦ refl | false ↦ has_link-any name links ]
+
+allows-devices : (name : List ℕ) (mtu : ℕ) (all links : List Link) → all_ethernet links ≡ true → list_any (is_named name) links ≡ true
+    → list_any (λ l. is_named name l && base_passes (λ b. nat_le mtu b.mtu) all l.kind) links ≡ true
+allows-devices name mtu all [] h there = there
+allows-devices name mtu all (l ∷ links) h there =
+    let parts = both (is_ethernet l.kind) (all_ethernet links) h in
+    let on : base_passes (λ b. nat_le mtu b.mtu) all l.kind ≡ true = base_ethernet (λ b. nat_le mtu b.mtu) all l.kind parts.0 in
+    allowed (is_named name l) (base_passes (λ b. nat_le mtu b.mtu) all l.kind) (list_any (is_named name) links)
+    (list_any (λ k. is_named name k && base_passes (λ b. nat_le mtu b.mtu) all k.kind) links) on (λ t. allows-devices name mtu all links parts.1 t) there
+  where
+    allowed : (n p any all : Bool) → p ≡ true → (any ≡ true → all ≡ true) → (n || any) ≡ true → ((n && p) || all) ≡ true
+    allowed true p any all on rest t = rw on refl
+    allowed false p any all on rest t = rest t
+
+-- a device takes each MTU in range
+pub refusal-devices : (name : List ℕ) (mtu : ℕ) (links : List Link) → all_ethernet links ≡ true → has_link name links ≡ true
+    → mtu_refusal name mtu links ≡ first_true ((8, not (mtu_in_range mtu)) ∷ [])
+refusal-devices name mtu links h there =
+    let allows : base_allows name mtu links ≡ true = allows-devices name mtu links links h (sym (has_link-any name links) ∙ there) in
+    let right : (mtu_in_range mtu && true) ≡ mtu_in_range mtu = and_true (mtu_in_range mtu) in
+    rw (there, allows, right) refl where
+      and_true : (b : Bool) → (b && true) ≡ b
+      and_true true = refl
+      and_true false = refl
+
+-- ---- the network stays one
+
+mtus-devices : (name : List ℕ) (mtu : ℕ) (all new links : List Link) → all_ethernet links ≡ true → mtu_in_range mtu ≡ true
+    → list_all (λ l. mtu_in_range l.mtu && base_passes (λ b. nat_le l.mtu b.mtu) all l.kind) links ≡ true
+    → list_all (λ l. mtu_in_range l.mtu && base_passes (λ b. nat_le l.mtu b.mtu) new l.kind) (map (with_mtu name mtu false) links) ≡ true
+mtus-devices name mtu all new [] h fits old = refl
+mtus-devices name mtu all new (l ∷ links) h fits old =
+    let parts = both (is_ethernet l.kind) (all_ethernet links) h in
+    let halves = both (mtu_in_range l.mtu && base_passes (λ b. nat_le l.mtu b.mtu) all l.kind) (list_all (λ l. mtu_in_range l.mtu && base_passes (λ b. nat_le l.mtu b.mtu) all l.kind) links) old in
+    let own = both (mtu_in_range l.mtu) (base_passes (λ b. nat_le l.mtu b.mtu) all l.kind) halves.0 in
+    let on : base_passes (λ b. nat_le (mtu_after name mtu false l) b.mtu) new l.kind ≡ true = base_ethernet (λ b. nat_le (mtu_after name mtu false l) b.mtu) new l.kind parts.0 in
+    rw (in_range (is_named name l) own.0, on, mtus-devices name mtu all new links parts.1 fits halves.1) refl where
+      in_range : (b : Bool) → mtu_in_range l.mtu ≡ true → mtu_in_range (if b then mtu else l.mtu) ≡ true
+      in_range true old = fits
+      in_range false old = old
+
+pub set_mtu-IsNet : (name : List ℕ) (mtu : ℕ) (net : NetData) → all_ethernet net.links ≡ true → mtu_in_range mtu ≡ true → IsNet net → IsNet (record net { links = map (with_mtu name mtu false) net.links })
+set_mtu-IsNet name mtu net h fits is =
+    let p = all_parts net is.valid in
+    let g : Link → ℕ = mtu_after name mtu false in
     record {
-      valid = rw (names_differ-set_mtu name mtu net.links, parts.names_ok, mtus_fit-set_mtu name mtu net.links new parts.mtus_ok, length-map net.links (with_mtu name mtu), parts.counts_ok) refl;
-      in_order = sorted-set_mtu name mtu net.links is.in_order;
+      valid = none_broken (record net { links = map (changed g) net.links }) (record {
+        names = names_map g net.links ∙ p.names;
+        bases = bases_map g net.links ∙ p.bases;
+        controllers = controllers_map g net.links ∙ p.controllers;
+        cycles = cycles_map g net.links ∙ p.cycles;
+        ups = ups_map g net.links ∙ p.ups;
+        mtus = mtus-devices name mtu net.links (map (changed g) net.links) net.links h fits p.mtus;
+        ports = ports_map g net.links ∙ p.ports;
+        addresses = addresses_map g net.links ∙ p.addresses;
+        routes = routes_map g net.links net.routes ∙ p.routes;
+        rules = p.rules;
+        options = options_map g net.links ∙ p.options;
+        limits = limits_map g net.links net.routes net.rules net.dns ∙ p.limits;
+      });
+      in_order = record {
+        links = rises_map g net.links ∙ is.in_order.links;
+        addrs = sorted_map g net.links ∙ is.in_order.addrs;
+        routes = is.in_order.routes;
+        rules = is.in_order.rules;
+      };
     }
+
+pub mtu_stepped : (name : List ℕ) (mtu : ℕ) (net : NetData) → all_ethernet net.links ≡ true → has_link name net.links ≡ true → mtu_in_range mtu ≡ true
+    → step (SetMtu name mtu) net ≡ Some (Ok (record net { links = map (with_mtu name mtu false) net.links }))
+mtu_stepped name mtu net h there fits =
+    let after : List Link → NetData = λ links. record net { links = links } in
+    let accepted : mtu_refusal name mtu net.links ≡ None = refusal-devices name mtu net.links h there ∙ ap (λ b. first_true ((8, not b) ∷ [])) fits in
+    ap (λ r. Some (unless_refused r (after (set_mtu name mtu net.links)))) accepted
+    ∙ ap (λ ls. Some (Ok (after ls))) (set_mtu-devices name mtu net.links net.links h)

@@ -1,10 +1,11 @@
 //! One call on a network.
-ghost use Rattle.std.specs.Prelude.{◌≡◌, map};
-ghost use Rattle.net_model.specs.Kernel.{with_mtu, set_mtu};
+ghost use Rattle.std.specs.Prelude.{◌≡◌, true, false, map};
+ghost use Rattle.kernel_model.specs.Kernel.{with_mtu, all_ethernet};
 ghost use Rattle.net_model.specs.Valid.{mtu_in_range};
 ghost use Rattle.kernel_step.specs.Steps.{Steps};
 ghost use Rattle.net_model.specs.declared.Call.TheVariants.{SetMtu};
 
+use kernel_model::is_of_devices;
 use net_model::{Call, Link, Name, Net, Parts};
 
 /// Why a call was not carried out.
@@ -12,11 +13,13 @@ use net_model::{Call, Link, Name, Net, Parts};
 pub enum StepFault {
     /// The kernel refuses the call, with the number of the refusal.
     Refused(u8),
+    /// What the call does to this network isn't built.
+    NotYet,
     OutOfMemory,
 }
 
 fn with_mtu(link: &mut Link, name: &Name, mtu: u32)
-    ensures { link.new ≡ with_mtu name.now mtu link.old }
+    ensures { link.new ≡ with_mtu name.now mtu false link.old }
 {
     if link.name == *name {
         link.mtu = mtu;
@@ -24,7 +27,7 @@ fn with_mtu(link: &mut Link, name: &Name, mtu: u32)
 }
 
 fn set_mtu(links: &mut [Link], name: &Name, mtu: u32)
-    ensures { links.new ≡ set_mtu name.now mtu links.old }
+    ensures { links.new ≡ map (with_mtu name.now mtu false) links.old }
 {
     for link in links.iter_mut() {
         with_mtu(link, name, mtu);
@@ -32,7 +35,7 @@ fn set_mtu(links: &mut [Link], name: &Name, mtu: u32)
 }
 
 fn set_mtu_of(parts: &mut Parts, name: &Name, mtu: u32)
-    ensures { parts.new ≡ record parts.old { links = set_mtu name.now mtu parts.old.links } }
+    ensures { parts.new ≡ record parts.old { links = map (with_mtu name.now mtu false) parts.old.links } }
 {
     set_mtu(&mut parts.links, name, mtu);
 }
@@ -44,6 +47,7 @@ fn mtu_in_range(mtu: u32) -> bool
 }
 
 fn step_mtu(net: &mut Net, name: &Name, mtu: u32) -> Result<(), StepFault>
+    requires { all_ethernet net.old.links ≡ true }
     ensures { Steps result (SetMtu name.now mtu) net.old net.new }
 {
     if net.link(name).is_none() {
@@ -58,12 +62,14 @@ fn step_mtu(net: &mut Net, name: &Name, mtu: u32) -> Result<(), StepFault>
     Ok(())
 }
 
-/// Carries out a call. `Refused(k)` comes exactly where the kernel refuses the call with number k. After a fault the
-/// network is as it was.
+/// Carries out a call. `Refused(k)` comes exactly where the kernel refuses the call with number k, and `NotYet` only where
+/// the call isn't one that sets an MTU or the network isn't one of Ethernet devices alone. After a fault the network is as
+/// it was.
 pub fn step(net: &mut Net, call: &Call) -> Result<(), StepFault>
     ensures { Steps result call.now net.old net.new }
 {
     match call {
-        Call::SetMtu { name, mtu } => step_mtu(net, name, *mtu),
+        Call::SetMtu { name, mtu } if is_of_devices(net) => step_mtu(net, name, *mtu),
+        _ => Err(StepFault::NotYet),
     }
 }

@@ -1,21 +1,48 @@
-//! Links.
+//! Links and their kinds.
 
-use crate::{Mac, Name};
+use crate::address::Prefix;
+use crate::id::{TableId, VlanId};
+use crate::mac::Mac;
+use crate::name::Name;
+use crate::options::{BondMode, BondOpts, BridgeOpts, PortOpts, Proto};
+use base_model::Items;
 
-/// What a link is, with what only a link of that kind has.
+/// What a link is.
 #[derive(Clone, Copy, Debug, PartialEq, Eq, PartialOrd, Ord)]
 pub enum Kind {
-    /// A device with a MAC of its own, which no call changes.
-    Ethernet { permanent: Mac },
+    /// A device with the MAC that it was built with.
+    Ethernet {
+        permanent: Mac,
+    },
+    Bond {
+        mode: BondMode,
+    },
+    Bridge,
+    /// The frames of a link that carry one tag.
+    Vlan {
+        base: Name,
+        id: VlanId,
+        proto: Proto,
+    },
+    /// A routing domain with its own table.
+    Vrf {
+        table: TableId,
+    },
 }
 
-/// A link of the network.
+/// A link with all its settings; those that its kind or controller doesn't use have their defaults in a valid network.
 #[derive(Clone, Debug, PartialEq, Eq, PartialOrd, Ord, Drop)]
 pub struct Link {
     pub name: Name,
     pub kind: Kind,
     pub up: bool,
-    /// The largest packet that it carries, in bytes, from 68 to 65535.
+    /// The longest packet in bytes, without the link's own header.
     pub mtu: u32,
     pub mac: Mac,
+    /// The bond, bridge or VRF that has the link as a port.
+    pub controller: Option<Name>,
+    pub bond: BondOpts,
+    pub bridge: BridgeOpts,
+    pub port: PortOpts,
+    pub addrs: Items<Prefix>,
 }

@@ -1,4 +1,4 @@
-//! The names of links.
+//! Names of links.
 ghost use Rattle.std.specs.Prelude.{◌≡◌, IsTrue, Some, None, if◌then◌else◌};
 ghost use Rattle.std.specs.List.{list_all};
 ghost use Rattle.net_model.specs.Name.{is_name, is_name_byte, is_reserved};
@@ -6,8 +6,8 @@ ghost use Rattle.net_model.specs.Name.{is_name, is_name_byte, is_reserved};
 use std::cmp::Ordering;
 use std::marker::Model;
 
-/// The name of a link, as ip-link(8) takes it: 1 to 15 printable ASCII bytes, none of them a space, `/` or `:`, and
-/// none of the words `.`, `..` and `-`. Contracts see it as the list of its bytes, and it is ordered by them.
+/// The name of a link: 1 to 15 printable ASCII bytes, none of them `/` or `:`, and neither `.` nor `..` nor `-`.
+/// Contracts see its bytes. Names are ordered by their bytes.
 #[derive(Clone, Copy, Debug, Hash)]
 pub struct Name {
     len: u8,
@@ -34,7 +34,6 @@ impl Model for Name {
 }
 
 impl Name {
-    /// The bytes of the name.
     pub fn as_bytes(&self) -> &[u8]
         ensures bytes { result.now ≡ self.now }
         ensures named { IsTrue (is_name self.now) }

@@ -1,12 +1,21 @@
 //! A network.
-ghost use Rattle.std.specs.Prelude.{◌≡◌, [], OnOk, IfOk, IsPermutation, IsSortedByKey, option_copied};
-ghost use Rattle.std.specs.Ordering.{nat_cmp};
-ghost use Rattle.std.specs.Cmp.Lexicographic.{slice_cmp};
+ghost use Rattle.std.specs.Prelude.{◌≡◌, ◌↔◌, [], None, IfOk, IsTrue, option_copied};
+ghost use Rattle.net_model.specs.Facts.{Facts};
+ghost use Rattle.net_model.specs.Hardware.{hardware};
 ghost use Rattle.net_model.specs.Links.{find_link};
-ghost use Rattle.net_model.specs.NetData.{IsNet, net_of, Makes};
+ghost use Rattle.net_model.specs.NetData.{NetData, IsNet, IsRearranged, net_of, no_dns, ordered, Makes};
+ghost use Rattle.net_model.specs.Valid.{least_broken};
 
+use crate::dns::Dns;
+use crate::hardware::same_devices;
+use crate::link::Link;
+use crate::lookup::find_link;
+use crate::name::Name;
+use crate::parts::{Parts, sorted_parts};
+use crate::route::Route;
+use crate::rule::Rule;
 use crate::valid::least_broken;
-use crate::{Link, Name, OutOfMemory};
+use base_model::{Items, OutOfMemory};
 use std::alloc::{AllocError, Global};
 use std::marker::Model;
 use std::mem;
@@ -30,20 +39,6 @@ impl From<AllocError> for NetFault {
     }
 }
 
-/// The lists of a network, of which nothing is known: a network that is taken apart to be changed.
-#[derive(Debug, Drop)]
-pub struct Parts {
-    pub links: Vec<Link>,
-}
-
-impl Model for Parts {
-    ghost use Rattle.net_model.specs.NetData.{NetData};
-
-    ghost Value = { NetData };
-
-    ghost view = { λ n. record { links = n.links.items } };
-}
-
 /// A network: valid, with each list in order, so that equal networks are equal values.
 #[derive(Debug, Drop)]
 pub struct Net {
@@ -60,36 +55,23 @@ impl Model for Net {
     ghost invariant = { λ n. IsNet n.parts };
 }
 
-impl Parts {
-    fn copy(&self) -> Result<Parts, OutOfMemory>
-        ensures { IfOk result (λ parts. parts ≡ self.now) }
-    {
-        Ok(Parts {
-            links: copy_links(&self.links)?,
-        })
-    }
-}
-
-fn sort_links(links: &mut Vec<Link>) -> Result<(), AllocError>
-    ensures sorted { OnOk result (IsSortedByKey (λ l. l.name) (slice_cmp nat_cmp) links.new.items) }
-    ensures moved { IsPermutation links.old.items links.new.items }
-{
-    links.sort_by_key(|link| link.name)
-}
-
 impl Net {
-    /// The network of these links, in any order. `Broken` comes exactly where they break a part of validity, with the
-    /// least such part.
-    pub fn new(mut links: Vec<Link>) -> Result<Net, NetFault>
-        ensures { Makes result (net_of links.items) }
+    /// The network of these lists, which it sorts, but for those of DNS. `Broken` comes exactly where they break a part
+    /// of validity, with the least such part.
+    pub fn new(
+        alloc: Global,
+        links: Vec<Link>,
+        routes: Vec<Route>,
+        rules: Vec<Rule>,
+        dns: Dns,
+    ) -> Result<Net, NetFault>
+        ensures { Makes result (net_of links.items routes.items rules.items dns) }
     {
-        if let Some(part) = least_broken(&links) {
-            return Err(NetFault::Broken(part));
+        let parts = sorted_parts(alloc, links, routes, rules, dns)?;
+        match least_broken(alloc, &parts)? {
+            Some(part) => Err(NetFault::Broken(part)),
+            None => Ok(Net { parts }),
         }
-        sort_links(&mut links)?;
-        Ok(Net {
-            parts: Parts { links },
-        })
     }
 
     /// Closes a network that was taken apart. It tests nothing and takes no memory: the caller shows that the lists are
@@ -112,11 +94,17 @@ impl Net {
 
     /// The network without links. It takes no memory.
     pub fn empty(alloc: Global) -> Net
-        ensures { result ≡ net_of [] }
+        ensures { result ≡ net_of [] [] [] no_dns }
     {
         Net {
             parts: Parts {
                 links: Vec::new(alloc),
+                routes: Vec::new(alloc),
+                rules: Vec::new(alloc),
+                dns: Dns {
+                    servers: Items::of(Vec::new(alloc)),
+                    search: Items::of(Vec::new(alloc)),
+                },
             },
         }
     }
@@ -146,22 +134,54 @@ impl Net {
         &self.parts.links
     }
 
+    /// The routes, by destination, table and metric.
+    pub fn routes(&self) -> &Vec<Route>
+        ensures { result.now.items ≡ self.now.routes }
+    {
+        &self.parts.routes
+    }
+
+    /// The rules, by all their fields.
+    pub fn rules(&self) -> &Vec<Rule>
+        ensures { result.now.items ≡ self.now.rules }
+    {
+        &self.parts.rules
+    }
+
+    /// The settings of DNS, as they were given.
+    pub fn dns(&self) -> &Dns
+        ensures { result.now ≡ self.now.dns }
+    {
+        &self.parts.dns
+    }
+
     /// The link of a name, or `None` exactly where no link has it.
     pub fn link(&self, name: &Name) -> Option<&Link>
         ensures { option_copied result ≡ find_link name.now self.now.links }
     {
-        find_link(self.links(), name)
+        find_link(&self.parts.links, name)
     }
-}
 
-fn find_link<'a>(links: &'a [Link], name: &Name) -> Option<&'a Link>
-    ensures { option_copied result ≡ find_link name.now links.now }
-{
-    links.iter().find(|link| link.name == *name)
-}
+    /// Whether both have the same Ethernet links, by name, with the same permanent MACs.
+    #[tactic(auto, using(crate::proofs::Devices::same_devices_exact))]
+    pub fn same_hardware(&self, other: &Net) -> bool
+        ensures { IsTrue result ↔ (hardware self.now.links ≡ hardware other.now.links) }
+    {
+        same_devices(self.links(), other.links())
+    }
 
-fn copy_links(links: &Vec<Link>) -> Result<Vec<Link>, AllocError>
-    ensures { IfOk result (λ copy. copy.items ≡ links.now.items) }
-{
-    links.clone()
+    /// What is known of every network: its parts by their names, so that callers can rest on them. It does nothing.
+    pub fn valid(&self)
+        ensures net { IsNet self.now }
+        ensures facts { Facts self.now }
+    {
+        let _ = &self.parts;
+    }
+
+    /// What putting in order means for every network: the order in which valid lists are given makes no difference, and
+    /// the lists of a network are in order already. It does nothing.
+    pub fn order_laws()
+        ensures any_order { (a b : NetData) → IsRearranged a b → least_broken a ≡ None → ordered a ≡ ordered b }
+        ensures in_order { (net : NetData) → IsNet net → ordered net ≡ net }
+    {}
 }

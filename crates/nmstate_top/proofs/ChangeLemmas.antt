@@ -1,8 +1,8 @@
 -- What the one call of a change leaves, seen from before the dump.
-use Rattle.std.proofs.Common.{◌≡◌, ◌∙◌, ◌⊎◌, ◌≤◌, ℕ, inl, inr, Option, Some, None, refl, sym, ap, subst, arith}
+use Rattle.std.proofs.Common.{◌≡◌, ◌∙◌, ◌⊎◌, ◌≤◌, ℕ, inl, inr, true, Option, Some, None, refl, sym, ap, subst, arith}
 use Rattle.std.specs.Prelude.{⊤, Result, Ok, Err}
 use Rattle.net_model.specs.NetData.{NetData}
-use Rattle.net_model.specs.Kernel.{refusal, stepped}
+use Rattle.kernel_model.specs.Kernel.{Outcome, step, all_ethernet}
 use Rattle.net_model.specs.declared.Call.{Call}
 use Rattle.host_core.specs.Faults.{Rose}
 use Rattle.host_core.specs.HostView.{HostView, State, Kernel, counted, WasRefused, Accepts, Refuses, MaybeCalled, refused, dumped}
@@ -16,17 +16,28 @@ use Rattle.nmstate_top.specs.declared.report.Cause.TheVariants.{Done, NotYet, Me
 same_some : (x y : NetData) → Some x ≡ Some y → x ≡ y
 same_some x y e = cc
 
-none_some : (k : ℕ) → None ≡ Some k → ⊥
-none_some k e = cc
+abbrev accepted_with : NetData → Option Outcome
+accepted_with next = Some (Ok next)
+
+abbrev refused_with : ℕ → Option Outcome
+refused_with k = Some (Err k)
+
+same_next : (x y : NetData) → accepted_with x ≡ accepted_with y → x ≡ y
+same_next x y e = cc
+
+ok_err : (x : NetData) (k : ℕ) → accepted_with x ≡ refused_with k → ⊥
+ok_err x k e = cc
 
 module _ (honest tells : Type 0) (tells_if : honest → tells) (entry : LinkEntry) (call : Call) (net : NetData) (old mid new : HostView)
     (dump : honest → old.state.net ≡ Some net) (state : tells → mid.state ≡ old.state) (kernel : mid.kernel ≡ dumped old.kernel) (later : old.faults ≤ mid.faults)
-    (rules : broken_rule net entry ≡ None) (leads : Leads call net entry) where
+    (built : all_ethernet net.links ≡ true) (rules : broken_rule net entry ≡ None) (leads : Leads call net entry) where
   has_net : honest → mid.state.net ≡ Some net
   has_net h = ap (λ (s : State). s.net) (state (tells_if h)) ∙ dump h
 
   accepted : (before after : Option NetData) → before ≡ Some net → Accepts call before after → after ≡ Some (merged net entry)
-  accepted (Some n) after is (ok, done) = done ∙ ap (λ (m : NetData). Some (stepped call m)) (same_some n net is) ∙ ap Some leads.1
+  accepted (Some n) after is taken =
+      let there : step call net ≡ Some (Ok taken.next) = ap (step call) (sym (same_some n net is)) ∙ taken.stepped in
+      taken.becomes ∙ ap Some (same_next taken.next (merged net entry) (sym there ∙ leads.0))
   accepted None after is h = absurd h
 
   is_merged : honest → Accepts call mid.state.net new.state.net → HasMerged entry net new
@@ -36,7 +47,7 @@ module _ (honest tells : Type 0) (tells_if : honest → tells) (entry : LinkEntr
   known P holds h other is = subst P (same_some net other (sym (dump h) ∙ is)) (holds h)
 
   not_refused : (k : ℕ) (before : Option NetData) → before ≡ Some net → Refuses call before k → ⊥
-  not_refused k (Some n) is r = none_some k (sym leads.0 ∙ ap (refusal call) (sym (same_some n net is)) ∙ r)
+  not_refused k (Some n) is r = ok_err (merged net entry) k (sym leads.0 ∙ ap (step call) (sym (same_some n net is)) ∙ r)
   not_refused k None is r = r
 
   -- the first call since the dump
@@ -48,7 +59,7 @@ module _ (honest tells : Type 0) (tells_if : honest → tells) (entry : LinkEntr
   either h (inr done) = inr (is_merged h done)
 
   after_call : (c : Cause) → CallLeaves honest tells call mid new c → Leaves honest tells entry old new c
-  after_call Done m = known (λ n. IsApplied entry n new) (λ h. record { rules = rules; is_merged = is_merged h (m.1 h); no_call = λ same. absurd (leads.2 same); one_call = λ differs. one m.0 })
+  after_call Done m = known (λ n. IsApplied entry n new) (λ h. record { built = built; rules = rules; is_merged = is_merged h (m.1 h); no_call = λ same. absurd (leads.1 same); one_call = λ differs. one m.0 })
   after_call (HostFault left.Pending) m = record { rose = omega (arith, m.1, later); one_call = one m.0; net = known (λ n. (new.state.net ≡ Some n) ⊎ HasMerged entry n new) (λ h. either h (m.2 h)) }
   after_call (HostFault left.NotBegun) m = absurd m
   after_call (HostFault left.RolledBack) m = absurd m

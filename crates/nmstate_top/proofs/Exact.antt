@@ -2,13 +2,14 @@
 use Rattle.std.proofs.Common.{◌≡◌, ◌∙◌, ◌⊎◌, inl, inr, ℕ, List, Bool, true, false, Option, Some, None, refl, sym, ap, subst, take}
 use Rattle.std.specs.Prelude.{if◌then◌else◌}
 use Rattle.net_model.specs.NetData.{NetData}
-use Rattle.net_model.specs.declared.Refused.{Refused}
+use Rattle.kernel_model.specs.Kernel.{all_ethernet}
+use Rattle.document_model.specs.declared.Refused.{Refused}
 use Rattle.host_core.specs.Faults.{Rose}
 use Rattle.nmstate_top.specs.Words.{Text, is_apply, stdin}
 use Rattle.nmstate_top.specs.Documents.{document}
 use Rattle.nmstate_top.specs.Inputs.{read_limit}
 use Rattle.nmstate_top.specs.Merge.{broken_rule}
-use Rattle.nmstate_top.specs.Answers.{Asking, HasDocument, Means}
+use Rattle.nmstate_top.specs.Answers.{Asking, HasDocument, Changed, Means}
 use Rattle.nmstate_top.specs.Expected.{by_rule, by_document, by_input, expected}
 use Rattle.nmstate_top.specs.Runs.{Run, Told, Answered}
 use Rattle.nmstate_top.specs.Promises.{QuietHost, QuietSource, ToldUnlessMemory}
@@ -74,6 +75,15 @@ module _ (a : Asking) (net : NetData) (honest : a.honest) (net_is : a.host.state
       let read = found.read tells in
       ap (λ i. by_input i net) read.1 ∙ ap (λ d. by_document d net) (ap document (sym read.2) ∙ found.form_is) ∙ is
 
+  of_devices : (entry : LinkEntry) → all_ethernet net.links ≡ true → by_document (Some entry) net ≡ by_rule (broken_rule net entry)
+  of_devices entry built = ap (λ b. if b then by_rule (broken_rule net entry) else NotYet) built
+
+  -- another document, or another network
+  not_built : (HasDocument a.source_tells a.source None × a.untouched) ⊎ Changed a NotYet → by_input (a.source.inputs stdin) net ≡ NotYet
+  not_built (inl other) = has_input None other.0 NotYet refl
+  not_built (inr found) =
+      has_input (Some found.entry) found.document NotYet (ap (λ b. if b then by_rule (broken_rule net found.entry) else NotYet) (found.leaves.1 honest net net_is))
+
   expects : (c : Cause) → is_apply a.words ≡ true → by_input (a.source.inputs stdin) net ≡ c → expected a.words (a.source.inputs stdin) net ≡ c
   expects c command is = ap (λ b. if b then by_input (a.source.inputs stdin) net else Usage) command ∙ is
 
@@ -82,9 +92,13 @@ module _ (a : Asking) (net : NetData) (honest : a.honest) (net_is : a.host.state
   expected_answered Usage means = inl (ap (λ b. if b then by_input (a.source.inputs stdin) net else Usage) means.0)
   expected_answered NoSuchName means = inl (expects NoSuchName means.0 (ap (λ i. by_input i net) (means.1.0 tells)))
   expected_answered ReadFault means = absurd (quiet_source means.1.0)
-  expected_answered NotYet means = inl (expects NotYet means.0 (has_input None means.1.0 NotYet refl))
-  expected_answered Done means = inl (expects Done means.0 (has_input (Some means.1.entry) means.1.document Done (ap by_rule (means.1.leaves honest net net_is).rules)))
-  expected_answered (MergeRefused x) means = inl (expects (MergeRefused x) means.0 (has_input (Some means.1.entry) means.1.document (MergeRefused x) (ap by_rule (means.1.leaves.1 honest net net_is))))
+  expected_answered NotYet means = inl (expects NotYet means.0 (not_built means.1))
+  expected_answered Done means =
+      let is = means.1.leaves honest net net_is in
+      inl (expects Done means.0 (has_input (Some means.1.entry) means.1.document Done (of_devices means.1.entry is.built ∙ ap by_rule is.rules)))
+  expected_answered (MergeRefused x) means =
+      let is = means.1.leaves.1 honest net net_is in
+      inl (expects (MergeRefused x) means.0 (has_input (Some means.1.entry) means.1.document (MergeRefused x) (of_devices means.1.entry is.0 ∙ ap by_rule is.1)))
   expected_answered (WriteFault s) means = absurd means.1.leaves
   expected_answered (HostFault left.NotBegun) means = absurd (quiet_host means.1.leaves.rose)
   expected_answered (HostFault left.RolledBack) means = absurd means.1.leaves

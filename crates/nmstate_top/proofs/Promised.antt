@@ -2,7 +2,8 @@
 use Rattle.std.proofs.Common.{◌≡◌, ◌∙◌, ◌⊎◌, inl, inr, ℕ, Bool, true, false, Option, Some, None, refl, sym, ap, subst, take}
 use Rattle.std.specs.Prelude.{⊤, Result, Ok, Err, if◌then◌else◌}
 use Rattle.net_model.specs.NetData.{NetData}
-use Rattle.net_model.specs.declared.Refused.{Refused}
+use Rattle.kernel_model.specs.Kernel.{all_ethernet}
+use Rattle.document_model.specs.declared.Refused.{Refused}
 use Rattle.host_core.specs.declared.Failed.{Failed}
 use Rattle.nmstate_top.specs.Words.{Text, is_apply, stdin}
 use Rattle.nmstate_top.specs.Documents.{document}
@@ -13,7 +14,7 @@ use Rattle.nmstate_top.specs.Changes.{HasMerged}
 use Rattle.nmstate_top.specs.Answers.{Means}
 use Rattle.nmstate_top.specs.Expected.{by_rule, by_document, by_input, expected}
 use Rattle.nmstate_top.specs.Runs.{Run, Told, Answered}
-use Rattle.nmstate_top.specs.Promises.{IsGiven, HasEntry, HasHonest, QuietHost, QuietSource, QuietSinks, ToldUnlessMemory, IsDone, Applied, Complete, UsageExactly, NoSuchNames, ReadFaults, NotYetExactly, MergeRefusedExactly, MayBeMerged, HostFaults, KernelRefusals, WantsOfMemory, WriteFaultExactly, Texts, Statuses}
+use Rattle.nmstate_top.specs.Promises.{IsGiven, HasEntry, HasHonest, HasDevices, QuietHost, QuietSource, QuietSinks, ToldUnlessMemory, IsDone, Applied, Complete, UsageExactly, NoSuchNames, ReadFaults, NotYetExactly, MergeRefusedExactly, MayBeMerged, HostFaults, KernelRefusals, WantsOfMemory, WriteFaultExactly, Texts, Statuses}
 use Rattle.nmstate_top.specs.declared.document.LinkEntry.{LinkEntry}
 use Rattle.nmstate_top.specs.declared.report.Left.{Left}
 use Rattle.nmstate_top.specs.declared.report.Left.TheVariants as left
@@ -38,16 +39,21 @@ complete r a net host tells quiet_host quiet_source =
     (turned _ a.answer (expected_answered r.asking net host.honest host.net_is tells quiet_host quiet_source a.answer a.means))
 
 -- what is expected of a document of the first form
-entry_expected : (r : Run) (entry : LinkEntry) (net : NetData) → HasEntry r entry → (c : Cause) → by_rule (broken_rule net entry) ≡ c → expected r.asking.words (r.asking.source.inputs stdin) net ≡ c
+entry_expected : (r : Run) (entry : LinkEntry) (net : NetData) → HasEntry r entry → (c : Cause) → by_document (Some entry) net ≡ c → expected r.asking.words (r.asking.source.inputs stdin) net ≡ c
 entry_expected r entry net has c is =
     ap (λ b. if b then by_input (r.asking.source.inputs stdin) net else Usage) has.given.command
     ∙ ap (λ i. by_input i net) has.given.input ∙ ap (λ d. by_document d net) has.form ∙ is
 
+-- and on a network of devices
+by_rules : (entry : LinkEntry) (net : NetData) (c : Cause) → all_ethernet net.links ≡ true → by_rule (broken_rule net entry) ≡ c → by_document (Some entry) net ≡ c
+by_rules entry net c built is = ap (λ b. if b then by_rule (broken_rule net entry) else NotYet) built ∙ is
+
 pub merge_refused : (r : Run) → Answered r → MergeRefusedExactly r
 merge_refused r a = record {
   only = λ refused is. (means_of r (MergeRefused refused) a is refl).1;
-  always = λ refused entry net has host broken quiet_host quiet_source.
-      subst (ToldUnlessMemory r) (entry_expected r entry net has (MergeRefused refused) (ap by_rule broken)) (complete r a net host has.given.tells quiet_host quiet_source);
+  always = λ refused entry net has known broken quiet_host quiet_source.
+      subst (ToldUnlessMemory r) (entry_expected r entry net has (MergeRefused refused) (by_rules entry net (MergeRefused refused) known.devices (ap by_rule broken)))
+      (complete r a net known.host has.given.tells quiet_host quiet_source);
 }
 
 -- the merged network that stands where the answer is Done
@@ -84,11 +90,11 @@ applied_by r entry net has host quiet answer means told (inr is) =
     inr (memory_told r quiet told_want.0 told_want.1 told_want.2)
 
 pub applied : (r : Run) → Answered r → Applied r
-applied r a entry net has host rules quiet_host quiet_source quiet =
+applied r a entry net has known rules quiet_host quiet_source quiet =
     let is : (expected r.asking.words (r.asking.source.inputs stdin) net ≡ a.answer) ⊎ (a.answer ≡ OutOfMemory) =
-    expected_answered r.asking net host.honest host.net_is has.given.tells quiet_host quiet_source a.answer a.means in
-    applied_by r entry net has host quiet a.answer a.means a.told
-    (subst (λ e. (e ≡ a.answer) ⊎ (a.answer ≡ OutOfMemory)) (entry_expected r entry net has Done (ap by_rule rules)) is)
+    expected_answered r.asking net known.host.honest known.host.net_is has.given.tells quiet_host quiet_source a.answer a.means in
+    applied_by r entry net has known.host quiet a.answer a.means a.told
+    (subst (λ e. (e ≡ a.answer) ⊎ (a.answer ≡ OutOfMemory)) (entry_expected r entry net has Done (by_rules entry net Done known.devices (ap by_rule rules))) is)
 
 pub usage : (r : Run) → Answered r → UsageExactly r
 usage r a = record {
@@ -105,7 +111,10 @@ read_fault r a is = (means_of r ReadFault a is refl).1
 pub not_yet : (r : Run) → Answered r → NotYetExactly r
 not_yet r a = record {
   only = λ is. (means_of r NotYet a is refl).1;
-  always = λ all given none quiet. told_either r NotYet a.answer a.told (not_yet_answered r.asking all a.answer a.means given.command given.tells given.input none quiet);
+  by_document = λ all given none quiet. told_either r NotYet a.answer a.told (not_yet_answered r.asking all a.answer a.means given.command given.tells given.input none quiet);
+  by_network = λ entry net has host other quiet_host quiet_source.
+      subst (ToldUnlessMemory r) (entry_expected r entry net has NotYet (ap (λ b. if b then by_rule (broken_rule net entry) else NotYet) other))
+      (complete r a net host has.given.tells quiet_host quiet_source);
 }
 
 pub host_fault : (r : Run) → Answered r → HostFaults r

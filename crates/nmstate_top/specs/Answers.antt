@@ -1,5 +1,5 @@
 -- Which answer a command gives: each with its cause, and what it leaves.
-use Rattle.std.specs.Prelude.{◌≡◌, ⊤, List, Bool, true, false, Option, Some, None, Result, Ok, Err}
+use Rattle.std.specs.Prelude.{◌≡◌, ◌⊎◌, ⊤, List, Bool, true, false, Option, Some, None, Result, Ok, Err}
 use Rattle.host_core.specs.HostView.{HostView}
 use Rattle.host_core.specs.Streams.{SourceView}
 use Rattle.nmstate_top.specs.Words.{Text, is_apply, stdin}
@@ -46,7 +46,7 @@ pub record Changed (a : Asking) (c : Cause) : Type 0 where
   pub leaves : Leaves a.honest a.host_tells entry a.host a.host_after c
 
 abbrev pub Ends : Asking → Cause → Type 0
-Ends a NotYet = HasDocument a.source_tells a.source None × a.untouched
+Ends a NotYet = (HasDocument a.source_tells a.source None × a.untouched) ⊎ Changed a NotYet
 Ends a NoSuchName = FailsToRead a.source_tells stdin a.source a.source_after NoSuchName × a.untouched
 Ends a ReadFault = FailsToRead a.source_tells stdin a.source a.source_after ReadFault × a.untouched
 Ends a OutOfMemory = a.host_tells → SameState a.host a.host_after

@@ -1,6 +1,7 @@
 -- What a document's change leaves on a host.
-use Rattle.std.specs.Prelude.{◌≡◌, ◌⊎◌, ◌≤◌, ⊤, ℕ, Some, None, Result, Ok, Err}
+use Rattle.std.specs.Prelude.{◌≡◌, ◌⊎◌, ◌≤◌, ⊤, ℕ, true, false, Some, None, Result, Ok, Err}
 use Rattle.net_model.specs.NetData.{NetData}
+use Rattle.kernel_model.specs.Kernel.{all_ethernet}
 use Rattle.host_core.specs.Faults.{Rose}
 use Rattle.host_core.specs.HostView.{HostView, WasRefused, Accepts, Refuses, MaybeCalled, counted, refused}
 use Rattle.net_model.specs.declared.Call.{Call}
@@ -20,8 +21,9 @@ SameState old new = new.state ≡ old.state
 abbrev pub HasMerged : LinkEntry → NetData → HostView → Type 0
 HasMerged entry net host = host.state.net ≡ Some (merged net entry)
 
--- the merged network is there, by one call, and by none where nothing had to change
+-- the merged network of devices is there, by one call, and by none where nothing had to change
 pub record IsApplied (entry : LinkEntry) (net : NetData) (new : HostView) : Type 0 where
+  pub built : all_ethernet net.links ≡ true
   pub rules : broken_rule net entry ≡ None
   pub is_merged : HasMerged entry net new
   pub no_call : merged net entry ≡ net → new.kernel.calls ≡ 0
@@ -53,7 +55,8 @@ pub record HasRefused (honest tells : Type 0) (old new : HostView) (k n : ℕ) :
 
 abbrev pub Leaves : Type 0 → Type 0 → LinkEntry → HostView → HostView → Cause → Type 0
 Leaves honest tells entry old new Done = OnKnown honest old (λ net. IsApplied entry net new)
-Leaves honest tells entry old new (MergeRefused r) = IsLeftAlone tells old new × OnKnown honest old (λ net. broken_rule net entry ≡ Some r)
+Leaves honest tells entry old new (MergeRefused r) = IsLeftAlone tells old new × OnKnown honest old (λ net. (all_ethernet net.links ≡ true) × (broken_rule net entry ≡ Some r))
+Leaves honest tells entry old new NotYet = IsLeftAlone tells old new × OnKnown honest old (λ net. all_ethernet net.links ≡ false)
 Leaves honest tells entry old new (HostFault left.NotBegun) = HasNotBegun tells old new
 Leaves honest tells entry old new (HostFault left.Pending) = IsPending honest entry old new
 Leaves honest tells entry old new (KernelRefused k n left.Pending) = HasRefused honest tells old new k n

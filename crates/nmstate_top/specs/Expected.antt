@@ -1,7 +1,9 @@
 -- What a command answers where nothing fails: a function of the words, of what standard input holds, and of the network.
+-- What isn't built is a document of another form, and a network with a link that is no Ethernet device.
 use Rattle.std.specs.Prelude.{List, Option, Some, None, if◌then◌else◌, take}
 use Rattle.net_model.specs.NetData.{NetData}
-use Rattle.net_model.specs.declared.Refused.{Refused}
+use Rattle.kernel_model.specs.Kernel.{all_ethernet}
+use Rattle.document_model.specs.declared.Refused.{Refused}
 use Rattle.nmstate_top.specs.Words.{Text, is_apply}
 use Rattle.nmstate_top.specs.Documents.{document}
 use Rattle.nmstate_top.specs.Inputs.{read_limit}
@@ -16,7 +18,7 @@ by_rule (Some r) = MergeRefused r
 
 abbrev pub by_document : Option LinkEntry → NetData → Cause
 by_document None net = NotYet
-by_document (Some entry) net = by_rule (broken_rule net entry)
+by_document (Some entry) net = if all_ethernet net.links then by_rule (broken_rule net entry) else NotYet
 
 abbrev pub by_input : Option Text → NetData → Cause
 by_input None net = NoSuchName

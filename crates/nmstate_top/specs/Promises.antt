@@ -1,7 +1,8 @@
 -- What a run promises, answer by answer.
 use Rattle.std.specs.Prelude.{◌≡◌, ◌⊎◌, ℕ, Some, None, true, false, take}
 use Rattle.net_model.specs.NetData.{NetData}
-use Rattle.net_model.specs.declared.Refused.{Refused}
+use Rattle.kernel_model.specs.Kernel.{all_ethernet}
+use Rattle.document_model.specs.declared.Refused.{Refused}
 use Rattle.host_core.specs.Faults.{Rose}
 use Rattle.host_core.specs.Streams.{Appends, AppendsSome}
 use Rattle.nmstate_top.specs.Words.{Text, is_apply, stdin}
@@ -38,6 +39,11 @@ pub record HasHonest (r : Run) (net : NetData) : Type 0 where
   pub honest : r.asking.honest
   pub net_is : r.asking.host.state.net ≡ Some net
 
+-- and all its links are Ethernet devices
+pub record HasDevices (r : Run) (net : NetData) : Type 0 where
+  pub host : HasHonest r net
+  pub devices : all_ethernet net.links ≡ true
+
 -- no count rose
 abbrev pub QuietHost : Run → Type 0
 QuietHost r = Rose r.asking.host.faults r.asking.host_after.faults → ⊥
@@ -64,7 +70,7 @@ pub record IsDone (r : Run) (entry : LinkEntry) (net : NetData) : Type 0 where
 
 -- a document of the first form that breaks no rule, on an honest host where no count rises, is done, or memory was wanting
 abbrev pub Applied : Run → Type 0
-Applied r = (entry : LinkEntry) (net : NetData) → HasEntry r entry → HasHonest r net → broken_rule net entry ≡ None
+Applied r = (entry : LinkEntry) (net : NetData) → HasEntry r entry → HasDevices r net → broken_rule net entry ≡ None
     → QuietHost r → QuietSource r → QuietSinks r → IsDone r entry net ⊎ (r.report.cause ≡ OutOfMemory)
 
 -- where neither the host nor the source fails, the answer is the expected one, or want of memory
@@ -87,15 +93,18 @@ NoSuchNames r = r.report.cause ≡ NoSuchName → (r.asking.source_tells → r.a
 abbrev pub ReadFaults : Run → Type 0
 ReadFaults r = r.report.cause ≡ ReadFault → Rose r.asking.source.faults r.asking.source_after.faults × r.asking.untouched
 
--- `NotYet` exactly where the bytes are no document of the first form; no call is made on the host
+-- `NotYet` exactly where the bytes are no document of the first form, and no call is made on the host; or where the
+-- network has a link that is no Ethernet device, and the dump alone is made
 pub record NotYetExactly (r : Run) : Type 0 where
-  pub only : r.report.cause ≡ NotYet → HasDocument r.asking.source_tells r.asking.source None × r.asking.untouched
-  pub always : (all : Text) → IsGiven r all → document (take read_limit all) ≡ None → QuietSource r → ToldUnlessMemory r NotYet
+  pub only : r.report.cause ≡ NotYet → (HasDocument r.asking.source_tells r.asking.source None × r.asking.untouched) ⊎ Changed r.asking NotYet
+  pub by_document : (all : Text) → IsGiven r all → document (take read_limit all) ≡ None → QuietSource r → ToldUnlessMemory r NotYet
+  pub by_network : (entry : LinkEntry) (net : NetData) → HasEntry r entry → HasHonest r net → all_ethernet net.links ≡ false
+      → QuietHost r → QuietSource r → ToldUnlessMemory r NotYet
 
 -- `MergeRefused` exactly by the broken rule, with its place; nothing changes
 pub record MergeRefusedExactly (r : Run) : Type 0 where
   pub only : (refused : Refused) → r.report.cause ≡ MergeRefused refused → Changed r.asking (MergeRefused refused)
-  pub always : (refused : Refused) (entry : LinkEntry) (net : NetData) → HasEntry r entry → HasHonest r net → broken_rule net entry ≡ Some refused
+  pub always : (refused : Refused) (entry : LinkEntry) (net : NetData) → HasEntry r entry → HasDevices r net → broken_rule net entry ≡ Some refused
       → QuietHost r → QuietSource r → ToldUnlessMemory r (MergeRefused refused)
 
 -- the document's change may stand

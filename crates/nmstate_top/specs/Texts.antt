@@ -1,8 +1,8 @@
 -- The status and the line of each answer.
 use Rattle.std.specs.Prelude.{ℕ, ◌==◌, [], ◌++◌, if◌then◌else◌, codes, decimal}
-use Rattle.net_model.specs.declared.Refused.{Refused}
-use Rattle.net_model.specs.declared.Place.{Place}
-use Rattle.net_model.specs.declared.Place.TheVariants as place
+use Rattle.document_model.specs.declared.Refused.{Refused}
+use Rattle.document_model.specs.declared.Place.{Place}
+use Rattle.document_model.specs.declared.Place.TheVariants as place
 use Rattle.nmstate_top.specs.Words.{Text}
 use Rattle.nmstate_top.specs.declared.report.Left.{Left}
 use Rattle.nmstate_top.specs.declared.report.Left.TheVariants as left

@@ -1,11 +1,12 @@
 //! What a document of one link changes.
-ghost use Rattle.std.specs.Prelude.{◌≡◌, IsTrue};
-ghost use Rattle.net_model.specs.Links.{has_link};
+ghost use Rattle.std.specs.Prelude.{◌≡◌, true, IsTrue};
+ghost use Rattle.kernel_model.specs.Kernel.{has_link, all_ethernet};
 ghost use Rattle.nmstate_top.specs.Documents.{mtu_fits};
 ghost use Rattle.nmstate_top.specs.Merge.{is_at, has_mtu, rule_of, Changes};
 
 use crate::document::{KindWord, LinkEntry};
-use net_model::{Call, Link, Name, Net, Place, Refused};
+use document_model::{Place, Refused};
+use net_model::{Call, Link, Name, Net};
 
 /// Whether a link has this MTU, or another name.
 fn is_at(link: &Link, name: &Name, mtu: u32) -> bool
@@ -45,7 +46,8 @@ fn rule_of(word: Option<KindWord>) -> u8
 
 /// The call that the document asks for, none where all is as it says, or the rule that it breaks.
 pub fn change_of(net: &Net, entry: &LinkEntry) -> Result<Option<Call>, Refused>
-    requires { IsTrue (mtu_fits entry.now.mtu) }
+    requires fits { IsTrue (mtu_fits entry.now.mtu) }
+    requires built { all_ethernet net.now.links ≡ true }
     ensures { Changes net.now entry.now result }
 {
     if !has_link(net, &entry.name) {

@@ -3,8 +3,8 @@ ghost use Rattle.std.specs.Prelude.{◌≡◌};
 ghost use Rattle.nmstate_top.specs.Reports.{IsWritten, Reported};
 
 use crate::text::line_of;
+use document_model::Refused;
 use host_core::{Failed, Sink};
-use net_model::Refused;
 
 /// What a command that met a fault leaves.
 #[derive(Clone, Copy, Debug, PartialEq, Eq)]

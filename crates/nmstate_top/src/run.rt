@@ -13,6 +13,7 @@ use crate::merging::change_of;
 use crate::report::tell;
 use crate::{Cause, Left, Report};
 use host_core::{CallFault, Clock, DumpFault, Host, Sink, Source};
+use kernel_model::is_of_devices;
 use net_model::Call;
 use std::alloc::Global;
 
@@ -58,6 +59,9 @@ fn change_host<H: Host>(alloc: Global, entry: &LinkEntry, host: &mut H) -> Resul
         Err(DumpFault::Failed) => return Err(Cause::HostFault(Left::NotBegun)),
         Err(DumpFault::OutOfMemory) => return Err(Cause::OutOfMemory),
     };
+    if !is_of_devices(&net) {
+        return Err(Cause::NotYet);
+    }
     match change_of(&net, entry) {
         Ok(Some(call)) => make_call(alloc, &call, host),
         Ok(None) => Ok(()),

@@ -4,8 +4,8 @@ ghost use Rattle.nmstate_top.specs.Texts.{left_text, rule_name, place_text, merg
 
 use crate::line::{Line, ROOM};
 use crate::{Cause, Left};
+use document_model::{Place, Refused};
 use itoa::Buffer;
-use net_model::{Place, Refused};
 
 fn left_text(left: Left) -> &'static [u8]
     ensures text { result.now ≡ left_text left }

@@ -1,10 +1,10 @@
 //! The network that a run begins with, until the state is kept in files.
 
-use net_model::{Kind, Link, Mac, Name, Net, NetFault};
+use net_model::{BondOpts, BridgeOpts, Dns, Items, Kind, Link, Mac, Name, Net, NetFault, PortOpts};
 use std::alloc::{AllocError, Global};
 
 /// A device that is down, with the usual MTU of Ethernet.
-fn device(name: &[u8], last: u8) -> Option<Link> {
+fn device(alloc: Global, name: &[u8], last: u8) -> Option<Link> {
     let mac = Mac {
         bytes: [0x52, 0x54, 0, 0, 0, last],
     };
@@ -14,6 +14,11 @@ fn device(name: &[u8], last: u8) -> Option<Link> {
         up: false,
         mtu: 1500,
         mac,
+        controller: None,
+        bond: BondOpts::defaults(),
+        bridge: BridgeOpts::defaults(),
+        port: PortOpts::defaults(),
+        addrs: Items::of(Vec::new(alloc)),
     })
 }
 
@@ -21,11 +26,15 @@ fn device(name: &[u8], last: u8) -> Option<Link> {
 pub fn first_net(alloc: Global) -> Result<Net, AllocError> {
     let mut links = Vec::new(alloc);
     for (name, last) in [(b"eth1", 1), (b"eth2", 2)] {
-        if let Some(link) = device(name, last) {
+        if let Some(link) = device(alloc, name, last) {
             links.push(link)?;
         }
     }
-    match Net::new(links) {
+    let dns = Dns {
+        servers: Items::of(Vec::new(alloc)),
+        search: Items::of(Vec::new(alloc)),
+    };
+    match Net::new(alloc, links, Vec::new(alloc), Vec::new(alloc), dns) {
         Ok(net) => Ok(net),
         Err(NetFault::Broken(_)) => Ok(Net::empty(alloc)),
         Err(NetFault::OutOfMemory) => Err(AllocError),

@@ -1,5 +1,6 @@
 //! A host in memory.
-ghost use Rattle.std.specs.Prelude.{◌≡◌, true, Some};
+ghost use Rattle.std.specs.Prelude.{◌≡◌, ◌≤◌, true, false, Some};
+ghost use Rattle.host_core.specs.Faults.{Rose};
 
 use super::fuse::{Fuse, Fuses, raised};
 use crate::{CallFault, DumpFault, Host};
@@ -7,7 +8,7 @@ use kernel_step::{StepFault, step};
 use net_model::{Call, Net};
 use std::alloc::Global;
 
-/// A host that holds a network, and fails at the calls that its fuses name.
+/// A host that holds a network, and fails at the calls that its fuses name, and at those that its kernel isn't built for.
 #[derive(Drop)]
 pub struct MemoryHost {
     net: Net,
@@ -36,6 +37,16 @@ impl MemoryHost {
             last_number: 0,
             last_call: 0,
         }
+    }
+
+    /// Counts a call that failed, which leaves the host unsettled.
+    fn fail(&mut self)
+        ensures rose { Rose self.old.faults self.new.faults }
+        ensures later { self.old.faults ≤ self.new.faults }
+        ensures same { self.new ≡ record self.old { settled = false; faults = self.new.faults } }
+    {
+        self.settled = false;
+        self.faults = raised(self.faults);
     }
 
     /// The network that it has.
@@ -81,8 +92,7 @@ impl Host for MemoryHost {
             if fuse.done {
                 let _ = step(&mut self.net, call);
             }
-            self.settled = false;
-            self.faults = raised(self.faults);
+            self.fail();
             return Err(CallFault::Failed);
         }
         match step(&mut self.net, call) {
@@ -92,6 +102,10 @@ impl Host for MemoryHost {
                 self.last_number = number;
                 self.last_call = self.calls;
                 Err(CallFault::Refused(number))
+            }
+            Err(StepFault::NotYet) => {
+                self.fail();
+                Err(CallFault::Failed)
             }
             Err(StepFault::OutOfMemory) => Err(CallFault::OutOfMemory),
         }

@@ -1,9 +1,16 @@
-use Rattle.std.proofs.Common.{◌≡◌, ◌∙◌, true, sym}
+use Rattle.std.proofs.Common.{◌≡◌, ◌∙◌, true, sym, ap, rules}
+use Rattle.kernel_model.specs.Kernel.{has_link, with_mtu}
 use Rattle.net_model.specs.Valid.{mtu_in_range}
-use Rattle.kernel_step.proofs.MtuLaw.{set_mtu-IsNet}
+use Rattle.kernel_step.proofs.MtuLaw.{set_mtu-IsNet, mtu_stepped}
 use Rattle.kernel_step.proofs.stepping.step_mtu.Goals as goal
 
 pub from_parts-requires : goal.from_parts-requires
 from_parts-requires c =
     rw (c.set_mtu_of.ensures, c.take-parts.ensures.parts)
-    (set_mtu-IsNet c.args.name.now c.args.mtu c.args.net.now (sym c.mtu_in_range.ensures ∙ c.if-not-mtu_in_range.false) c.take-parts.ensures.net)
+    (set_mtu-IsNet c.args.name.now c.args.mtu c.args.net.now c.requires (sym c.mtu_in_range.ensures ∙ c.if-not-mtu_in_range.false) c.take-parts.ensures.net)
+
+pub returns : goal.returns
+returns c =
+    let there : has_link c.args.name.now c.args.net.now.links ≡ true = search rules in
+    let fits : mtu_in_range c.args.mtu ≡ true = sym c.mtu_in_range.ensures ∙ c.if-not-mtu_in_range.false in
+    rw (c.from_parts.ensures, c.set_mtu_of.ensures, c.take-parts.ensures.parts) (mtu_stepped c.args.name.now c.args.mtu c.args.net.now c.requires there fits)

@@ -1,11 +1,12 @@
 use Rattle.std.proofs.Common.{◌≡◌, ◌∙◌, true, Some, List, rules, ap, sym, refl}
-use Rattle.net_model.specs.Links.{has_link}
-use Rattle.net_model.specs.Kernel.{set_mtu}
+use Rattle.std.specs.Prelude.{Ok}
+use Rattle.kernel_model.specs.Kernel.{has_link}
 use Rattle.net_model.specs.Valid.{mtu_in_range}
 use Rattle.net_model.specs.declared.Link.{Link}
 use Rattle.nmstate_top.specs.Documents.{mtu_fits}
 use Rattle.nmstate_top.specs.Merge.{merged, with_mtu_of}
-use Rattle.nmstate_top.proofs.MergeLemmas.{set_mtu-same, has_mtu-same, mtu_accepted, not_both}
+use Rattle.nmstate_top.proofs.MergeLemmas.{set_mtu-same, has_mtu-same, not_both}
+use Rattle.kernel_step.proofs.MtuLaw.{mtu_stepped}
 use Rattle.nmstate_top.proofs.merging.change_of.Goals as goal
 
 pub returns-then-has_mtu : goal.returns-then-has_mtu
@@ -23,6 +24,6 @@ returns c =
     let name = c.args.entry.now.name in
     let mtu = c.in-Some.mtu in
     let there : has_link name net.links ≡ true = search rules in
-    let fits : mtu_in_range mtu ≡ true = ap mtu_fits (sym c.in-Some.is) ∙ c.requires in
+    let fits : mtu_in_range mtu ≡ true = ap mtu_fits (sym c.in-Some.is) ∙ c.requires.fits in
     let differs : merged net c.args.entry.now ≡ net → ⊥ = λ same. not_both _ (has_mtu-same name mtu net.links (ap (λ o. with_mtu_of name o net.links) (sym c.in-Some.is) ∙ ap (λ n. n.links) same)) (sym c.has_mtu.ensures ∙ c.if-has_mtu.false) in
-    (search rules, (mtu_accepted name mtu net there fits, ap (λ o. record net { links = with_mtu_of name o net.links }) (sym c.in-Some.is), differs))
+    (search rules, (mtu_stepped name mtu net c.requires.built there fits ∙ ap (λ o. Some (Ok (record net { links = with_mtu_of name o net.links }))) (sym c.in-Some.is), differs))

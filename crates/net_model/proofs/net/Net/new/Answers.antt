@@ -1,15 +1,22 @@
-use Rattle.std.proofs.Common.{◌≡◌, sym, ap, ◌∙◌, None, IsPermutation, IsSortedByKey, nat_cmp}
-use Rattle.std.specs.Cmp.Lexicographic.{slice_cmp}
-use Rattle.net_model.specs.Valid.{least_broken_of}
-use Rattle.net_model.specs.NetData.{IsNet, net_of, Makes}
-use Rattle.net_model.proofs.ValidPermute.{net_arranged}
+use Rattle.std.proofs.Common.{◌≡◌, sym, ap, ◌∙◌, subst, Some, None}
+use Rattle.net_model.specs.Valid.{least_broken}
+use Rattle.net_model.specs.NetData.{NetData, net_of, IsSorting}
+use Rattle.net_model.proofs.ValidMoved.{least_broken-sorting}
+use Rattle.net_model.proofs.Made.{made}
 use Rattle.net_model.proofs.net.Net.new.Goals as goal
 
 pub invariant_of-result : goal.invariant_of-result
 invariant_of-result c =
-    net_arranged c.args.links.items _ (ap least_broken_of (sym c.deref.ensures.value) ∙ sym c.least_broken.ensures ∙ c.in_default.is) c.in_ok-sort_links.ensures.moved c.in_ok-sort_links.ensures.sorted
+    let given : NetData = net_of c.args.links.items c.args.routes.items c.args.rules.items c.args.dns in
+    (made given c.in_ok-parts.parts c.in_ok-parts.ensures (sym c.in_ok-part.ensures ∙ c.in-None.is)).closed
 
-pub returns : goal.returns
-returns c =
-    let given : least_broken_of c.args.links.items ≡ None = ap least_broken_of (sym c.deref.ensures.value) ∙ sym c.least_broken.ensures ∙ c.in_default.is in
-    (given, record { links = c.in_ok-sort_links.ensures.moved }, net_arranged c.args.links.items _ given c.in_ok-sort_links.ensures.moved c.in_ok-sort_links.ensures.sorted)
+pub returns-in-Some : goal.returns-in-Some
+returns-in-Some c =
+    let given : NetData = net_of c.args.links.items c.args.routes.items c.args.rules.items c.args.dns in
+    sym (least_broken-sorting given c.in_ok-parts.parts c.in_ok-parts.ensures) ∙ sym c.in_ok-part.ensures ∙ c.in-Some.is
+
+pub returns-in-None : goal.returns-in-None
+returns-in-None c =
+    let given : NetData = net_of c.args.links.items c.args.routes.items c.args.rules.items c.args.dns in
+    let m = made given c.in_ok-parts.parts c.in_ok-parts.ensures (sym c.in_ok-part.ensures ∙ c.in-None.is) in
+    (m.given_valid, m.is)

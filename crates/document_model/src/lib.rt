@@ -1,0 +1,6 @@
+//! What a document says of a network, and why it is refused.
+#![tactic(auto)]
+
+mod refused;
+
+pub use refused::{Place, Refused};

@@ -1,0 +1,8 @@
+use Rattle.net_model.proofs.Ordered.{any_order, in_order}
+use Rattle.net_model.proofs.net.Net.order_laws.Goals as goal
+
+pub returns-clause-any_order : goal.returns-clause-any_order
+returns-clause-any_order c = any_order
+
+pub returns-clause-in_order : goal.returns-clause-in_order
+returns-clause-in_order c = in_order

@@ -1,0 +1,13 @@
+use Rattle.std.proofs.Common.{◌≡◌, sym, ◌∙◌}
+use Rattle.net_model.specs.Order.{link_cmp}
+use Rattle.net_model.specs.Links.{same_name}
+use Rattle.net_model.proofs.Orders.{link_cmp_total}
+use Rattle.net_model.proofs.Rises.{apart-steps, rises-steps}
+use Rattle.net_model.proofs.Found.{names_tie}
+use Rattle.net_model.proofs.valid_links.names_differ.Goals as goal
+
+pub returns-clause-differ : goal.returns-clause-differ
+returns-clause-differ c = c.names_step_up.ensures ∙ sym (apart-steps same_name link_cmp link_cmp_total names_tie c.args.links.now c.requires)
+
+pub returns-clause-rise : goal.returns-clause-rise
+returns-clause-rise c = c.names_step_up.ensures ∙ rises-steps link_cmp link_cmp_total c.args.links.now

@@ -1,0 +1,10 @@
+use Rattle.std.proofs.Common.{◌≡◌, sym, ◌∙◌}
+use Rattle.net_model.specs.Order.{route_cmp}
+use Rattle.net_model.specs.Valid.{same_key}
+use Rattle.net_model.proofs.Orders.{route_cmp_total}
+use Rattle.net_model.proofs.Rises.{apart-steps}
+use Rattle.net_model.proofs.Ties.{keys_tie}
+use Rattle.net_model.proofs.valid_routes.keys_differ.Goals as goal
+
+pub returns : goal.returns
+returns c = c.routes_step_up.ensures ∙ sym (apart-steps same_key route_cmp route_cmp_total keys_tie c.args.routes.now c.requires)

@@ -1,0 +1,68 @@
+-- What is known of a valid network, by the names of its links.
+use Rattle.std.specs.Prelude.{◌≡◌, ℕ, ◌<◌, ◌≤◌, Bool, true, false, List, [], length, Option, Some, None, slice_index_or}
+use Rattle.net_model.specs.Address.{Block}
+use Rattle.net_model.specs.Links.{find_link, is_twin, can_be_base, takes, is_bond, is_bridge, is_bond_or_bridge, ports_of}
+use Rattle.net_model.specs.Standing.{on_cycle, ends}
+use Rattle.net_model.specs.Options.{default_bond, default_bridge, default_port, bond_ok, bridge_in_range, port_in_range, is_default_bond, is_default_bridge, is_default_port}
+use Rattle.net_model.specs.Valid.{HasAllParts, all_v4, addresses_differ, keys_differ, rules_differ, address_count, route_on_link}
+use Rattle.net_model.specs.NetData.{NetData}
+use Rattle.net_model.specs.declared.link.Link.{Link}
+use Rattle.net_model.specs.declared.link.Kind.{Kind}
+use Rattle.net_model.specs.declared.link.Kind.TheVariants.{Bond, Vlan}
+use Rattle.net_model.specs.declared.options.BondMode.{BondMode}
+use Rattle.net_model.specs.declared.options.Proto.{Proto}
+use Rattle.net_model.specs.declared.route.Route.{Route}
+
+-- of a link alone: its name and MTU, that it is on no cycle and its chain of bases ends, its addresses, its options
+pub record LinkFacts (links : List Link) (l : Link) : Type 0 where
+  pub least_mtu : 68 ≤ l.mtu
+  pub most_mtu : l.mtu ≤ 65535
+  pub off_cycle : on_cycle links l ≡ false
+  pub grounded : ends links (length links) l.kind ≡ true
+  pub down_without_v6 : l.up ≡ false → all_v4 l.addrs ≡ true
+  pub address_once : addresses_differ l.addrs ≡ true
+  pub few_addresses : length l.addrs ≤ 64
+  pub bond_right : (mode : BondMode) → l.kind ≡ Bond mode → bond_ok mode l.bond (ports_of links l.name) ≡ true
+  pub bridge_right : bridge_in_range l.bridge ≡ true
+  pub port_right : port_in_range l.port ≡ true
+  pub bond_unused : is_bond l.kind ≡ false → is_default_bond l.bond ≡ true
+  pub bridge_unused : is_bridge l.kind ≡ false → is_default_bridge l.bridge ≡ true
+  pub port_unused : l.controller ≡ None → is_default_port l.port ≡ true
+
+-- of a VLAN and its base
+pub record BaseFacts (links : List Link) (l : Link) (base : List ℕ) : Type 0 where
+  pub link : Link
+  pub there : find_link base links ≡ Some link
+  pub can : can_be_base link.kind ≡ true
+  pub up : l.up ≡ true → link.up ≡ true
+  pub mtu : l.mtu ≤ link.mtu
+
+-- of a port and its controller
+pub record ControllerFacts (links : List Link) (l : Link) (controller : List ℕ) : Type 0 where
+  pub link : Link
+  pub there : find_link controller links ≡ Some link
+  pub takes_it : takes link.kind l.kind ≡ true
+  pub bare : is_bond_or_bridge link.kind ≡ true → l.addrs ≡ []
+  pub port_unused : is_bridge link.kind ≡ false → is_default_port l.port ≡ true
+
+-- of a route and its device
+pub record RouteFacts (links : List Link) (r : Route) : Type 0 where
+  pub link : Link
+  pub there : find_link r.dev links ≡ Some link
+  pub up : link.up ≡ true
+  pub on_link : route_on_link link r ≡ true
+
+pub record Facts (net : NetData) : Type 0 where
+  pub parts : HasAllParts net
+  pub named : (name : List ℕ) (l : Link) → find_link name net.links ≡ Some l → l.name ≡ name
+  pub link : (name : List ℕ) (l : Link) → find_link name net.links ≡ Some l → LinkFacts net.links l
+  pub base : (name : List ℕ) (l : Link) (base : List ℕ) (id : ℕ) (proto : Proto) → find_link name net.links ≡ Some l → l.kind ≡ Vlan base id proto → BaseFacts net.links l base
+  pub controller : (name : List ℕ) (l : Link) (controller : List ℕ) → find_link name net.links ≡ Some l → l.controller ≡ Some controller → ControllerFacts net.links l controller
+  pub twins : (m n : List ℕ) (a b : Link) → find_link m net.links ≡ Some a → find_link n net.links ≡ Some b → is_twin a.kind b.kind ≡ true → m ≡ n
+  pub route : (i : ℕ) (d : Route) → i < length net.routes → RouteFacts net.links (slice_index_or net.routes i d)
+  pub few_links : length net.links ≤ 512
+  pub few_addresses : address_count net.links ≤ 4096
+  pub few_routes : length net.routes ≤ 4096
+  pub few_rules : length net.rules ≤ 1024
+  pub few_servers : length net.dns.servers ≤ 16
+  pub few_searched : length net.dns.search ≤ 16

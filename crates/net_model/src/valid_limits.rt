@@ -1,0 +1,130 @@
+//! The part of validity that looks at counts and at fields that aren't used.
+ghost use Rattle.std.specs.Prelude.{◌≡◌, ◌&&◌, ◌||◌, nat_le, true, length};
+ghost use Rattle.std.specs.List.{list_all};
+ghost use Rattle.net_model.specs.Words.{rises};
+ghost use Rattle.net_model.specs.Order.{link_cmp};
+ghost use Rattle.net_model.specs.Links.{named_passes, is_bond, is_bridge};
+ghost use Rattle.net_model.specs.Options.{is_layer2, is_default_bond, is_default_bridge, is_default_port};
+ghost use Rattle.net_model.specs.Valid.{address_count, links_fit, is_bridge_port, unused_default};
+
+use crate::link::Link;
+use crate::lookup::{find_link, is_bond, is_bridge};
+use crate::name::Name;
+use crate::options::{BondOpts, BridgeOpts, HashPolicy, PortOpts};
+use crate::valid_options::is_fast;
+
+/// The most links of a network.
+pub const MAX_LINKS: usize = 512;
+/// The most addresses of a link.
+pub const MAX_LINK_ADDRESSES: usize = 64;
+/// The most addresses of a network.
+pub const MAX_ADDRESSES: usize = 4096;
+/// The most routes of a network.
+pub const MAX_ROUTES: usize = 4096;
+/// The most rules of a network.
+pub const MAX_RULES: usize = 1024;
+/// The most DNS servers of a network.
+pub const MAX_SERVERS: usize = 16;
+/// The most search names of a network.
+pub const MAX_SEARCH: usize = 16;
+
+// Counts down from the limit, so that no sum is made which might not fit.
+fn addresses_within(links: &[Link]) -> bool
+    ensures { result ≡ nat_le (address_count links.now) 4096 }
+{
+    let mut room = MAX_ADDRESSES;
+    let mut left = links;
+    while let Some((link, rest)) = left.split_first() {
+        let count = link.addrs.items().len();
+        if count > room {
+            return false;
+        }
+        room -= count;
+        left = rest;
+    }
+    true
+}
+
+fn each_within(links: &[Link]) -> bool
+    ensures { result ≡ list_all (λ l. nat_le (length l.addrs) 64) links.now }
+{
+    links
+        .iter()
+        .all(|link| link.addrs.items().len() <= MAX_LINK_ADDRESSES)
+}
+
+/// Whether there are few enough links and addresses.
+pub(crate) fn links_fit(links: &[Link]) -> bool
+    ensures { result ≡ links_fit links.now }
+{
+    links.len() <= MAX_LINKS && each_within(links) && addresses_within(links)
+}
+
+fn is_layer2(policy: HashPolicy) -> bool
+    ensures { result ≡ is_layer2 policy }
+{
+    matches!(policy, HashPolicy::Layer2)
+}
+
+fn is_default_bond(opts: &BondOpts) -> bool
+    ensures { result ≡ is_default_bond opts.now }
+{
+    opts.primary.is_none()
+        && !is_fast(opts.lacp_rate)
+        && is_layer2(opts.hash_policy)
+        && opts.miimon == 0
+        && opts.updelay == 0
+        && opts.downdelay == 0
+}
+
+fn is_default_bridge(opts: &BridgeOpts) -> bool
+    ensures { result ≡ is_default_bridge opts.now }
+{
+    !opts.stp
+        && opts.priority == 32768
+        && opts.forward_delay == 15
+        && opts.hello_time == 2
+        && opts.max_age == 20
+        && opts.mac_ageing == 300
+}
+
+fn is_default_port(opts: &PortOpts) -> bool
+    ensures { result ≡ is_default_port opts.now }
+{
+    opts.cost == 100 && opts.priority == 32 && !opts.hairpin
+}
+
+#[tactic(auto, using(crate::proofs::Found::named_passes_found))]
+fn is_named_bridge(links: &[Link], name: &Name) -> bool
+    requires { rises link_cmp links.now ≡ true }
+    ensures { result ≡ named_passes (λ c. is_bridge c.kind) links.now name.now }
+{
+    find_link(links, name).is_some_and(|link| is_bridge(&link.kind))
+}
+
+fn is_bridge_port(links: &[Link], link: &Link) -> bool
+    requires { rises link_cmp links.now ≡ true }
+    ensures { result ≡ is_bridge_port links.now link.now }
+{
+    match &link.controller {
+        Some(controller) => is_named_bridge(links, controller),
+        None => false,
+    }
+}
+
+fn has_unused_defaults(links: &[Link], link: &Link) -> bool
+    requires { rises link_cmp links.now ≡ true }
+    ensures { result ≡ ((is_bond link.now.kind || is_default_bond link.now.bond) && (is_bridge link.now.kind || is_default_bridge link.now.bridge) && (is_bridge_port links.now link.now || is_default_port link.now.port)) }
+{
+    (is_bond(&link.kind) || is_default_bond(&link.bond))
+        && (is_bridge(&link.kind) || is_default_bridge(&link.bridge))
+        && (is_bridge_port(links, link) || is_default_port(&link.port))
+}
+
+/// Whether fields that the kind or the controller doesn't use have their defaults.
+pub(crate) fn unused_default(links: &[Link]) -> bool
+    requires { rises link_cmp links.now ≡ true }
+    ensures { result ≡ unused_default links.now }
+{
+    links.iter().all(|link| has_unused_defaults(links, link))
+}

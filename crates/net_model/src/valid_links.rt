@@ -1,0 +1,266 @@
+//! The parts of validity that look at links: names, bases, controllers, MTUs and addresses.
+ghost use Rattle.std.specs.Prelude.{◌≡◌, ◌&&◌, ◌||◌, true, not, nat_le, IsSorted};
+ghost use Rattle.std.specs.List.{list_any, list_all};
+ghost use Rattle.net_model.specs.Words.{apart, rises, is_before_head, steps_up, is_empty};
+ghost use Rattle.net_model.specs.Order.{link_cmp};
+ghost use Rattle.net_model.specs.Links.{is_twin, named_passes, can_be_base, takes, base_passes, controller_passes, is_bond_or_bridge};
+ghost use Rattle.net_model.specs.Valid.{names_differ, each_base_stands, vlans_differ, bases_stand, controllers_take, bases_up, mtu_in_range, mtus_fit, is_enslaved, ports_bare, all_v4, same_address, addresses_differ, addresses_fit};
+
+use crate::address::Prefix;
+use crate::link::{Kind, Link};
+use crate::lookup::{can_be_base, find_link, is_bond, is_bridge, takes};
+use crate::name::Name;
+
+fn is_before_head(link: &Link, rest: &[Link]) -> bool
+    ensures { result ≡ is_before_head link_cmp link.now rest.now }
+{
+    match rest.first() {
+        Some(next) => link.name < next.name,
+        None => true,
+    }
+}
+
+fn names_step_up(links: &[Link]) -> bool
+    ensures { result ≡ steps_up link_cmp links.now }
+{
+    let mut left = links;
+    while let Some((link, rest)) = left.split_first() {
+        if !is_before_head(link, rest) {
+            return false;
+        }
+        left = rest;
+    }
+    true
+}
+
+/// Part 1, on links that are sorted by name: whether names differ. Where they do, the list rises.
+pub(crate) fn names_differ(links: &[Link]) -> bool
+    requires { IsSorted link_cmp links.now }
+    ensures differ { result ≡ names_differ links.now }
+    ensures rise { result ≡ rises link_cmp links.now }
+{
+    names_step_up(links)
+}
+
+#[tactic(auto, using(crate::proofs::Found::named_passes_found))]
+fn has_base(links: &[Link], base: &Name) -> bool
+    requires { rises link_cmp links.now ≡ true }
+    ensures { result ≡ named_passes (λ b. can_be_base b.kind) links.now base.now }
+{
+    find_link(links, base).is_some_and(|link| can_be_base(&link.kind))
+}
+
+fn base_stands(links: &[Link], kind: &Kind) -> bool
+    requires { rises link_cmp links.now ≡ true }
+    ensures { result ≡ base_passes (λ b. can_be_base b.kind) links.now kind.now }
+{
+    match kind {
+        Kind::Vlan { base, .. } => has_base(links, base),
+        _ => true,
+    }
+}
+
+fn each_base_stands(links: &[Link]) -> bool
+    requires { rises link_cmp links.now ≡ true }
+    ensures { result ≡ each_base_stands links.now }
+{
+    links.iter().all(|link| base_stands(links, &link.kind))
+}
+
+fn is_twin(a: &Kind, b: &Kind) -> bool
+    ensures { result ≡ is_twin a.now b.now }
+{
+    matches!(a, Kind::Vlan { .. }) && a == b
+}
+
+fn has_twin(links: &[Link], kind: &Kind) -> bool
+    ensures { result ≡ list_any (λ l. is_twin kind.now l.kind) links.now }
+{
+    links.iter().any(|link| is_twin(kind, &link.kind))
+}
+
+fn vlans_differ(links: &[Link]) -> bool
+    ensures { result ≡ vlans_differ links.now }
+{
+    let mut left = links;
+    while let Some((link, rest)) = left.split_first() {
+        if has_twin(rest, &link.kind) {
+            return false;
+        }
+        left = rest;
+    }
+    true
+}
+
+/// Part 2: whether each base is there and can be one, and VLANs differ.
+pub(crate) fn bases_stand(links: &[Link]) -> bool
+    requires { rises link_cmp links.now ≡ true }
+    ensures { result ≡ bases_stand links.now }
+{
+    each_base_stands(links) && vlans_differ(links)
+}
+
+#[tactic(auto, using(crate::proofs::Found::named_passes_found))]
+fn takes_port(links: &[Link], controller: &Name, port: &Kind) -> bool
+    requires { rises link_cmp links.now ≡ true }
+    ensures { result ≡ named_passes (λ c. takes c.kind port.now) links.now controller.now }
+{
+    find_link(links, controller).is_some_and(|link| takes(&link.kind, port))
+}
+
+fn controller_takes(links: &[Link], link: &Link) -> bool
+    requires { rises link_cmp links.now ≡ true }
+    ensures { result ≡ controller_passes (λ c. takes c.kind link.now.kind) links.now link.now }
+{
+    match &link.controller {
+        Some(controller) => takes_port(links, controller, &link.kind),
+        None => true,
+    }
+}
+
+/// Part 3: whether each controller is there and takes its port's kind.
+pub(crate) fn controllers_take(links: &[Link]) -> bool
+    requires { rises link_cmp links.now ≡ true }
+    ensures { result ≡ controllers_take links.now }
+{
+    links.iter().all(|link| controller_takes(links, link))
+}
+
+#[tactic(auto, using(crate::proofs::Found::named_passes_found))]
+fn is_named_up(links: &[Link], name: &Name) -> bool
+    requires { rises link_cmp links.now ≡ true }
+    ensures { result ≡ named_passes (λ b. b.up) links.now name.now }
+{
+    find_link(links, name).is_some_and(|link| link.up)
+}
+
+fn base_is_up(links: &[Link], kind: &Kind) -> bool
+    requires { rises link_cmp links.now ≡ true }
+    ensures { result ≡ base_passes (λ b. b.up) links.now kind.now }
+{
+    match kind {
+        Kind::Vlan { base, .. } => is_named_up(links, base),
+        _ => true,
+    }
+}
+
+/// Part 5: whether each VLAN that is up has a base that is up.
+pub(crate) fn bases_up(links: &[Link]) -> bool
+    requires { rises link_cmp links.now ≡ true }
+    ensures { result ≡ bases_up links.now }
+{
+    links
+        .iter()
+        .all(|link| !link.up || base_is_up(links, &link.kind))
+}
+
+#[tactic(auto, using(crate::proofs::Found::named_passes_found))]
+fn allows(links: &[Link], name: &Name, mtu: u32) -> bool
+    requires { rises link_cmp links.now ≡ true }
+    ensures { result ≡ named_passes (λ b. nat_le mtu b.mtu) links.now name.now }
+{
+    find_link(links, name).is_some_and(|link| mtu <= link.mtu)
+}
+
+fn base_allows(links: &[Link], kind: &Kind, mtu: u32) -> bool
+    requires { rises link_cmp links.now ≡ true }
+    ensures { result ≡ base_passes (λ b. nat_le mtu b.mtu) links.now kind.now }
+{
+    match kind {
+        Kind::Vlan { base, .. } => allows(links, base, mtu),
+        _ => true,
+    }
+}
+
+fn mtu_in_range(mtu: u32) -> bool
+    ensures { result ≡ mtu_in_range mtu }
+{
+    mtu >= 68 && mtu <= 65535
+}
+
+/// Part 6: whether each MTU is in range and at most the base's.
+pub(crate) fn mtus_fit(links: &[Link]) -> bool
+    requires { rises link_cmp links.now ≡ true }
+    ensures { result ≡ mtus_fit links.now }
+{
+    links.iter().all(|link| mtu_in_range(link.mtu) && base_allows(links, &link.kind, link.mtu))
+}
+
+fn is_bond_or_bridge(kind: &Kind) -> bool
+    ensures { result ≡ is_bond_or_bridge kind.now }
+{
+    is_bond(kind) || is_bridge(kind)
+}
+
+#[tactic(auto, using(crate::proofs::Found::named_passes_found))]
+fn is_named_bond_or_bridge(links: &[Link], name: &Name) -> bool
+    requires { rises link_cmp links.now ≡ true }
+    ensures { result ≡ named_passes (λ c. is_bond_or_bridge c.kind) links.now name.now }
+{
+    find_link(links, name).is_some_and(|link| is_bond_or_bridge(&link.kind))
+}
+
+fn is_enslaved(links: &[Link], link: &Link) -> bool
+    requires { rises link_cmp links.now ≡ true }
+    ensures { result ≡ is_enslaved links.now link.now }
+{
+    match &link.controller {
+        Some(controller) => is_named_bond_or_bridge(links, controller),
+        None => false,
+    }
+}
+
+fn is_bare(link: &Link) -> bool
+    ensures { result ≡ is_empty link.now.addrs }
+{
+    link.addrs.items().is_empty()
+}
+
+/// Part 7: whether no port of a bond or bridge has an address.
+pub(crate) fn ports_bare(links: &[Link]) -> bool
+    requires { rises link_cmp links.now ≡ true }
+    ensures { result ≡ ports_bare links.now }
+{
+    links
+        .iter()
+        .all(|link| !is_enslaved(links, link) || is_bare(link))
+}
+
+fn all_v4(addrs: &[Prefix]) -> bool
+    ensures { result ≡ all_v4 addrs.now }
+{
+    addrs.iter().all(|prefix| !prefix.addr().is_v6())
+}
+
+fn has_address(addrs: &[Prefix], own: &Prefix) -> bool
+    ensures { result ≡ list_any (λ b. same_address own.now.addr b.addr) addrs.now }
+{
+    addrs.iter().any(|prefix| own.addr() == prefix.addr())
+}
+
+fn addresses_differ(addrs: &[Prefix]) -> bool
+    ensures { result ≡ addresses_differ addrs.now }
+{
+    let mut left = addrs;
+    while let Some((prefix, rest)) = left.split_first() {
+        if has_address(rest, prefix) {
+            return false;
+        }
+        left = rest;
+    }
+    true
+}
+
+fn has_fit_addresses(link: &Link) -> bool
+    ensures { result ≡ ((link.now.up || all_v4 link.now.addrs) && addresses_differ link.now.addrs) }
+{
+    let addrs = link.addrs.items();
+    (link.up || all_v4(addrs)) && addresses_differ(addrs)
+}
+
+/// Part 8: whether IPv6 addresses stand only on links that are up, and no address stands twice on a link.
+pub(crate) fn addresses_fit(links: &[Link]) -> bool
+    ensures { result ≡ addresses_fit links.now }
+{
+    links.iter().all(|link| has_fit_addresses(link))
+}

@@ -1,0 +1,87 @@
+//! The part of validity that looks at which link stands on which.
+ghost use Rattle.std.specs.Prelude.{◌≡◌, ◌<◌, IfOk, length, map, slice_index_or};
+ghost use Rattle.net_model.specs.Words.{positions};
+ghost use Rattle.net_model.specs.Links.{is_named};
+ghost use Rattle.net_model.specs.Standing.{has_base, stands_on, on_cycle, no_cycle};
+
+use crate::link::{Kind, Link};
+use crate::lookup::is_port_of;
+use crate::name::Name;
+use base_model::Items;
+use reach::closure;
+use std::alloc::{AllocError, Global};
+
+fn has_base(kind: &Kind, name: &Name) -> bool
+    ensures { result ≡ has_base kind.now name.now }
+{
+    match kind {
+        Kind::Vlan { base, .. } => base == name,
+        _ => false,
+    }
+}
+
+fn stands_on(a: &Link, b: &Link) -> bool
+    ensures { result ≡ stands_on a.now b.now }
+{
+    has_base(&a.kind, &b.name) || is_port_of(b, &a.name)
+}
+
+// The places of the links that one stands on.
+fn below(alloc: Global, links: &[Link], link: &Link) -> Result<Vec<usize>, AllocError>
+    ensures { IfOk result (λ places. places.items ≡ positions (stands_on link.now) 0 links.now) }
+{
+    let mut places = Vec::new(alloc);
+    for (at, other) in links.iter().enumerate() {
+        if stands_on(link, other) {
+            places.push(at)?;
+        }
+    }
+    Ok(places)
+}
+
+// For each link, the places of those that it stands on.
+fn arrows(alloc: Global, links: &[Link]) -> Result<Vec<Items<usize>>, AllocError>
+    ensures { IfOk result (λ arrows. arrows.items ≡ map (λ l. positions (stands_on l) 0 links.now) links.now) }
+{
+    let mut arrows = Vec::new(alloc);
+    for link in links {
+        let places = below(alloc, links, link)?;
+        arrows.push(Items::of(places))?;
+    }
+    Ok(arrows)
+}
+
+fn marks(alloc: Global, links: &[Link], name: &Name) -> Result<Vec<bool>, AllocError>
+    ensures { IfOk result (λ marks. marks.items ≡ map (is_named name.now) links.now) }
+{
+    links.iter().map(|link| link.name == *name).collect(alloc)
+}
+
+fn on_cycle(
+    alloc: Global,
+    links: &[Link],
+    arrows: &[Items<usize>],
+    at: usize,
+) -> Result<bool, AllocError>
+    requires arrows { arrows.now ≡ map (λ l. positions (stands_on l) 0 links.now) links.now }
+    requires inside { at < length links.now }
+    ensures { IfOk result (λ on. (d : _) → on ≡ on_cycle links.now (slice_index_or links.now at d)) }
+{
+    let link = &links[at];
+    let starts = marks(alloc, links, &link.name)?;
+    let reached = closure(alloc, arrows, &starts)?;
+    Ok(reached[at])
+}
+
+/// Part 4: whether no link stands on itself, through any others.
+pub(crate) fn no_cycle(alloc: Global, links: &[Link]) -> Result<bool, AllocError>
+    ensures { IfOk result (λ none. none ≡ no_cycle links.now) }
+{
+    let arrows = arrows(alloc, links)?;
+    for at in 0..links.len() {
+        if on_cycle(alloc, links, &arrows, at)? {
+            return Ok(false);
+        }
+    }
+    Ok(true)
+}

@@ -1,0 +1,10 @@
+//! Finding what a network holds by halving its lists: a route by its key, and an address on a link.
+#![tactic(auto)]
+
+mod address;
+mod route;
+#[cfg(test)]
+mod tests;
+
+pub use address::find_address;
+pub use route::find_route;
