@@ -1,0 +1,9 @@
+pub mod Levels
+pub mod Sorted
+pub mod Fair
+pub mod Sound
+pub mod Answered
+pub mod TreeLemmas
+pub mod WriteLemmas
+pub mod JsonLemmas
+pub mod ReadsBack

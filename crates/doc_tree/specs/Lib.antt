@@ -1,0 +1,6 @@
+pub mod Shape
+pub mod Order
+pub mod JsonTree
+pub mod Reading
+pub mod JsonText
+pub mod Writing

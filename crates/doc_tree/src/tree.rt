@@ -1,0 +1,18 @@
+//! A document as a tree.
+
+use base_model::Str;
+
+/// A node of a document. Contracts see it as its shape, plain data of `specs/Shape.antt`.
+///
+/// A tree is distinct where the keys of each of its maps differ. The top node is level 1, and each node below has a
+/// level of its own, scalars too.
+#[derive(Debug, PartialEq, Eq, Drop)]
+pub enum Tree {
+    Null,
+    Bool(bool),
+    Int(i128),
+    Text(Str),
+    List(Vec<Tree>),
+    /// The pairs in the order of the document, or of the keys' bytes where the reader sorts them.
+    Map(Vec<(Str, Tree)>),
+}

@@ -1,0 +1,104 @@
+//! JSON from trees.
+ghost use Rattle.std.specs.Prelude.{◌≡◌, ◌≤◌, map, option_map, length, true, IfOk, Ok};
+ghost use Rattle.serde_json.specs.View.{view};
+ghost use Rattle.doc_tree.specs.Shape.{shape, shapes_of, pair_shape, pairs_of, is_distinct, levels};
+ghost use Rattle.doc_tree.specs.Order.{in_order};
+ghost use Rattle.doc_tree.specs.JsonTree.{json_tree};
+ghost use Rattle.doc_tree.specs.JsonText.{number_of, WritesText};
+ghost use Rattle.doc_tree.specs.Writing.{MakesValue, MakesList, MakesMap};
+ghost use Rattle.doc_tree.specs.declared.write.TextFault.TheVariants.{OutOfMemory};
+
+use crate::Tree;
+use base_model::Str;
+use serde_json::{Map, Value};
+use std::alloc::{AllocError, AllocFailed, Global};
+
+/// Why a tree has no JSON text.
+#[derive(Clone, Copy, Debug, PartialEq, Eq)]
+pub enum TextFault {
+    /// An integer fits neither i64 nor u64.
+    WideInt,
+    /// Memory was refused.
+    OutOfMemory,
+}
+
+impl From<AllocError> for TextFault {
+    ghost from_gives = { λ _ s. s ≡ OutOfMemory };
+
+    fn from(_: AllocError) -> TextFault {
+        TextFault::OutOfMemory
+    }
+}
+
+impl<T: Drop> From<AllocFailed<T>> for TextFault {
+    ghost from_gives = { λ _ s. s ≡ OutOfMemory };
+
+    fn from(_: AllocFailed<T>) -> TextFault {
+        TextFault::OutOfMemory
+    }
+}
+
+/// The number, where it fits u64 or i64.
+fn number_of(n: i128) -> Option<Value>
+    ensures { option_map view result ≡ number_of n }
+{
+    match u64::try_from(n) {
+        Ok(n) => Some(Value::from(n)),
+        Err(_) => match i64::try_from(n) {
+            Ok(n) => Some(Value::from(n)),
+            Err(_) => None,
+        },
+    }
+}
+
+/// The value of a tree.
+#[cycle(values)]
+fn value_of(alloc: Global, tree: &Tree) -> Result<Value, TextFault>
+    ensures { MakesValue (shape tree.now) result }
+{
+    match tree {
+        Tree::Null => Ok(Value::Null),
+        Tree::Bool(b) => Ok(Value::Bool(*b)),
+        Tree::Int(n) => number_of(*n).ok_or(TextFault::WideInt),
+        Tree::Text(text) => Ok(Value::String(String::from_str(alloc, text.as_str())?)),
+        Tree::List(trees) => Ok(Value::Array(values_of(alloc, trees)?)),
+        Tree::Map(pairs) => Ok(Value::Object(members_of(alloc, pairs)?)),
+    }
+}
+
+#[cycle(values)]
+fn values_of(alloc: Global, trees: &Vec<Tree>) -> Result<Vec<Value>, TextFault>
+    ensures { MakesList (shapes_of (map shape trees.now.items)) result }
+{
+    let mut values = Vec::with_capacity(alloc, trees.len())?;
+    for tree in trees {
+        values.push(value_of(alloc, tree)?)?;
+    }
+    Ok(values)
+}
+
+#[cycle(values)]
+fn members_of(alloc: Global, pairs: &Vec<(Str, Tree)>) -> Result<Map<String, Value>, TextFault>
+    ensures { MakesMap (pairs_of (map pair_shape pairs.now.items)) result }
+{
+    let mut members = Map::new(alloc);
+    for (key, tree) in pairs {
+        let name = String::from_str(alloc, key.as_str())?;
+        drop(members.insert(name, value_of(alloc, tree)?)?);
+    }
+    Ok(members)
+}
+
+/// The compact JSON text of a tree, with each map's pairs in the order of their keys' bytes.
+///
+/// Where the tree has at most 32 levels and the text at most 4,194,304 bytes, the text reads as the tree with its pairs
+/// in that order.
+pub fn json_of_tree(alloc: Global, tree: &Tree) -> Result<Vec<u8>, TextFault>
+    requires { is_distinct (shape tree.now) ≡ true }
+    ensures text { WritesText (shape tree.now) result }
+    ensures reads_back { IfOk result (λ text. levels (shape tree.now) ≤ 32 → length text.items ≤ 4194304
+        → json_tree text.items ≡ Ok (in_order (shape tree.now))) }
+{
+    let value = value_of(alloc, tree)?;
+    Ok(value.to_string(alloc)?.into_bytes())
+}
