@@ -1,0 +1,9 @@
+pub mod Digits
+pub mod Dotted
+pub mod Find
+pub mod Mac
+pub mod MacReader
+pub mod Parts
+pub mod V6
+pub mod V6Reader
+pub mod V6Text

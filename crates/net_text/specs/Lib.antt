@@ -1,0 +1,2 @@
+pub mod AddrText
+pub mod Line

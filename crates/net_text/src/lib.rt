@@ -1,0 +1,16 @@
+//! The texts of the network model: addresses, prefixes and hardware addresses, read and written, and the lines of calls.
+#![tactic(auto)]
+
+mod line;
+mod options;
+mod pieces;
+mod read;
+mod routing;
+#[cfg(test)]
+mod tests;
+mod words;
+mod write;
+
+pub use line::write_call_line;
+pub use read::{read_addr, read_mac, read_prefix};
+pub use write::{write_addr, write_mac, write_prefix};
