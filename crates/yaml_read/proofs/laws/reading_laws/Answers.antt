@@ -1,0 +1,32 @@
+use Rattle.std.proofs.Common.{◌≡◌, ◌≤◌, ℕ, List, length, refl, ◌∙◌, arith}
+use Rattle.std.proofs.lemmas.Bool.{le-ltb}
+use Rattle.std.proofs.lemmas.Str.{utf8_valid_len-IsUtf8}
+use Rattle.std.specs.Str.{IsUtf8}
+use Rattle.std.specs.Str.Lossy.{utf8_valid_len}
+use Rattle.yaml_read.specs.Rows.{rows_of}
+use Rattle.yaml_read.specs.Bytes.{max_bytes}
+use Rattle.yaml_read.specs.Reading.{document, reading}
+use Rattle.yaml_read.proofs.Sound.{document_sound}
+use Rattle.yaml_read.proofs.Complete.{document_complete, one_tree}
+use Rattle.yaml_read.proofs.First.{document_stops}
+use Rattle.yaml_read.proofs.Lines.{lines_stop}
+use Rattle.yaml_read.proofs.Texts.{reading_document}
+use Rattle.yaml_read.proofs.laws.reading_laws.Goals as goal
+
+within : (bytes : List ℕ) → length bytes ≤ max_bytes → IsUtf8 bytes → reading bytes ≡ document (rows_of bytes)
+unfolding reading
+within bytes le utf8 =
+    let small = le-ltb max_bytes (length bytes) le in
+    let whole = le-ltb (utf8_valid_len bytes) (length bytes) (omega (arith, utf8_valid_len-IsUtf8 bytes utf8)) in
+    rw (small, whole) refl
+
+pub returns : goal.returns
+returns c = record {
+  sound = document_sound;
+  complete = document_complete;
+  one_tree = one_tree;
+  first_row = document_stops;
+  first_line = lines_stop;
+  text_sound = λ bytes t is. document_sound (rows_of bytes) t (reading_document bytes t is);
+  text_complete = λ bytes t le utf8 stands. within bytes le utf8 ∙ document_complete (rows_of bytes) t stands;
+}

@@ -1,0 +1,7 @@
+use Rattle.std.proofs.Common.{◌≡◌, false, take, drop}
+use Rattle.yaml_read.specs.Plain.{plain_split}
+use Rattle.yaml_read.proofs.Texts.{behind}
+use Rattle.yaml_read.proofs.plain.plain_split.Given as goal
+
+abbrev pub invariant-loop-i : goal.invariant-loop-i
+invariant-loop-i l = behind (take l.i l.text) (plain_split l.flow l.spaced (drop l.i l.text)) ≡ plain_split l.flow false l.text

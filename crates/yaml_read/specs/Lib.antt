@@ -1,0 +1,14 @@
+pub mod Bytes
+pub mod Plain
+pub mod Quoted
+pub mod Keys
+pub mod Flow
+pub mod OnLine
+pub mod Brackets
+pub mod Rows
+pub mod Outside
+pub mod Faults
+pub mod Reading
+pub mod Standing
+pub mod Seen
+pub mod Index

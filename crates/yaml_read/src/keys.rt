@@ -1,0 +1,99 @@
+//! Scalars and keys at the front of a text.
+
+ghost use Rattle.std.specs.Prelude.{◌≡◌, ℕ, List, option_map, option_and_then, IfOk};
+ghost use Rattle.doc_tree.specs.Shape.{shape};
+ghost use Rattle.yaml_read.specs.Keys.{or_unfit, quoted_value, begins_other, scalar, ends_value, behind_colon, key};
+ghost use Rattle.yaml_read.specs.Quoted.{quoted};
+ghost use Rattle.yaml_read.specs.Seen.{Gives};
+
+use crate::bytes::{at_gap, begins, tail, trim_end};
+use crate::plain::{begins_plain, plain_split, plain_value};
+use crate::quoted::{begins_quoted, quoted};
+use crate::stop::{Stop, Why};
+use crate::text::copied;
+use base_model::Str;
+use doc_tree::Tree;
+use std::alloc::{AllocError, Global};
+
+/// Whether an anchor, an alias, a tag, a block scalar or a long key begins here.
+#[tactic(auto, unfolding(crate::specs::Keys::begins_other))]
+pub fn begins_other(text: &[u8]) -> bool
+    ensures { result ≡ begins_other text.now }
+{
+    match text {
+        [b'&' | b'*' | b'!' | b'|' | b'>', ..] => true,
+        [b'?', b' ', ..] => true,
+        _ => false,
+    }
+}
+
+fn quoted_scalar(alloc: Global, text: &[u8]) -> Result<(Tree, &[u8]), Stop>
+    ensures { Gives (λ x. (shape x.0, x.1.now)) result (or_unfit (option_map quoted_value (quoted text.now))) }
+{
+    match quoted(alloc, text)? {
+        Some((scalar, behind)) => Ok((Tree::Text(scalar), behind)),
+        None => Err(Stop::Because(Why::Unfit)),
+    }
+}
+
+/// A scalar as a value, and the text behind it.
+#[tactic(auto, unfolding(crate::specs::Keys::scalar))]
+pub fn scalar(alloc: Global, flow: bool, text: &[u8]) -> Result<(Tree, &[u8]), Stop>
+    ensures { Gives (λ x. (shape x.0, x.1.now)) result (scalar flow text.now) }
+{
+    if begins_quoted(text) {
+        return quoted_scalar(alloc, text);
+    }
+    if !begins_plain(flow, text) {
+        return Err(Stop::Because(Why::Unfit));
+    }
+    let (plain, behind) = plain_split(flow, text);
+    Ok((plain_value(alloc, trim_end(plain))?, behind))
+}
+
+/// Whether this may stand behind a key's colon.
+fn ends_value(flow: bool, text: &[u8]) -> bool
+    ensures { result ≡ ends_value flow text.now }
+{
+    at_gap(text) || (flow && (begins(b',', text) || begins(b'}', text)))
+}
+
+/// The text behind a key's colon, if a colon stands there.
+fn behind_colon(flow: bool, text: &[u8]) -> Option<&[u8]>
+    ensures { (k : List ℕ) → option_map (λ p. (k, p.now)) result ≡ behind_colon flow (k, text.now) }
+{
+    match text {
+        [b':', behind @ ..] if ends_value(flow, behind) => Some(behind),
+        _ => None,
+    }
+}
+
+fn quoted_key(alloc: Global, flow: bool, text: &[u8]) -> Result<Option<(Str, &[u8])>, AllocError>
+    ensures { IfOk result (λ r. option_map (λ p. (p.0, p.1.now)) r ≡ option_and_then (behind_colon flow) (quoted text.now)) }
+{
+    let Some((name, behind)) = quoted(alloc, text)? else {
+        return Ok(None);
+    };
+    match behind_colon(flow, behind) {
+        Some(behind) => Ok(Some((name, behind))),
+        None => Ok(None),
+    }
+}
+
+/// A key with its colon, if one stands there, and the text behind the colon.
+#[tactic(auto, unfolding(crate::specs::Keys::key))]
+pub fn key(alloc: Global, flow: bool, text: &[u8]) -> Result<Option<(Str, &[u8])>, AllocError>
+    ensures { IfOk result (λ r. option_map (λ p. (p.0, p.1.now)) r ≡ key flow text.now) }
+{
+    if begins_quoted(text) {
+        return quoted_key(alloc, flow, text);
+    }
+    if !begins_plain(flow, text) {
+        return Ok(None);
+    }
+    let (plain, behind) = plain_split(flow, text);
+    match behind_colon(flow, behind) {
+        Some(behind) => Ok(Some((copied(alloc, trim_end(plain))?, behind))),
+        None => Ok(None),
+    }
+}
