@@ -1,0 +1,13 @@
+pub mod ByteLaws
+pub mod CharLaws
+pub mod CleanLines
+pub mod LineReads
+pub mod NumberReads
+pub mod PlainLaws
+pub mod PlainReads
+pub mod QuoteReads
+pub mod RowReads
+pub mod ScalarReads
+pub mod Stands
+pub mod TextStands
+pub mod Walk

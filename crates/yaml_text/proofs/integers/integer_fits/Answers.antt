@@ -1,0 +1,12 @@
+use Rattle.std.proofs.Common.{◌≡◌, ◌^◌, true, ℤ, pos, negsuc, SFits}
+use Rattle.std.specs.Int.{w128}
+use Rattle.std.proofs.lemmas.Bool.{lt-ltb}
+use Rattle.yaml_text.specs.Fits.{has_128_bits}
+use Rattle.yaml_text.proofs.integers.integer_fits.Goals as goal
+
+within : (z : ℤ) → SFits w128 z → has_128_bits z ≡ true
+within (pos n) fits = lt-ltb n (2 ^ 127) fits.sfits
+within (negsuc n) fits = lt-ltb n (2 ^ 127) fits.sfits
+
+pub returns : goal.returns
+returns c = within c.args._n c.ranges._n

@@ -1,0 +1,5 @@
+pub mod Scalars
+pub mod Spelled
+pub mod Fits
+pub mod Layout
+pub mod Pieces
