@@ -25,9 +25,9 @@ impl TableId {
     /// The number of the main table.
     pub const MAIN: u32 = 254;
 
-    /// The table of this number, where 0 stands for the main one.
+    /// The table of this number, where 0 stands for the main one, 254.
     pub fn of(id: u32) -> TableId
-        ensures { result ≡ (if id == 0 then Self.MAIN else id) }
+        ensures { result ≡ (if id == 0 then 254 else id) }
     {
         TableId {
             id: if id == 0 { Self::MAIN } else { id },

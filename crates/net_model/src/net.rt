@@ -113,6 +113,7 @@ impl Net {
     pub fn take(&mut self) -> Parts
         ensures parts { result ≡ self.old }
         ensures net { IsNet self.old }
+        ensures left { self.new ≡ net_of [] [] [] no_dns }
     {
         let alloc = *self.links().allocator();
         mem::replace(self, Net::empty(alloc)).into_parts()
