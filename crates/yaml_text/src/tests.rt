@@ -7,7 +7,7 @@ use std::test::Fail;
 #[test]
 fn prints_and_reads_again(rt: HostRuntime) -> Result<(), Fail> {
     let alloc = rt.alloc();
-    let table: [(&str, &str); 11] = [
+    let table: [(&str, &str); 12] = [
         // texts that stand without quotes, and those that read as something else
         (
             r#"{"a":"eth0.10","b":"fe80::1/64","c":"a+b,c_d-e","d":"1.5","e":"007","f":"10:20"}"#,
@@ -40,6 +40,10 @@ fn prints_and_reads_again(rt: HostRuntime) -> Result<(), Fail> {
             r#"{"a":null,"b":true,"c":false,"d":-12,"e":18446744073709551615,"f":[],"g":{}}"#,
             "a: null\nb: true\nc: false\nd: -12\ne: 18446744073709551615\nf: []\ng: {}\n",
         ),
+        (
+            r#"{"a":[null,true,false,-5,"b c","\n"]}"#,
+            "a:\n- null\n- true\n- false\n- -5\n- 'b c'\n- \"\\x0a\"\n",
+        ),
         // maps below keys are indented by two, lists stand at the key's column
         (
             r#"{"a":{"b":{"c":1},"d":[1,[2,[]],{}]}}"#,
@@ -70,9 +74,12 @@ fn prints_and_reads_again(rt: HostRuntime) -> Result<(), Fail> {
 #[test]
 fn prints_a_top_that_is_one_line(rt: HostRuntime) -> Result<(), Fail> {
     let alloc = rt.alloc();
-    let table: [(&str, &str); 3] = [
+    let table: [(&str, &str); 6] = [
         (r#"[]"#, "[]\n"),
         (r#"{}"#, "{}\n"),
+        (r#"null"#, "null\n"),
+        (r#"true"#, "true\n"),
+        (r#"-5"#, "-5\n"),
         (r#""a b""#, "'a b'\n"),
     ];
     for (json, yaml) in table {

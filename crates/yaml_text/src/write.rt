@@ -1,7 +1,7 @@
 //! Trees as texts.
 
 ghost use Rattle.std.specs.Prelude.{◌≡◌, ◌≤◌, ◌++◌, ◌∷◌, [], true, IfOk, OnOk, Ok, length, string_bytes};
-ghost use Rattle.doc_tree.specs.Shape.{Shape, shape, is_distinct, levels, has_short_lists};
+ghost use Rattle.doc_tree.specs.Shape.{Shape, shape, is_distinct, levels};
 ghost use Rattle.yaml_text.specs.Scalars.{on_line};
 ghost use Rattle.yaml_text.specs.Layout.{yaml_text_of, yaml_lines, joined, is_filled_map};
 ghost use Rattle.yaml_read.specs.Bytes.{max_bytes};
@@ -56,7 +56,6 @@ fn text_of(alloc: Global, tree: &Tree) -> Result<String, AllocError>
 pub fn yaml_of_tree(alloc: Global, tree: &Tree) -> Result<Vec<u8>, OutOfMemory>
     requires distinct { is_distinct (shape tree.now) ≡ true }
     requires depth { levels (shape tree.now) ≤ 32 }
-    requires short { has_short_lists (shape tree.now) ≡ true }
     // The text is exactly that of the definition.
     ensures text { IfOk result (λ text. text.items ≡ yaml_text_of (shape tree.now)) }
     ensures stands { IfOk result (λ text. is_filled_map (shape tree.now) ≡ true → StandsFor text.items (shape tree.now)) }
