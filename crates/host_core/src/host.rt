@@ -41,6 +41,8 @@ pub trait Host {
         ensures state { tells → (told self.new).state ≡ (told self.old).state }
         ensures settles { OnOk result (told self.new).settled }
         ensures settled { (told self.old).settled → (told self.new).settled }
+        // A dump that fails leaves a call in doubt that was.
+        ensures in_doubt { OnErr result ((told self.new).settled → (told self.old).settled) }
         ensures calls { OnOk result ((told self.new).kernel ≡ dumped (told self.old).kernel) }
         ensures kernel { OnErr result ((told self.new).kernel ≡ (told self.old).kernel) }
         ensures cause { HasFault (told self.old).faults (told self.new).faults DumpFault.Failed result };

@@ -22,10 +22,13 @@ pub struct MemoryHost {
 }
 
 impl MemoryHost {
-    /// A host with this network, which isn't settled.
+    /// A host with this network, which isn't settled, at which nothing was called and nothing failed.
     pub fn new(net: Net, fuses: Vec<Fuse>) -> MemoryHost
         ensures net { (⟦<MemoryHost as Host>⟧.told result).state.net ≡ Some net }
         ensures unsettled { (⟦<MemoryHost as Host>⟧.told result).settled → ⊥ }
+        ensures faults { (⟦<MemoryHost as Host>⟧.told result).faults ≡ 0 }
+        ensures calls { (⟦<MemoryHost as Host>⟧.told result).kernel.calls ≡ 0 }
+        ensures refusals { (⟦<MemoryHost as Host>⟧.told result).kernel.refusals ≡ 0 }
     {
         MemoryHost {
             net,

@@ -15,10 +15,11 @@ pub struct LyingHost {
 }
 
 impl LyingHost {
-    /// A host with this network, which isn't settled.
+    /// A host with this network, which isn't settled, at which nothing was called.
     pub fn new(net: Net) -> LyingHost
         ensures net { (⟦<LyingHost as Host>⟧.told result).state.net ≡ Some net }
         ensures unsettled { (⟦<LyingHost as Host>⟧.told result).settled → ⊥ }
+        ensures calls { (⟦<LyingHost as Host>⟧.told result).kernel.calls ≡ 0 }
     {
         LyingHost {
             net,

@@ -16,9 +16,10 @@ pub struct MemorySink {
 }
 
 impl MemorySink {
-    /// A sink to which nothing was written.
+    /// A sink to which nothing was written and at which nothing failed.
     pub fn new(alloc: Global, fuses: Vec<Fuse>) -> MemorySink
-        ensures { (⟦<MemorySink as Sink>⟧.told result).written ≡ [] }
+        ensures written { (⟦<MemorySink as Sink>⟧.told result).written ≡ [] }
+        ensures faults { (⟦<MemorySink as Sink>⟧.told result).faults ≡ 0 }
     {
         MemorySink {
             bytes: Vec::new(alloc),

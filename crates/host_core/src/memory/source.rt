@@ -1,5 +1,5 @@
 //! Inputs in memory.
-ghost use Rattle.std.specs.Prelude.{◌≡◌, ◌≤◌, length, option_map};
+ghost use Rattle.std.specs.Prelude.{◌≡◌, ◌≤◌, [], length, option_map};
 ghost use Rattle.host_core.specs.Memory.{input_named};
 
 use super::fuse::{Fuse, Fuses, raised};
@@ -28,8 +28,11 @@ fn input_named<'a>(inputs: &'a [(String, Vec<u8>)], name: &str) -> Option<&'a Ve
 }
 
 impl MemorySource {
+    /// A source of these inputs, of which none is begun, and at which nothing failed.
     pub fn new(alloc: Global, inputs: Vec<(String, Vec<u8>)>, fuses: Vec<Fuse>) -> MemorySource
-        ensures { (⟦<MemorySource as Source>⟧.told result).inputs ≡ input_named inputs.items }
+        ensures inputs { (⟦<MemorySource as Source>⟧.told result).inputs ≡ input_named inputs.items }
+        ensures left { (⟦<MemorySource as Source>⟧.told result).left ≡ [] }
+        ensures faults { (⟦<MemorySource as Source>⟧.told result).faults ≡ 0 }
     {
         MemorySource {
             inputs,
