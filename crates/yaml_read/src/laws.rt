@@ -2,6 +2,7 @@
 
 ghost use Rattle.std.specs.Prelude.{◌≡◌, ◌≤◌, ℕ, List, length, Ok, Err};
 ghost use Rattle.std.specs.Str.{IsUtf8};
+ghost use Rattle.std.specs.Str.Lines.{lines};
 ghost use Rattle.doc_tree.specs.Shape.{Shape};
 ghost use Rattle.yaml_read.specs.declared.fault.YamlFault.{YamlFault};
 ghost use Rattle.yaml_read.specs.Rows.{Row, rows_of_lines};
@@ -25,4 +26,6 @@ pub fn reading_laws()
     ensures text_sound { (bytes : List ℕ) (t : Shape) → reading bytes ≡ Ok t → StandsFor bytes t }
     // .. and within the limit what stands so is read.
     ensures text_complete { (bytes : List ℕ) (t : Shape) → length bytes ≤ max_bytes → IsUtf8 bytes → StandsFor bytes t → reading bytes ≡ Ok t }
+    // A fault of such a text names the first of its lines that doesn't go on.
+    ensures text_first_line { (bytes : List ℕ) (f : YamlFault) → length bytes ≤ max_bytes → IsUtf8 bytes → reading bytes ≡ Err f → StopsAt (lines bytes) (line_of f) }
 {}
