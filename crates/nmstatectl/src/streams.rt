@@ -1,5 +1,5 @@
 //! The standard streams and the system's clock. They tell nothing of their content, and count their faults.
-ghost use Rattle.std.specs.Prelude.{[]};
+ghost use Rattle.std.specs.Prelude.{◌≡◌, []};
 ghost use Rattle.nmstatectl.specs.Silent.{silent_source, silent_sink};
 
 use host_core::{Clock, Failed, Sink, Source, StartFault};
@@ -15,7 +15,9 @@ pub struct StreamSource {
 }
 
 impl StreamSource {
-    pub fn new(stdin: Stdin) -> StreamSource {
+    pub fn new(stdin: Stdin) -> StreamSource
+        ensures { (⟦<StreamSource as Source>⟧.told result).faults ≡ 0 }
+    {
         StreamSource { stdin, faults: 0 }
     }
 }
@@ -71,7 +73,9 @@ pub struct StreamSink {
 }
 
 impl StreamSink {
-    pub fn new(stream: Stream) -> StreamSink {
+    pub fn new(stream: Stream) -> StreamSink
+        ensures { (⟦<StreamSink as Sink>⟧.told result).faults ≡ 0 }
+    {
         StreamSink { stream, faults: 0 }
     }
 }
