@@ -62,9 +62,9 @@ fn step_mtu(net: &mut Net, name: &Name, mtu: u32) -> Result<(), StepFault>
     Ok(())
 }
 
-/// Carries out a call. `Refused(k)` comes exactly where the kernel refuses the call with number k, and `NotYet` only where
-/// the call isn't one that sets an MTU or the network isn't one of Ethernet devices alone. After a fault the network is as
-/// it was.
+/// Carries out a call. On a network of Ethernet devices the call that sets an MTU is done, or `Refused(k)` comes exactly
+/// where the kernel refuses it with number k. `NotYet` comes only where the call is another, or the network has another
+/// link. After a fault the network is as it was.
 pub fn step(net: &mut Net, call: &Call) -> Result<(), StepFault>
     ensures { Steps result call.now net.old net.new }
 {
