@@ -340,6 +340,34 @@ fn names_faults_behind_many_levels(rt: HostRuntime) -> Result<(), Fail> {
     Ok(())
 }
 
+/// A list below a key, whose dash stands at a column and whose item has a text of so many bytes.
+fn wide(alloc: Global, column: usize, length: usize) -> Result<Vec<u8>, Fail> {
+    let mut text = vec![in alloc; b'a', b':', b'\n']?;
+    for _ in 0..column {
+        text.push(b' ')?;
+    }
+    text.extend_from_slice(b"- b: ")?;
+    for _ in 0..length {
+        text.push(b'x')?;
+    }
+    Ok(text)
+}
+
+#[test]
+fn reads_wide_columns_and_long_texts(rt: HostRuntime) -> Result<(), Fail> {
+    let alloc = rt.alloc();
+    for (column, length) in [(1, 70_000), (70_000, 1)] {
+        let text = wide(alloc, column, length)?;
+        let mut shown = String::from_str(alloc, "{'a':[{'b':'")?;
+        for _ in 0..length {
+            shown.push_str("x")?;
+        }
+        shown.push_str("'}]}")?;
+        assert_eq!(rt; outcome(alloc, &text)?.as_str(), shown.as_str());
+    }
+    Ok(())
+}
+
 #[test]
 fn refuses_a_text_past_the_limit(rt: HostRuntime) -> Result<(), Fail> {
     let alloc = rt.alloc();
