@@ -3,7 +3,7 @@ use Rattle.std.proofs.Common.{◌≡◌, ℕ, ◌+◌, ◌<◌, ◌≤◌, ◌==
 use Rattle.std.proofs.lemmas.Bool.{cond-true, cond-false, leb-true}
 use Rattle.std.proofs.lemmas.Bool.Decides.{nat_tests}
 use Rattle.addr_text.specs.V6Text.{fields_text, zeros, longest, first_run, shortened, compressed, IsZeroRun, IsCanonical}
-use Rattle.addr_text.proofs.Cases.{either}
+use Rattle.addr_text.proofs.lemmas.Cases.{either}
 use Rattle.addr_text.proofs.Runs.{zeros_within}
 
 -- a run behind the first field

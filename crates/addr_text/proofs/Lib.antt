@@ -1,16 +1,9 @@
+pub mod lemmas
 pub mod Gap
 pub mod Powers
 pub mod Steps
 pub mod Runs
-pub mod Split
-pub mod Numbers
-pub mod Cases
-pub mod Octets
 pub mod Marks
 pub mod Reading
-pub mod Exact
 pub mod Hex
-pub mod Written
-pub mod MacLaws
-pub mod Slash
 pub mod Canonical

@@ -10,9 +10,9 @@ use Rattle.addr_text.specs.Dotted.{IsDotted, dotted}
 use Rattle.addr_text.specs.Find.{gap_of, begins_with}
 use Rattle.addr_text.specs.Parts.{joined}
 use Rattle.addr_text.specs.V6.{AreFields, IsRun}
-use Rattle.addr_text.proofs.Cases.{both, untrue}
-use Rattle.addr_text.proofs.Numbers.{decimal_lacks_colon}
-use Rattle.addr_text.proofs.Split.{lacks}
+use Rattle.addr_text.proofs.lemmas.Cases.{both, untrue}
+use Rattle.addr_text.proofs.lemmas.Numbers.{decimal_lacks_colon}
+use Rattle.addr_text.proofs.lemmas.Split.{lacks}
 
 -- a byte that passes isn't one that fails
 differs : (p : ℕ → Bool) (x s : ℕ) → p x ≡ true → p s ≡ false → (x == s) ≡ false

@@ -13,11 +13,11 @@ use Rattle.addr_text.specs.Find.{at_place}
 use Rattle.addr_text.specs.Parts.{joined}
 use Rattle.addr_text.specs.V6.{IsField, AreFields, IsTail, IsRun, fields_number, IsWhole}
 use Rattle.addr_text.specs.V6Reader.{fields, tail_of, end_of, field_before, run_of, all_eight, whole_of, short_of, v6_of}
-use Rattle.addr_text.proofs.Cases.{placed_or_none, mapped, kept, both}
+use Rattle.addr_text.proofs.lemmas.Cases.{placed_or_none, mapped, kept, both}
 use Rattle.addr_text.proofs.Marks.{lacks-all, is_part, are_parts, fields_parts, run_parts, joined_gap}
-use Rattle.addr_text.proofs.Numbers.{decimal_lacks_dot}
-use Rattle.addr_text.proofs.Octets.{dotted_complete, dotted_sound}
-use Rattle.addr_text.proofs.Split.{lacks, position-front, position-lacks, split-at, take-front, drop-front}
+use Rattle.addr_text.proofs.lemmas.Numbers.{decimal_lacks_dot}
+use Rattle.addr_text.proofs.lemmas.Octets.{dotted_complete, dotted_sound}
+use Rattle.addr_text.proofs.lemmas.Split.{lacks, position-front, position-lacks, split-at, take-front, drop-front}
 use Rattle.addr_text.proofs.Steps.{run-none, run-some}
 
 -- the parts make these numbers, where the last may be what is said

@@ -2,7 +2,7 @@
 use Rattle.std.proofs.Common.{◌≡◌, ℕ, ◌+◌, ◌≤◌, ◌==◌, List, [], ◌∷◌, ◌++◌, length, take, drop, replicate, refl, ap, sym, ◌∙◌, subst, arith, suc, add-one, eqb-true, inl, inr}
 use Rattle.std.proofs.lemmas.Bool.{cond-true, cond-false}
 use Rattle.std.proofs.lemmas.Bool.Decides.{nat_tests}
-use Rattle.addr_text.proofs.Cases.{either}
+use Rattle.addr_text.proofs.lemmas.Cases.{either}
 use Rattle.addr_text.specs.V6Text.{zeros, longest, first_run}
 
 pub zeros_within : (fs : List ℕ) → zeros fs ≤ length fs

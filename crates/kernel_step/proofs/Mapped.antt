@@ -12,7 +12,7 @@ use Rattle.net_model.specs.Order.{block_cmp, link_cmp}
 use Rattle.net_model.specs.Links.{same_name, is_named, named_passes, is_twin, can_be_base, takes, base_passes, controller_passes, has_controller, is_bond, is_bridge, is_bond_or_bridge, is_port_of, ports_of}
 use Rattle.net_model.specs.Standing.{stands_on, reaches, on_cycle, no_cycle}
 use Rattle.net_model.specs.Options.{bond_fits, bond_ok, bridge_in_range, port_in_range, is_default_bond, is_default_bridge, is_default_port}
-use Rattle.net_model.specs.Valid.{names_differ, each_base_stands, vlans_differ, bases_stand, controllers_take, bases_up, is_enslaved, ports_bare, all_v4, addresses_differ, addresses_fit, route_on_link, route_stands, routes_stand, keys_differ, options_fit, address_count, links_fit, is_bridge_port, unused_default, counts_fit, limits_hold}
+use Rattle.net_model.specs.Valid.{names_differ, each_base_stands, vlans_differ, bases_stand, controllers_take, bases_up, is_bond_or_bridge_port, ports_without_addresses, all_v4, addresses_differ, addresses_fit, route_on_link, route_stands, routes_stand, keys_differ, options_fit, address_count, links_fit, is_bridge_port, unused_default, counts_fit, limits_hold}
 use Rattle.net_model.specs.Lists.{net_of}
 use Rattle.net_model.specs.Rule.{RuleParts}
 use Rattle.net_model.specs.declared.Dns.{Dns}
@@ -81,8 +81,8 @@ module _ (g : Link → ℕ) where
   ups_map xs = all_map changed (λ l. not l.up || base_passes (λ b. b.up) xs l.kind) (λ l. not l.up || base_passes (λ b. b.up) (map changed xs) l.kind)
       (λ l. ap (λ b. not l.up || b) (base_map (λ b. b.up) (λ b. refl) xs l.kind)) xs
 
-  pub ports_map : (xs : List Link) → ports_bare (map changed xs) ≡ ports_bare xs
-  ports_map xs = all_map changed (λ l. not (is_enslaved xs l) || is_empty l.addrs) (λ l. not (is_enslaved (map changed xs) l) || is_empty l.addrs)
+  pub ports_map : (xs : List Link) → ports_without_addresses (map changed xs) ≡ ports_without_addresses xs
+  ports_map xs = all_map changed (λ l. not (is_bond_or_bridge_port xs l) || is_empty l.addrs) (λ l. not (is_bond_or_bridge_port (map changed xs) l) || is_empty l.addrs)
       (λ l. ap (λ b. not b || is_empty l.addrs) (option_map_same (λ c. is_bond_or_bridge c.kind) (λ c. refl) xs false l.controller)) xs
 
   pub addresses_map : (xs : List Link) → addresses_fit (map changed xs) ≡ addresses_fit xs

@@ -4,7 +4,7 @@ use Rattle.std.specs.Prelude.{Ok, if◌then◌else◌, is_some}
 use Rattle.std.specs.List.{list_any, list_all}
 use Rattle.net_model.specs.Links.{is_named, named_passes, base_passes, find_link}
 use Rattle.net_model.specs.Standing.{base_chain}
-use Rattle.net_model.specs.Valid.{names_differ, bases_stand, controllers_take, bases_up, mtu_in_range, mtus_fit, ports_bare, addresses_fit, routes_stand, rules_differ, options_fit, limits_hold, least_broken, counts_fit, links_fit, unused_default}
+use Rattle.net_model.specs.Valid.{names_differ, bases_stand, controllers_take, bases_up, mtu_in_range, mtus_fit, ports_without_addresses, addresses_fit, routes_stand, rules_differ, options_fit, limits_hold, least_broken, counts_fit, links_fit, unused_default}
 use Rattle.net_model.specs.Standing.{no_cycle}
 use Rattle.net_model.specs.Words.{first_false}
 use Rattle.net_model.specs.NetData.{NetData, IsNet, IsInOrder}
@@ -13,7 +13,7 @@ use Rattle.net_model.specs.declared.Link.{Link}
 use Rattle.net_model.specs.declared.Kind.{Kind}
 use Rattle.net_model.specs.declared.Kind.TheVariants.{Ethernet, Bond, Bridge, Vlan, Vrf}
 use Rattle.net_model.specs.declared.Call.TheVariants.{SetMtu}
-use Rattle.net_model.proofs.AllParts.{all_parts, none_broken}
+use Rattle.net_model.proofs.lemmas.AllParts.{all_parts, none_broken}
 use Rattle.kernel_step.proofs.Mapped.{changed, names_map, bases_map, controllers_map, cycles_map, ups_map, ports_map, addresses_map, routes_map, options_map, limits_map, rises_map, sorted_map}
 
 both : (a b : Bool) → (a && b) ≡ true → (a ≡ true) × (b ≡ true)

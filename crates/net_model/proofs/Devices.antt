@@ -8,8 +8,8 @@ use Rattle.net_model.specs.declared.mac.Mac.{Mac}
 use Rattle.net_model.specs.declared.link.Link.{Link}
 use Rattle.net_model.specs.declared.link.Kind.{Kind}
 use Rattle.net_model.specs.declared.link.Kind.TheVariants.{Ethernet, Bond, Bridge, Vlan, Vrf}
-use Rattle.net_model.proofs.Truth.{and_left, and_right}
-use Rattle.net_model.proofs.Found.{one_name, itself}
+use Rattle.net_model.proofs.lemmas.Truth.{and_left, and_right}
+use Rattle.net_model.proofs.lemmas.Found.{one_name, itself}
 
 head_or_rest : (o : Option (List ℕ × Mac)) (l : Link) (ls : List Link) → device_of l.name l.kind ≡ o → list_all (λ k. is_none (device_of k.name k.kind)) ls ≡ same_devices [] (hardware ls) → (is_none o && list_all (λ k. is_none (device_of k.name k.kind)) ls) ≡ same_devices [] (hardware (l ∷ ls))
 head_or_rest None l ls e rest = rw e rest

@@ -13,15 +13,15 @@ use Rattle.net_model.specs.NetData.{NetData, IsNet, IsInOrder, IsSorting, arrang
 use Rattle.net_model.specs.declared.link.Link.{Link}
 use Rattle.net_model.specs.declared.route.Route.{Route}
 use Rattle.net_model.specs.declared.dns.Dns.{Dns}
-use Rattle.net_model.proofs.Truth.{and_left, and_right, not_true, not_false, or_left_false, or_right_false}
-use Rattle.net_model.proofs.Orders.{link_cmp_total, route_cmp_total}
-use Rattle.net_model.proofs.Rises.{Climbs, Climbs-sorted, apart-sorted}
-use Rattle.net_model.proofs.Permute.{list_all-IsPermutation, apart-IsPermutation}
-use Rattle.net_model.proofs.Sorting.{sorted_moves, sorted_climbs, rising_sorted}
-use Rattle.net_model.proofs.Found.{names_tie}
-use Rattle.net_model.proofs.Ties.{blocks_tie, keys_tie, rules_tie}
-use Rattle.net_model.proofs.AllParts.{all_parts}
-use Rattle.net_model.proofs.ValidMoved.{least_broken-sorting, tied_both}
+use Rattle.net_model.proofs.lemmas.Truth.{and_left, and_right, not_true, not_false, or_left_false, or_right_false}
+use Rattle.net_model.proofs.lemmas.Orders.{link_cmp_total, route_cmp_total}
+use Rattle.net_model.proofs.lemmas.Rises.{Climbs, Climbs-sorted, apart-sorted}
+use Rattle.net_model.proofs.lemmas.Permute.{list_all-IsPermutation, apart-IsPermutation}
+use Rattle.net_model.proofs.lemmas.Sorting.{sorted_moves, sorted_climbs, rising_sorted}
+use Rattle.net_model.proofs.lemmas.Found.{names_tie}
+use Rattle.net_model.proofs.lemmas.Ties.{blocks_tie, keys_tie, rules_tie}
+use Rattle.net_model.proofs.lemmas.AllParts.{all_parts}
+use Rattle.net_model.proofs.lemmas.ValidMoved.{least_broken-sorting, tied_both}
 
 none_weaker : {X : Type 0} (E F : X → X → Bool) → ((x y : X) → F x y ≡ false → E x y ≡ false) → (x : X) (ys : List X) → list_any (F x) ys ≡ false → list_any (E x) ys ≡ false
 none_weaker E F less x [] h = refl

@@ -48,11 +48,11 @@ abbrev pub mtus_fit : List Link → Bool
 mtus_fit links = list_all (λ l. mtu_in_range l.mtu && base_passes (λ b. nat_le l.mtu b.mtu) links l.kind) links
 
 -- 7: a port of a bond or bridge has no address
-abbrev pub is_enslaved : List Link → Link → Bool
-is_enslaved links l = has_controller (λ c. is_bond_or_bridge c.kind) links l
+abbrev pub is_bond_or_bridge_port : List Link → Link → Bool
+is_bond_or_bridge_port links l = has_controller (λ c. is_bond_or_bridge c.kind) links l
 
-abbrev pub ports_bare : List Link → Bool
-ports_bare links = list_all (λ l. not (is_enslaved links l) || is_empty l.addrs) links
+abbrev pub ports_without_addresses : List Link → Bool
+ports_without_addresses links = list_all (λ l. not (is_bond_or_bridge_port links l) || is_empty l.addrs) links
 
 -- 8: IPv6 addresses stand only on links that are up, and an address stands once on a link, whatever its length
 abbrev pub same_address : Address → Address → Bool
@@ -132,7 +132,7 @@ limits_hold net = counts_fit net && unused_default net.links
 abbrev pub least_broken : NetData → Option ℕ
 least_broken net = first_false
     ((1, names_differ net.links) ∷ (2, bases_stand net.links) ∷ (3, controllers_take net.links) ∷ (4, no_cycle net.links)
-    ∷ (5, bases_up net.links) ∷ (6, mtus_fit net.links) ∷ (7, ports_bare net.links) ∷ (8, addresses_fit net.links)
+    ∷ (5, bases_up net.links) ∷ (6, mtus_fit net.links) ∷ (7, ports_without_addresses net.links) ∷ (8, addresses_fit net.links)
     ∷ (9, routes_stand net.links net.routes) ∷ (10, rules_differ net.rules) ∷ (11, options_fit net.links)
     ∷ (12, limits_hold net) ∷ [])
 
@@ -144,7 +144,7 @@ pub record HasAllParts (net : NetData) : Type 0 where
   pub cycles : no_cycle net.links ≡ true
   pub ups : bases_up net.links ≡ true
   pub mtus : mtus_fit net.links ≡ true
-  pub ports : ports_bare net.links ≡ true
+  pub ports : ports_without_addresses net.links ≡ true
   pub addresses : addresses_fit net.links ≡ true
   pub routes : routes_stand net.links net.routes ≡ true
   pub rules : rules_differ net.rules ≡ true

@@ -172,7 +172,7 @@ impl Net {
     }
 
     /// What is known of every network: its parts by their names, so that callers can rest on them. It does nothing.
-    pub fn valid(&self)
+    pub fn laws(&self)
         ensures net { IsNet self.now }
         ensures facts { Facts self.now }
     {

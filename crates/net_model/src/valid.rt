@@ -10,7 +10,7 @@ use crate::valid_limits::{
     MAX_ROUTES, MAX_RULES, MAX_SEARCH, MAX_SERVERS, links_fit, unused_default,
 };
 use crate::valid_links::{
-    addresses_fit, bases_stand, bases_up, controllers_take, mtus_fit, names_differ, ports_bare,
+    addresses_fit, bases_stand, bases_up, controllers_take, mtus_fit, names_differ, ports_without_addresses,
 };
 use crate::valid_options::options_fit;
 use crate::valid_routes::{routes_stand, rules_differ};
@@ -59,7 +59,7 @@ pub(crate) fn least_broken(alloc: Global, parts: &Parts) -> Result<Option<u8>, A
     if !mtus_fit(links) {
         return Ok(Some(6));
     }
-    if !ports_bare(links) {
+    if !ports_without_addresses(links) {
         return Ok(Some(7));
     }
     if !addresses_fit(links) {

@@ -4,7 +4,7 @@ ghost use Rattle.std.specs.List.{list_any, list_all};
 ghost use Rattle.net_model.specs.Words.{apart, rises, is_before_head, steps_up, is_empty};
 ghost use Rattle.net_model.specs.Order.{link_cmp};
 ghost use Rattle.net_model.specs.Links.{is_twin, named_passes, can_be_base, takes, base_passes, controller_passes, is_bond_or_bridge};
-ghost use Rattle.net_model.specs.Valid.{names_differ, each_base_stands, vlans_differ, bases_stand, controllers_take, bases_up, mtu_in_range, mtus_fit, is_enslaved, ports_bare, all_v4, same_address, addresses_differ, addresses_fit};
+ghost use Rattle.net_model.specs.Valid.{names_differ, each_base_stands, vlans_differ, bases_stand, controllers_take, bases_up, mtu_in_range, mtus_fit, is_bond_or_bridge_port, ports_without_addresses, all_v4, same_address, addresses_differ, addresses_fit};
 
 use crate::address::Prefix;
 use crate::link::{Kind, Link};
@@ -200,9 +200,9 @@ fn is_named_bond_or_bridge(links: &[Link], name: &Name) -> bool
     find_link(links, name).is_some_and(|link| is_bond_or_bridge(&link.kind))
 }
 
-fn is_enslaved(links: &[Link], link: &Link) -> bool
+fn is_bond_or_bridge_port(links: &[Link], link: &Link) -> bool
     requires { rises link_cmp links.now ≡ true }
-    ensures { result ≡ is_enslaved links.now link.now }
+    ensures { result ≡ is_bond_or_bridge_port links.now link.now }
 {
     match &link.controller {
         Some(controller) => is_named_bond_or_bridge(links, controller),
@@ -217,13 +217,13 @@ fn is_bare(link: &Link) -> bool
 }
 
 /// Part 7: whether no port of a bond or bridge has an address.
-pub(crate) fn ports_bare(links: &[Link]) -> bool
+pub(crate) fn ports_without_addresses(links: &[Link]) -> bool
     requires { rises link_cmp links.now ≡ true }
-    ensures { result ≡ ports_bare links.now }
+    ensures { result ≡ ports_without_addresses links.now }
 {
     links
         .iter()
-        .all(|link| !is_enslaved(links, link) || is_bare(link))
+        .all(|link| !is_bond_or_bridge_port(links, link) || is_bare(link))
 }
 
 fn all_v4(addrs: &[Prefix]) -> bool

@@ -31,7 +31,7 @@ fn among(prefixes: &[Prefix], addr: Addr) -> Option<Prefix>
 pub fn find_address(net: &Net, link: &Name, addr: Addr) -> Option<Prefix>
     ensures { result ≡ find_address link.now addr net.now.links }
 {
-    net.valid();
+    net.laws();
     match net.link(link) {
         Some(found) => among(found.addrs.items(), addr),
         None => None,

@@ -34,6 +34,6 @@ fn among<'a>(routes: &'a [Route], dest: Subnet, table: TableId, metric: u32) -> 
 pub fn find_route<'a>(net: &'a Net, dest: Subnet, table: TableId, metric: u32) -> Option<&'a Route>
     ensures { option_copied result ≡ find_route dest table metric net.now.routes }
 {
-    net.valid();
+    net.laws();
     among(net.routes(), dest, table, metric)
 }

@@ -12,14 +12,14 @@ use Rattle.addr_text.specs.Find.{at_place}
 use Rattle.addr_text.specs.Mac.{IsMac}
 use Rattle.addr_text.specs.MacReader.{mac_of}
 use Rattle.addr_text.specs.V6Reader.{v6_of}
-use Rattle.addr_text.proofs.Cases.{placed_or_none, mapped, kept}
-use Rattle.addr_text.proofs.Exact.{v6_sound, v6_complete, dotted_not_v6}
-use Rattle.addr_text.proofs.MacLaws.{mac_sound, mac_complete}
-use Rattle.addr_text.proofs.Numbers.{octet_of-decimal}
-use Rattle.addr_text.proofs.Octets.{dotted_sound, dotted_complete, octet_sound}
-use Rattle.addr_text.proofs.Slash.{dotted_lacks_slash, v6_lacks_slash}
-use Rattle.addr_text.proofs.Split.{lacks, position-front, position-lacks, split-at, take-front, drop-front}
-use Rattle.addr_text.proofs.Written.{v6_text-reads}
+use Rattle.addr_text.proofs.lemmas.Cases.{placed_or_none, mapped, kept}
+use Rattle.addr_text.proofs.lemmas.Exact.{v6_sound, v6_complete, dotted_not_v6}
+use Rattle.addr_text.proofs.lemmas.MacLaws.{mac_sound, mac_complete}
+use Rattle.addr_text.proofs.lemmas.Numbers.{octet_of-decimal}
+use Rattle.addr_text.proofs.lemmas.Octets.{dotted_sound, dotted_complete, octet_sound}
+use Rattle.addr_text.proofs.lemmas.Slash.{dotted_lacks_slash, v6_lacks_slash}
+use Rattle.addr_text.proofs.lemmas.Split.{lacks, position-front, position-lacks, split-at, take-front, drop-front}
+use Rattle.addr_text.proofs.lemmas.Written.{v6_text-reads}
 use Rattle.net_text.specs.AddrText.{hardware, hardware_of, addr_text, prefix_text, addr_of, prefix_of, whole, with_length, IsTextOf, IsAddrText, IsPrefixText}
 
 pub addr_sound : (t : List ℕ) (a : Address) → addr_of t ≡ Some a → IsAddrText t a

@@ -1,3 +1,4 @@
+pub mod lemmas
 pub mod BracketLaws
 pub mod Complete
 pub mod First
@@ -10,7 +11,6 @@ pub mod KeptRows
 pub mod LineLaws
 pub mod Lines
 pub mod Local
-pub mod Numbers
 pub mod OpenLaws
 pub mod QuoteLaws
 pub mod ReaderLaws

@@ -1,5 +1,5 @@
 use Rattle.std.proofs.Common.{sym, ◌∙◌}
-use Rattle.addr_text.proofs.Octets.{dotted_sound, dotted_complete}
+use Rattle.addr_text.proofs.lemmas.Octets.{dotted_sound, dotted_complete}
 use Rattle.addr_text.proofs.dotted.read_dotted.Goals as goal
 
 pub returns-clause-exact : goal.returns-clause-exact

@@ -1,4 +1,4 @@
-use Rattle.addr_text.proofs.MacLaws.{mac_text-reads}
+use Rattle.addr_text.proofs.lemmas.MacLaws.{mac_text-reads}
 use Rattle.addr_text.proofs.mac.mac_text.Goals as goal
 
 pub returns-in_err-push_pairs-clause-reads_back : goal.returns-in_err-push_pairs-clause-reads_back

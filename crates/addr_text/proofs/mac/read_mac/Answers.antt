@@ -1,5 +1,5 @@
 use Rattle.std.proofs.Common.{sym, ◌∙◌}
-use Rattle.addr_text.proofs.MacLaws.{mac_sound, mac_complete}
+use Rattle.addr_text.proofs.lemmas.MacLaws.{mac_sound, mac_complete}
 use Rattle.addr_text.proofs.mac.read_mac.Goals as goal
 
 pub returns-clause-exact : goal.returns-clause-exact

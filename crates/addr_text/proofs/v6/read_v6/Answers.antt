@@ -1,5 +1,5 @@
 use Rattle.std.proofs.Common.{sym, ◌∙◌}
-use Rattle.addr_text.proofs.Exact.{v6_sound, v6_complete}
+use Rattle.addr_text.proofs.lemmas.Exact.{v6_sound, v6_complete}
 use Rattle.addr_text.proofs.v6.read_v6.Goals as goal
 
 pub returns-clause-exact : goal.returns-clause-exact

@@ -1,6 +1,6 @@
 use Rattle.addr_text.specs.V6Text.{fields_of}
 use Rattle.addr_text.proofs.Canonical.{compressed_canonical}
-use Rattle.addr_text.proofs.Written.{v6_text-reads}
+use Rattle.addr_text.proofs.lemmas.Written.{v6_text-reads}
 use Rattle.addr_text.proofs.write.v6_text.Goals as goal
 
 pub returns-in_err-push_compressed-clause-reads_back :

@@ -4,9 +4,9 @@ use Rattle.std.proofs.lemmas.List.Sorted.{answers_always, searchable_from_sorted
 use Rattle.std.specs.Cmp.{on_total}
 use Rattle.net_model.specs.Order.{link_cmp}
 use Rattle.net_model.specs.declared.link.Link.{Link}
-use Rattle.net_model.proofs.Rises.{sorted-rises}
-use Rattle.net_model.proofs.Orders.{link_cmp_total}
-use Rattle.net_model.proofs.Found.{found_by_halving, none_by_halving}
+use Rattle.net_model.proofs.lemmas.Rises.{sorted-rises}
+use Rattle.net_model.proofs.lemmas.Orders.{link_cmp_total}
+use Rattle.net_model.proofs.lemmas.Found.{found_by_halving, none_by_halving}
 use Rattle.net_model.proofs.lookup.find_link.Goals as goal
 
 pub returns-in-Ok : goal.returns-in-Ok

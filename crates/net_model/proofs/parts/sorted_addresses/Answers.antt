@@ -1,9 +1,9 @@
 use Rattle.std.proofs.Common.{◌≡◌, sym, ap, subst, ◌∙◌, IsPermutation}
 use Rattle.net_model.specs.Order.{block_cmp}
 use Rattle.net_model.specs.OrderLaws.{block_cmp_total}
-use Rattle.net_model.proofs.Rises.{Climbs-sorted}
-use Rattle.net_model.proofs.Sorting.{exact_sorted}
-use Rattle.net_model.proofs.Exact.{exact_blocks}
+use Rattle.net_model.proofs.lemmas.Rises.{Climbs-sorted}
+use Rattle.net_model.proofs.lemmas.Sorting.{exact_sorted}
+use Rattle.net_model.proofs.lemmas.Exact.{exact_blocks}
 use Rattle.net_model.proofs.parts.sorted_addresses.Goals as goal
 
 pub returns : goal.returns

@@ -1,9 +1,9 @@
 use Rattle.std.proofs.Common.{◌≡◌, sym, ◌∙◌}
 use Rattle.net_model.specs.Order.{link_cmp}
 use Rattle.net_model.specs.Links.{same_name}
-use Rattle.net_model.proofs.Orders.{link_cmp_total}
-use Rattle.net_model.proofs.Rises.{apart-steps, rises-steps}
-use Rattle.net_model.proofs.Found.{names_tie}
+use Rattle.net_model.proofs.lemmas.Orders.{link_cmp_total}
+use Rattle.net_model.proofs.lemmas.Rises.{apart-steps, rises-steps}
+use Rattle.net_model.proofs.lemmas.Found.{names_tie}
 use Rattle.net_model.proofs.valid_links.names_differ.Goals as goal
 
 pub returns-clause-differ : goal.returns-clause-differ

@@ -1,9 +1,9 @@
 use Rattle.std.proofs.Common.{◌≡◌, sym, ◌∙◌}
 use Rattle.net_model.specs.Order.{route_cmp}
 use Rattle.net_model.specs.Valid.{same_key}
-use Rattle.net_model.proofs.Orders.{route_cmp_total}
-use Rattle.net_model.proofs.Rises.{apart-steps}
-use Rattle.net_model.proofs.Ties.{keys_tie}
+use Rattle.net_model.proofs.lemmas.Orders.{route_cmp_total}
+use Rattle.net_model.proofs.lemmas.Rises.{apart-steps}
+use Rattle.net_model.proofs.lemmas.Ties.{keys_tie}
 use Rattle.net_model.proofs.valid_routes.keys_differ.Goals as goal
 
 pub returns : goal.returns

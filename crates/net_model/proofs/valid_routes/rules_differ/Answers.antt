@@ -2,8 +2,8 @@ use Rattle.std.proofs.Common.{◌≡◌, sym, ◌∙◌}
 use Rattle.net_model.specs.Order.{rule_cmp}
 use Rattle.net_model.specs.Valid.{same_rule}
 use Rattle.net_model.specs.OrderLaws.{rule_cmp_total}
-use Rattle.net_model.proofs.Rises.{apart-steps}
-use Rattle.net_model.proofs.Ties.{rules_tie}
+use Rattle.net_model.proofs.lemmas.Rises.{apart-steps}
+use Rattle.net_model.proofs.lemmas.Ties.{rules_tie}
 use Rattle.net_model.proofs.valid_routes.rules_differ.Goals as goal
 
 pub returns : goal.returns

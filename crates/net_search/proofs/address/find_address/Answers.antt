@@ -11,10 +11,10 @@ pub among-requires-clause-in_order : goal.among-requires-clause-in_order
 among-requires-clause-in_order c =
     let there : find_link c.args.link.now c.args.net.now.links ≡ Some c.in-Some.found.now = sym c.link.ensures ∙ ap option_copied c.in-Some.is in
     ap (rises block_cmp) (c.deref.ensures.value ∙ c.items.ensures)
-    ∙ all_found (λ (l : Link). rises block_cmp l.addrs) (is_named c.args.link.now) c.args.net.now.links c.in-Some.found.now c.valid.ensures.net.in_order.addrs there
+    ∙ all_found (λ (l : Link). rises block_cmp l.addrs) (is_named c.args.link.now) c.args.net.now.links c.in-Some.found.now c.laws.ensures.net.in_order.addrs there
 
 pub among-requires-clause-differ : goal.among-requires-clause-differ
 among-requires-clause-differ c =
     let there : find_link c.args.link.now c.args.net.now.links ≡ Some c.in-Some.found.now = sym c.link.ensures ∙ ap option_copied c.in-Some.is in
-    let facts = c.valid.ensures.facts.link c.args.link.now c.in-Some.found.now there in
+    let facts = c.laws.ensures.facts.link c.args.link.now c.in-Some.found.now there in
     ap addresses_differ (c.deref.ensures.value ∙ c.items.ensures) ∙ facts.address_once

@@ -1,5 +1,5 @@
 use Rattle.std.proofs.Common.{sym}
-use Rattle.yaml_read.proofs.Numbers.{no_number}
+use Rattle.yaml_read.proofs.lemmas.Numbers.{no_number}
 use Rattle.yaml_read.proofs.plain.integer.Goals as goal
 
 pub returns-else-is_whole : goal.returns-else-is_whole

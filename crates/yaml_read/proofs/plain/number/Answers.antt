@@ -1,7 +1,7 @@
 use Rattle.std.proofs.Common.{◌∙◌, subst}
 use Rattle.std.specs.Str.Parse.{ParsesSigned}
 use Rattle.std.specs.Int.{w128}
-use Rattle.yaml_read.proofs.Numbers.{number_is}
+use Rattle.yaml_read.proofs.lemmas.Numbers.{number_is}
 use Rattle.yaml_read.proofs.plain.number.Goals as goal
 
 pub returns-in-Ok : goal.returns-in-Ok

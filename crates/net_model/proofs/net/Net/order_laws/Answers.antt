@@ -1,4 +1,4 @@
-use Rattle.net_model.proofs.Ordered.{any_order, in_order}
+use Rattle.net_model.proofs.lemmas.Ordered.{any_order, in_order}
 use Rattle.net_model.proofs.net.Net.order_laws.Goals as goal
 
 pub returns-clause-any_order : goal.returns-clause-any_order

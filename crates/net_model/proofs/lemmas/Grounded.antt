@@ -2,7 +2,7 @@
 use Rattle.std.proofs.Common.{◌≡◌, ℕ, ◌+◌, ◌<◌, ◌≤◌, zero, suc, Bool, true, false, ◌&&◌, ◌||◌, cond, List, [], ◌∷◌, length, Option, Some, None, refl, sym, ap, subst, ◌∙◌, arith}
 use Rattle.std.specs.List.{list_any, list_all, find}
 use Rattle.std.specs.Option.{option_map_or}
-use Rattle.reach.proofs.Saturate.{tally, AgreeOn, tally_le, tally_length, any_mono, and_mono, reached_all}
+use Rattle.reach.proofs.lemmas.Saturate.{tally, AgreeOn, tally_le, tally_length, any_mono, and_mono, reached_all}
 use Rattle.net_model.specs.Name.{same_bytes}
 use Rattle.net_model.specs.Links.{find_link, is_named, is_port_of}
 use Rattle.net_model.specs.Standing.{has_base, stands_on, reaches, on_cycle, ends}
@@ -10,8 +10,8 @@ use Rattle.net_model.specs.declared.link.Link.{Link}
 use Rattle.net_model.specs.declared.link.Kind.{Kind}
 use Rattle.net_model.specs.declared.link.Kind.TheVariants.{Ethernet, Bond, Bridge, Vlan, Vrf}
 use Rattle.net_model.specs.declared.options.Proto.{Proto}
-use Rattle.net_model.proofs.Truth.{or_right}
-use Rattle.net_model.proofs.Found.{one_name, itself}
+use Rattle.net_model.proofs.lemmas.Truth.{or_right}
+use Rattle.net_model.proofs.lemmas.Found.{one_name, itself}
 
 pub found_named : (xs : List Link) (n : List ℕ) (b : Link) → find_link n xs ≡ Some b → b.name ≡ n
 found_named [] n b found = absurd cc

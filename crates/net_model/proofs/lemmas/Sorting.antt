@@ -8,9 +8,9 @@ use Rattle.std.proofs.lemmas.Cmp.{tied_itself}
 use Rattle.std.proofs.lemmas.List.Sums.{sum_by-cons}
 use Rattle.std.proofs.lemmas.List.Sorted.{sum_by-IsPermutation, ranks_by, IsPermutation-refl, IsPermutation-cons, IsPermutation-trans, IsPermutation-sym, IsPermutation-middle, Contains-permutation}
 use Rattle.net_model.specs.Words.{apart, rises, put, sorted}
-use Rattle.net_model.proofs.Truth.{and_left, and_right, and_both}
-use Rattle.net_model.proofs.Rises.{Climbs, NoneBefore, Climbs-sorted, apart-sorted, lt_turned}
-use Rattle.net_model.proofs.Permute.{apart-IsPermutation}
+use Rattle.net_model.proofs.lemmas.Truth.{and_left, and_right, and_both}
+use Rattle.net_model.proofs.lemmas.Rises.{Climbs, NoneBefore, Climbs-sorted, apart-sorted, lt_turned}
+use Rattle.net_model.proofs.lemmas.Permute.{apart-IsPermutation}
 
 module _ {X : Type 0} (R : X → X → Ordering) (total : IsTotalOrder R) where
   abbrev lt : X → X → Bool

@@ -2,7 +2,7 @@
 use Rattle.std.proofs.Common.{◌≡◌, ℕ, ◌+◌, ◌<◌, ◌≤◌, Bool, true, false, ◌||◌, ◌&&◌, List, [], ◌∷◌, length, get_or, zero, suc, refl, sym, ap, subst, ◌∙◌, arith}
 use Rattle.std.specs.List.{list_any}
 use Rattle.reach.specs.Reach.{is_reached, is_marked, IsClosed, IsGraph, IsLeast, Represents}
-use Rattle.reach.proofs.Saturate.{AgreeOn, reached_all, and_left, and_right, and_both}
+use Rattle.reach.proofs.lemmas.Saturate.{AgreeOn, reached_all, and_left, and_right, and_both}
 
 agree_at : {X : Type 0} (f g : X → Bool) (xs : List X) (d : X) → AgreeOn f g xs → (i : ℕ) → i < length xs → f (get_or xs i d) ≡ g (get_or xs i d)
 agree_at f g [] d a i h = absurd (omega arith)

@@ -15,15 +15,15 @@ use Rattle.net_model.specs.NetData.{NetData, IsNet, IsRearranged, arranged, orde
 use Rattle.net_model.specs.declared.link.Link.{Link}
 use Rattle.net_model.specs.declared.route.Route.{Route}
 use Rattle.net_model.specs.declared.dns.Dns.{Dns}
-use Rattle.net_model.proofs.Truth.{and_left, and_right}
-use Rattle.net_model.proofs.Orders.{link_cmp_total, route_cmp_total}
-use Rattle.net_model.proofs.Rises.{Climbs, Climbs-sorted, sorted-rises, apart-sorted}
-use Rattle.net_model.proofs.Permute.{apart-IsPermutation}
-use Rattle.net_model.proofs.Sorting.{sorted_moves, sorted_climbs, rising_sorted}
-use Rattle.net_model.proofs.Found.{names_tie}
-use Rattle.net_model.proofs.Ties.{keys_tie, rules_tie}
-use Rattle.net_model.proofs.AllParts.{all_parts}
-use Rattle.net_model.proofs.ValidMoved.{tied_both, apart_map}
+use Rattle.net_model.proofs.lemmas.Truth.{and_left, and_right}
+use Rattle.net_model.proofs.lemmas.Orders.{link_cmp_total, route_cmp_total}
+use Rattle.net_model.proofs.lemmas.Rises.{Climbs, Climbs-sorted, sorted-rises, apart-sorted}
+use Rattle.net_model.proofs.lemmas.Permute.{apart-IsPermutation}
+use Rattle.net_model.proofs.lemmas.Sorting.{sorted_moves, sorted_climbs, rising_sorted}
+use Rattle.net_model.proofs.lemmas.Found.{names_tie}
+use Rattle.net_model.proofs.lemmas.Ties.{keys_tie, rules_tie}
+use Rattle.net_model.proofs.lemmas.AllParts.{all_parts}
+use Rattle.net_model.proofs.lemmas.ValidMoved.{tied_both, apart_map}
 
 module _ {X : Type 0} (E : X → X → Bool) (R : X → X → Ordering) (total : IsTotalOrder R) (tie : (x y : X) → E x y ≡ is_eq (R x y)) where
   sorted_rises : (xs : List X) → apart E xs ≡ true → rises R (sorted R xs) ≡ true

@@ -7,7 +7,7 @@ use Rattle.std.specs.Cmp.{IsTotalOrder}
 use Rattle.std.proofs.lemmas.List.Sorted.{sorted_far, ranks_by}
 use native.Mathlib.Numerals.{unary_clauses}
 use Rattle.net_model.specs.Words.{apart, rises, is_before_head, steps_up}
-use Rattle.net_model.proofs.Truth.{and_left, and_right, and_both, not_true}
+use Rattle.net_model.proofs.lemmas.Truth.{and_left, and_right, and_both, not_true}
 
 lt_is_not_eq : (r : Ordering) → is_lt r ≡ true → is_eq r ≡ false
 lt_is_not_eq Less h = refl

@@ -6,8 +6,8 @@ use Rattle.std.proofs.lemmas.Grind.{pow_more}
 use Rattle.std.proofs.Math.Nat.{div-lt_iff_lt-mul}
 use Rattle.addr_text.specs.V6.{AreFields, IsRun, fields_number, IsV6}
 use Rattle.addr_text.specs.V6Text.{fields_of, hex, fields_text, longest, first_run, shortened, compressed, v6_text}
-use Rattle.addr_text.proofs.Cases.{either}
-use Rattle.addr_text.proofs.Exact.{fields_number-append}
+use Rattle.addr_text.proofs.lemmas.Cases.{either}
+use Rattle.addr_text.proofs.lemmas.Exact.{fields_number-append}
 use Rattle.addr_text.proofs.Hex.{hex_field}
 use Rattle.addr_text.proofs.Runs.{run_within, run_whole}
 

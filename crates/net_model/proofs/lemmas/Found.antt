@@ -13,8 +13,8 @@ use Rattle.net_model.specs.Order.{link_cmp}
 use Rattle.net_model.specs.Links.{find_link, is_named, same_name, named_passes}
 use Rattle.net_model.specs.Valid.{names_differ}
 use Rattle.net_model.specs.declared.link.Link.{Link}
-use Rattle.net_model.proofs.Truth.{and_left, and_right, not_true, or_left_false, or_right_false}
-use Rattle.net_model.proofs.Rises.{apart-rises}
+use Rattle.net_model.proofs.lemmas.Truth.{and_left, and_right, not_true, or_left_false, or_right_false}
+use Rattle.net_model.proofs.lemmas.Rises.{apart-rises}
 
 pub one_name : (a b : List ℕ) → same_bytes a b ≡ true → a ≡ b
 one_name a b h = same_text a b (sym h)

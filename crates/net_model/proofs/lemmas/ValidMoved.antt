@@ -19,7 +19,7 @@ use Rattle.net_model.specs.Links.{same_name, is_named, named_passes, is_twin, ca
 use Rattle.net_model.specs.Standing.{stands_on, reaches, on_cycle, no_cycle}
 use Rattle.net_model.specs.OnLink.{holds, is_on_link, is_link_local}
 use Rattle.net_model.specs.Options.{bond_fits, bond_ok, primary_ok, takes_primary, bridge_in_range, port_in_range, is_default_bond, is_default_bridge, is_default_port}
-use Rattle.net_model.specs.Valid.{names_differ, each_base_stands, vlans_differ, bases_stand, controllers_take, bases_up, mtu_in_range, mtus_fit, is_enslaved, ports_bare, all_v4, same_address, addresses_differ, addresses_fit, route_on_link, route_stands, routes_stand, keys_differ, same_key, rules_differ, same_rule, options_fit, address_count, links_fit, counts_fit, is_bridge_port, unused_default, limits_hold, least_broken}
+use Rattle.net_model.specs.Valid.{names_differ, each_base_stands, vlans_differ, bases_stand, controllers_take, bases_up, mtu_in_range, mtus_fit, is_bond_or_bridge_port, ports_without_addresses, all_v4, same_address, addresses_differ, addresses_fit, route_on_link, route_stands, routes_stand, keys_differ, same_key, rules_differ, same_rule, options_fit, address_count, links_fit, counts_fit, is_bridge_port, unused_default, limits_hold, least_broken}
 use Rattle.net_model.specs.NetData.{NetData, arranged, IsSorting}
 use Rattle.net_model.specs.declared.link.Link.{Link}
 use Rattle.net_model.specs.declared.link.Kind.{Kind}
@@ -28,11 +28,11 @@ use Rattle.net_model.specs.declared.options.Proto.{Proto}
 use Rattle.net_model.specs.declared.options.Proto.TheVariants.{Dot1q, Dot1ad}
 use Rattle.net_model.specs.declared.options.BondMode.{BondMode}
 use Rattle.net_model.specs.declared.route.Route.{Route}
-use Rattle.net_model.proofs.Orders.{address_cmp_total, route_cmp_total}
-use Rattle.net_model.proofs.Permute.{list_all-agree, list_all-not_any, list_all-IsPermutation, apart-IsPermutation}
-use Rattle.net_model.proofs.Sorting.{sorted_moves, turned_eq}
-use Rattle.net_model.proofs.Ports.{among_ports}
-use Rattle.net_model.proofs.Ties.{addresses_tie, keys_tie, rules_tie}
+use Rattle.net_model.proofs.lemmas.Orders.{address_cmp_total, route_cmp_total}
+use Rattle.net_model.proofs.lemmas.Permute.{list_all-agree, list_all-not_any, list_all-IsPermutation, apart-IsPermutation}
+use Rattle.net_model.proofs.lemmas.Sorting.{sorted_moves, turned_eq}
+use Rattle.net_model.proofs.lemmas.Ports.{among_ports}
+use Rattle.net_model.proofs.lemmas.Ties.{addresses_tie, keys_tie, rules_tie}
 
 any_map : {X Y : Type 0} (f : X → Y) (p : X → Bool) (q : Y → Bool) → ((x : X) → q (f x) ≡ p x) → (xs : List X) → list_any q (map f xs) ≡ list_any p xs
 any_map f p q same [] = refl
@@ -145,13 +145,13 @@ module _ (xs ys : List Link) (moved : IsPermutation (map arranged xs) ys) where
       all_moved (λ l. mtu_in_range l.mtu && base_passes (λ b. nat_le l.mtu b.mtu) xs l.kind) (λ l. mtu_in_range l.mtu && base_passes (λ b. nat_le l.mtu b.mtu) ys l.kind)
       (λ l. ap (λ b. mtu_in_range l.mtu && b) (base_moved (λ b. nat_le l.mtu b.mtu) (λ b. nat_le l.mtu b.mtu) (λ b. refl) l.kind))
 
-  enslaved_moved : (l : Link) → is_enslaved ys (arranged l) ≡ is_enslaved xs l
+  enslaved_moved : (l : Link) → is_bond_or_bridge_port ys (arranged l) ≡ is_bond_or_bridge_port xs l
   enslaved_moved l = option_moved (λ c. is_bond_or_bridge c.kind) (λ c. is_bond_or_bridge c.kind) (λ c. refl) false l.controller
 
-  ports_moved : ports_bare ys ≡ ports_bare xs
+  ports_moved : ports_without_addresses ys ≡ ports_without_addresses xs
   ports_moved =
-      all_moved (λ l. not (is_enslaved xs l) || is_empty l.addrs) (λ l. not (is_enslaved ys l) || is_empty l.addrs)
-      (λ l. ap (λ b. not b || is_empty (arranged l).addrs) (enslaved_moved l) ∙ ap (λ b. not (is_enslaved xs l) || b) (empty_length l.addrs (arranged l).addrs (length_arranged l)))
+      all_moved (λ l. not (is_bond_or_bridge_port xs l) || is_empty l.addrs) (λ l. not (is_bond_or_bridge_port ys l) || is_empty l.addrs)
+      (λ l. ap (λ b. not b || is_empty (arranged l).addrs) (enslaved_moved l) ∙ ap (λ b. not (is_bond_or_bridge_port xs l) || b) (empty_length l.addrs (arranged l).addrs (length_arranged l)))
 
   differ_arranged : (l : Link) → addresses_differ (arranged l).addrs ≡ addresses_differ l.addrs
   differ_arranged l = sym (apart-IsPermutation (λ a b. same_address a.addr b.addr) (λ a b. tied_both same_address address_cmp address_cmp_total addresses_tie a.addr b.addr) l.addrs (arranged l).addrs (arranged_moves l))
@@ -219,8 +219,8 @@ limits_moved given net s =
 -- sorting keeps the least part that is broken
 pub least_broken-sorting : (given net : NetData) → IsSorting given net → least_broken net ≡ least_broken given
 least_broken-sorting given net s =
-    same_tests (names_differ net.links) (bases_stand net.links) (controllers_take net.links) (no_cycle net.links) (bases_up net.links) (mtus_fit net.links) (ports_bare net.links) (addresses_fit net.links) (routes_stand net.links net.routes) (rules_differ net.rules) (options_fit net.links) (limits_hold net)
-    (names_differ given.links) (bases_stand given.links) (controllers_take given.links) (no_cycle given.links) (bases_up given.links) (mtus_fit given.links) (ports_bare given.links) (addresses_fit given.links) (routes_stand given.links given.routes) (rules_differ given.rules) (options_fit given.links) (limits_hold given)
+    same_tests (names_differ net.links) (bases_stand net.links) (controllers_take net.links) (no_cycle net.links) (bases_up net.links) (mtus_fit net.links) (ports_without_addresses net.links) (addresses_fit net.links) (routes_stand net.links net.routes) (rules_differ net.rules) (options_fit net.links) (limits_hold net)
+    (names_differ given.links) (bases_stand given.links) (controllers_take given.links) (no_cycle given.links) (bases_up given.links) (mtus_fit given.links) (ports_without_addresses given.links) (addresses_fit given.links) (routes_stand given.links given.routes) (rules_differ given.rules) (options_fit given.links) (limits_hold given)
     (names_moved given.links net.links s.links)
     (bases_moved given.links net.links s.links)
     (controllers_moved given.links net.links s.links)

@@ -11,9 +11,9 @@ use Rattle.std.specs.Fmt.{decimal}
 use Rattle.std.specs.List.{position, list_all}
 use Rattle.addr_text.specs.Digits.{octet_of, is_octet, is_decimal_digit, number}
 use Rattle.addr_text.specs.Dotted.{octets_of, octet_before, dotted, dotted_of, IsDotted}
-use Rattle.addr_text.proofs.Cases.{placed_or_none, kept, both}
-use Rattle.addr_text.proofs.Numbers.{octet_of-decimal, decimal_lacks_dot}
-use Rattle.addr_text.proofs.Split.{position-front, split-at, take-front, drop-front}
+use Rattle.addr_text.proofs.lemmas.Cases.{placed_or_none, kept, both}
+use Rattle.addr_text.proofs.lemmas.Numbers.{octet_of-decimal, decimal_lacks_dot}
+use Rattle.addr_text.proofs.lemmas.Split.{position-front, split-at, take-front, drop-front}
 
 -- a byte that is a decimal digit is the one of its value
 ascii_digit : (x : ℕ) → is_decimal_digit x ≡ true → (x ≡ 48 + digit_value x) × (digit_value x < 10)

@@ -12,10 +12,10 @@ use Rattle.addr_text.specs.Find.{gap_of, at_place}
 use Rattle.addr_text.specs.Parts.{joined}
 use Rattle.addr_text.specs.V6.{IsRun, fields_number, IsShort, IsV6}
 use Rattle.addr_text.specs.V6Reader.{all_eight, some_run_of, whole_of, around, short_of, v6_of}
-use Rattle.addr_text.proofs.Cases.{placed_or_none, kept, both, untrue}
+use Rattle.addr_text.proofs.lemmas.Cases.{placed_or_none, kept, both, untrue}
 use Rattle.addr_text.proofs.Marks.{joined_gap, is_part, are_parts, fields_parts, parts_gap, gap_here, gap-split}
 use Rattle.addr_text.proofs.Reading.{IsRunOf, packed, run_sound, run_complete, runof_parts, whole_sound, whole_complete}
-use Rattle.addr_text.proofs.Split.{lacks, take-front, drop-gap}
+use Rattle.addr_text.proofs.lemmas.Split.{lacks, take-front, drop-gap}
 use Rattle.addr_text.proofs.Steps.{some-run}
 
 -- the number of fields behind others

@@ -4,7 +4,7 @@ use Rattle.std.proofs.lemmas.Bool.Decides.{nat_tests}
 use Rattle.std.specs.Char.{digit_value}
 use Rattle.std.specs.Fmt.{decimal, digits, digit_glyph}
 use Rattle.addr_text.specs.Digits.{octet_of}
-use Rattle.addr_text.proofs.Split.{lacks}
+use Rattle.addr_text.proofs.lemmas.Split.{lacks}
 
 -- each number below n passes
 abbrev pub all_below : (ℕ → Bool) → ℕ → Bool

@@ -2,7 +2,7 @@
 use Rattle.std.proofs.Common.{◌≡◌, ℕ, Bool, true, false, List, [], ◌∷◌, Option, Some, None, refl, if◌then◌else◌}
 use Rattle.net_model.specs.Words.{first_false}
 use Rattle.net_model.specs.Standing.{no_cycle}
-use Rattle.net_model.specs.Valid.{HasAllParts, least_broken, names_differ, bases_stand, controllers_take, bases_up, mtus_fit, ports_bare, addresses_fit, routes_stand, rules_differ, options_fit, limits_hold}
+use Rattle.net_model.specs.Valid.{HasAllParts, least_broken, names_differ, bases_stand, controllers_take, bases_up, mtus_fit, ports_without_addresses, addresses_fit, routes_stand, rules_differ, options_fit, limits_hold}
 use Rattle.net_model.specs.NetData.{NetData}
 
 passed : (n : ℕ) (b : Bool) (tests : List (ℕ × Bool)) → first_false ((n, b) ∷ tests) ≡ None → (b ≡ true) × (first_false tests ≡ None)
@@ -27,7 +27,7 @@ all_true a b c d e f g h i j k l h0 =
 
 pub all_parts : (net : NetData) → least_broken net ≡ None → HasAllParts net
 all_parts net h =
-    let p = all_true (names_differ net.links) (bases_stand net.links) (controllers_take net.links) (no_cycle net.links) (bases_up net.links) (mtus_fit net.links) (ports_bare net.links) (addresses_fit net.links) (routes_stand net.links net.routes) (rules_differ net.rules) (options_fit net.links) (limits_hold net) h in
+    let p = all_true (names_differ net.links) (bases_stand net.links) (controllers_take net.links) (no_cycle net.links) (bases_up net.links) (mtus_fit net.links) (ports_without_addresses net.links) (addresses_fit net.links) (routes_stand net.links net.routes) (rules_differ net.rules) (options_fit net.links) (limits_hold net) h in
     record {
       names = p.0;
       bases = p.1;
@@ -48,4 +48,4 @@ none_of : (a b c d e f g h i j k l : Bool) → a ≡ true → b ≡ true → c �
 none_of a b c d e f g h i j k l p1 p2 p3 p4 p5 p6 p7 p8 p9 p10 p11 p12 = rw (p1, p2, p3, p4, p5, p6, p7, p8, p9, p10, p11, p12) refl
 
 pub none_broken : (net : NetData) → HasAllParts net → least_broken net ≡ None
-none_broken net p = none_of (names_differ net.links) (bases_stand net.links) (controllers_take net.links) (no_cycle net.links) (bases_up net.links) (mtus_fit net.links) (ports_bare net.links) (addresses_fit net.links) (routes_stand net.links net.routes) (rules_differ net.rules) (options_fit net.links) (limits_hold net) p.names p.bases p.controllers p.cycles p.ups p.mtus p.ports p.addresses p.routes p.rules p.options p.limits
+none_broken net p = none_of (names_differ net.links) (bases_stand net.links) (controllers_take net.links) (no_cycle net.links) (bases_up net.links) (mtus_fit net.links) (ports_without_addresses net.links) (addresses_fit net.links) (routes_stand net.links net.routes) (rules_differ net.rules) (options_fit net.links) (limits_hold net) p.names p.bases p.controllers p.cycles p.ups p.mtus p.ports p.addresses p.routes p.rules p.options p.limits

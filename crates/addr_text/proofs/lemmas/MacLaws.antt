@@ -9,8 +9,8 @@ use Rattle.addr_text.specs.Digits.{is_hex_digit, number}
 use Rattle.addr_text.specs.Mac.{IsPair, ArePairs, IsMac, pair_text, mac_text}
 use Rattle.addr_text.specs.MacReader.{are_pairs, pair_value, pair_at, mac_of}
 use Rattle.addr_text.specs.Parts.{joined}
-use Rattle.addr_text.proofs.Cases.{both, kept}
-use Rattle.addr_text.proofs.Numbers.{digit_value-glyph}
+use Rattle.addr_text.proofs.lemmas.Cases.{both, kept}
+use Rattle.addr_text.proofs.lemmas.Numbers.{digit_value-glyph}
 
 -- two digits never make more than a byte
 pair_is : (a b : ℕ) → is_hex_digit a ≡ true → is_hex_digit b ≡ true → pair_value a b ≡ number 16 (a ∷ b ∷ [])

@@ -9,7 +9,7 @@ use Rattle.net_model.specs.Order.{link_cmp}
 use Rattle.net_model.specs.Links.{find_link, is_named, same_name, named_passes, is_twin, can_be_base, takes, base_passes, controller_passes, has_controller, is_bond, is_bridge, is_bond_or_bridge, ports_of}
 use Rattle.net_model.specs.Standing.{on_cycle, no_cycle}
 use Rattle.net_model.specs.Options.{bond_fits, bond_ok, bridge_in_range, port_in_range, is_default_bond, is_default_bridge, is_default_port}
-use Rattle.net_model.specs.Valid.{HasAllParts, each_base_stands, vlans_differ, mtu_in_range, is_enslaved, all_v4, addresses_differ, route_on_link, route_stands, keys_differ, is_bridge_port, counts_fit, links_fit, address_count, unused_default}
+use Rattle.net_model.specs.Valid.{HasAllParts, each_base_stands, vlans_differ, mtu_in_range, is_bond_or_bridge_port, all_v4, addresses_differ, route_on_link, route_stands, keys_differ, is_bridge_port, counts_fit, links_fit, address_count, unused_default}
 use Rattle.net_model.specs.NetData.{NetData, IsNet}
 use Rattle.net_model.specs.Facts.{LinkFacts, BaseFacts, ControllerFacts, RouteFacts, Facts}
 use Rattle.net_model.specs.declared.link.Link.{Link}
@@ -18,11 +18,11 @@ use Rattle.net_model.specs.declared.link.Kind.TheVariants.{Ethernet, Bond, Bridg
 use Rattle.net_model.specs.declared.options.BondMode.{BondMode}
 use Rattle.net_model.specs.declared.options.Proto.{Proto}
 use Rattle.net_model.specs.declared.route.Route.{Route}
-use Rattle.net_model.proofs.Truth.{and_left, and_right, not_true, or_left_false, or_right_false}
-use Rattle.net_model.proofs.Found.{named_passes_found, one_name, itself}
-use Rattle.net_model.proofs.Grounded.{found_named, any_found, HasGround, grounded}
-use Rattle.net_model.proofs.ValidMoved.{is_twin-comm}
-use Rattle.net_model.proofs.AllParts.{all_parts}
+use Rattle.net_model.proofs.lemmas.Truth.{and_left, and_right, not_true, or_left_false, or_right_false}
+use Rattle.net_model.proofs.lemmas.Found.{named_passes_found, one_name, itself}
+use Rattle.net_model.proofs.lemmas.Grounded.{found_named, any_found, HasGround, grounded}
+use Rattle.net_model.proofs.lemmas.ValidMoved.{is_twin-comm}
+use Rattle.net_model.proofs.lemmas.AllParts.{all_parts}
 
 -- what holds of all links holds of the one found
 all_found : (p : Link → Bool) (xs : List Link) (n : List ℕ) (l : Link) → list_all p xs ≡ true → find_link n xs ≡ Some l → p l ≡ true
@@ -196,11 +196,11 @@ module _ (net : NetData) (is : IsNet net) where
         there = stands.1;
         takes_it = stands.2;
         bare = λ h.
-            let enslaved : is_enslaved net.links l ≡ true =
+            let enslaved : is_bond_or_bridge_port net.links l ≡ true =
             ap (λ o. option_map_or (named_passes (λ m. is_bond_or_bridge m.kind) net.links) o false) has
             ∙ named_passes_found (λ m. is_bond_or_bridge m.kind) net.links c up
             ∙ ap (λ o. option_map_or (λ (m : Link). is_bond_or_bridge m.kind) o false) stands.1 ∙ h in
-            empty_is l.addrs (if_not (is_enslaved net.links l) (is_empty l.addrs) (all_found (λ k. not (is_enslaved net.links k) || is_empty k.addrs) net.links n l p.ports found) enslaved);
+            empty_is l.addrs (if_not (is_bond_or_bridge_port net.links l) (is_empty l.addrs) (all_found (λ k. not (is_bond_or_bridge_port net.links k) || is_empty k.addrs) net.links n l p.ports found) enslaved);
         port_unused = λ h.
             let idle = unused n l found in
             let not_port : is_bridge_port net.links l ≡ false =

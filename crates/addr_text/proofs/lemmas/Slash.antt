@@ -6,10 +6,10 @@ use Rattle.addr_text.specs.Digits.{is_field, is_hex_digit}
 use Rattle.addr_text.specs.Dotted.{IsDotted, dotted}
 use Rattle.addr_text.specs.Parts.{joined}
 use Rattle.addr_text.specs.V6.{AreFields, IsRun, IsV6}
-use Rattle.addr_text.proofs.Cases.{both}
+use Rattle.addr_text.proofs.lemmas.Cases.{both}
 use Rattle.addr_text.proofs.Marks.{lacks-all, lacks-append}
-use Rattle.addr_text.proofs.Numbers.{decimal_lacks_slash}
-use Rattle.addr_text.proofs.Split.{lacks}
+use Rattle.addr_text.proofs.lemmas.Numbers.{decimal_lacks_slash}
+use Rattle.addr_text.proofs.lemmas.Split.{lacks}
 
 pub dotted_lacks_slash : (t : List ℕ) (n : ℕ) → IsDotted t n → lacks 47 t ≡ true
 dotted_lacks_slash t n h =

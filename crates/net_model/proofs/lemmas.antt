@@ -1,0 +1,15 @@
+pub mod Truth
+pub mod Orders
+pub mod Rises
+pub mod Found
+pub mod Ports
+pub mod Ties
+pub mod Arrows
+pub mod Permute
+pub mod Sorting
+pub mod Exact
+pub mod ValidMoved
+pub mod AllParts
+pub mod Grounded
+pub mod FactsHold
+pub mod Ordered
