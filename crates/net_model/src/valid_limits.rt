@@ -94,7 +94,7 @@ fn is_default_port(opts: &PortOpts) -> bool
     opts.cost == 100 && opts.priority == 32 && !opts.hairpin
 }
 
-#[tactic(auto, using(crate::proofs::Found::named_passes_found))]
+#[tactic(auto, using(crate::proofs::lemmas::Found::named_passes_found))]
 fn is_named_bridge(links: &[Link], name: &Name) -> bool
     requires { rises link_cmp links.now ≡ true }
     ensures { result ≡ named_passes (λ c. is_bridge c.kind) links.now name.now }

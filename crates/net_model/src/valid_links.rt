@@ -42,7 +42,7 @@ pub(crate) fn names_differ(links: &[Link]) -> bool
     names_step_up(links)
 }
 
-#[tactic(auto, using(crate::proofs::Found::named_passes_found))]
+#[tactic(auto, using(crate::proofs::lemmas::Found::named_passes_found))]
 fn has_base(links: &[Link], base: &Name) -> bool
     requires { rises link_cmp links.now ≡ true }
     ensures { result ≡ named_passes (λ b. can_be_base b.kind) links.now base.now }
@@ -100,7 +100,7 @@ pub(crate) fn bases_stand(links: &[Link]) -> bool
     each_base_stands(links) && vlans_differ(links)
 }
 
-#[tactic(auto, using(crate::proofs::Found::named_passes_found))]
+#[tactic(auto, using(crate::proofs::lemmas::Found::named_passes_found))]
 fn takes_port(links: &[Link], controller: &Name, port: &Kind) -> bool
     requires { rises link_cmp links.now ≡ true }
     ensures { result ≡ named_passes (λ c. takes c.kind port.now) links.now controller.now }
@@ -126,7 +126,7 @@ pub(crate) fn controllers_take(links: &[Link]) -> bool
     links.iter().all(|link| controller_takes(links, link))
 }
 
-#[tactic(auto, using(crate::proofs::Found::named_passes_found))]
+#[tactic(auto, using(crate::proofs::lemmas::Found::named_passes_found))]
 fn is_named_up(links: &[Link], name: &Name) -> bool
     requires { rises link_cmp links.now ≡ true }
     ensures { result ≡ named_passes (λ b. b.up) links.now name.now }
@@ -154,7 +154,7 @@ pub(crate) fn bases_up(links: &[Link]) -> bool
         .all(|link| !link.up || base_is_up(links, &link.kind))
 }
 
-#[tactic(auto, using(crate::proofs::Found::named_passes_found))]
+#[tactic(auto, using(crate::proofs::lemmas::Found::named_passes_found))]
 fn allows(links: &[Link], name: &Name, mtu: u32) -> bool
     requires { rises link_cmp links.now ≡ true }
     ensures { result ≡ named_passes (λ b. nat_le mtu b.mtu) links.now name.now }
@@ -192,7 +192,7 @@ fn is_bond_or_bridge(kind: &Kind) -> bool
     is_bond(kind) || is_bridge(kind)
 }
 
-#[tactic(auto, using(crate::proofs::Found::named_passes_found))]
+#[tactic(auto, using(crate::proofs::lemmas::Found::named_passes_found))]
 fn is_named_bond_or_bridge(links: &[Link], name: &Name) -> bool
     requires { rises link_cmp links.now ≡ true }
     ensures { result ≡ named_passes (λ c. is_bond_or_bridge c.kind) links.now name.now }

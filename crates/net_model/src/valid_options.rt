@@ -73,7 +73,7 @@ pub fn bond_ok(mode: BondMode, opts: &BondOpts, ports: &Vec<Name>) -> bool
     primary_ok(mode, &opts.primary, ports) && rest_ok(mode, opts)
 }
 
-#[tactic(auto, using(crate::proofs::Found::named_passes_found))]
+#[tactic(auto, using(crate::proofs::lemmas::Found::named_passes_found))]
 fn has_port(links: &[Link], controller: &Name, port: &Name) -> bool
     requires { rises link_cmp links.now ≡ true }
     ensures { result ≡ named_passes (is_port_of controller.now) links.now port.now }
@@ -81,7 +81,7 @@ fn has_port(links: &[Link], controller: &Name, port: &Name) -> bool
     find_link(links, port).is_some_and(|link| is_port_of(link, controller))
 }
 
-#[tactic(auto, using(crate::proofs::Ports::among_ports))]
+#[tactic(auto, using(crate::proofs::lemmas::Ports::among_ports))]
 fn is_among_ports(links: &[Link], controller: &Name, port: &Name) -> bool
     requires { rises link_cmp links.now ≡ true }
     ensures { result ≡ is_among (ports_of links.now controller.now) port.now }

@@ -36,7 +36,7 @@ fn route_on_link(link: &Link, route: &Route) -> bool
     }
 }
 
-#[tactic(auto, using(crate::proofs::Found::named_passes_found))]
+#[tactic(auto, using(crate::proofs::lemmas::Found::named_passes_found))]
 fn route_stands(links: &[Link], route: &Route) -> bool
     requires { rises link_cmp links.now ≡ true }
     ensures { result ≡ route_stands links.now route.now }
