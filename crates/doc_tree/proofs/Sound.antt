@@ -13,11 +13,12 @@ use Rattle.doc_tree.specs.declared.read.JsonFault.{JsonFault}
 use Rattle.doc_tree.specs.declared.read.JsonFault.TheVariants.{TooLarge, TooDeep}
 use Rattle.doc_tree.proofs.Sorted.{distinct-from_order}
 use Rattle.doc_tree.proofs.Fair.{read-IsOfText}
+use Rattle.doc_tree.specs.declared.limits.TheConstants.{MAX_BYTES, MAX_LEVELS}
 
 pub record IsSound (s : Shape) : Type 0 where
   pub order : is_in_order s ≡ true
   pub distinct : is_distinct s ≡ true
-  pub depth : levels s ≤ 32
+  pub depth : levels s ≤ MAX_LEVELS
   pub short : has_short_lists s ≡ true
 
 json_of-read : (bytes : List ℕ) (d : Data) → json_of bytes ≡ Some d → read bytes ≡ Some d
@@ -27,9 +28,9 @@ json_of-read bytes d e = go (is_utf8 bytes) e where
   go true h = h
   go false h = absurd (cc)
 
-pub json_of-short : (bytes : List ℕ) (d : Data) → nat_lt 4194304 (length bytes) ≡ false → json_of bytes ≡ Some d → (is_in_order (shape_of d) ≡ true) × (has_short_lists (shape_of d) ≡ true)
+pub json_of-short : (bytes : List ℕ) (d : Data) → nat_lt MAX_BYTES (length bytes) ≡ false → json_of bytes ≡ Some d → (is_in_order (shape_of d) ≡ true) × (has_short_lists (shape_of d) ≡ true)
 json_of-short bytes d small e =
-    let at_most : length bytes ≤ 4194304 = ltb-false 4194304 (length bytes) small in
+    let at_most : length bytes ≤ MAX_BYTES = ltb-false MAX_BYTES (length bytes) small in
     read-IsOfText bytes d (json_of-read bytes d e) (omega arith)
 
 found_none : (o : Option Steps) (t s : Shape) → unless_found o t ≡ Ok s → t ≡ s
@@ -38,21 +39,21 @@ found_none (Some steps) t s e = absurd (cc)
 
 of_tree : (bytes : List ℕ) (s : Shape) → json_tree bytes ≡ Ok s → IsSound s
 unfolding json_tree
-of_tree bytes s e = size (nat_lt 4194304 (length bytes)) refl e where
-  value : (d : Data) → json_of bytes ≡ Some d → nat_lt 4194304 (length bytes) ≡ false → (b : Bool) → nat_le (levels (shape_of d)) 32 ≡ b → (if b then whole_tree d else Err TooDeep) ≡ Ok s → IsSound s
+of_tree bytes s e = size (nat_lt MAX_BYTES (length bytes)) refl e where
+  value : (d : Data) → json_of bytes ≡ Some d → nat_lt MAX_BYTES (length bytes) ≡ false → (b : Bool) → nat_le (levels (shape_of d)) MAX_LEVELS ≡ b → (if b then whole_tree d else Err TooDeep) ≡ Ok s → IsSound s
   value d is small true fits h =
       let same : shape_of d ≡ s = found_none (not_whole d) (shape_of d) s h in
       let fair = json_of-short bytes d small is in
       let order : is_in_order s ≡ true = ap is_in_order (sym same) ∙ fair.0 in
-      let depth : levels (shape_of d) ≤ 32 = leb-true (levels (shape_of d)) 32 fits in
+      let depth : levels (shape_of d) ≤ MAX_LEVELS = leb-true (levels (shape_of d)) MAX_LEVELS fits in
       record { order = order; distinct = distinct-from_order s order; depth = omega (arith, ap levels same, depth); short = ap has_short_lists (sym same) ∙ fair.1 }
   value d is small false fits h = absurd (cc)
 
-  text : (o : Option Data) → json_of bytes ≡ o → nat_lt 4194304 (length bytes) ≡ false → tree_of_value o ≡ Ok s → IsSound s
+  text : (o : Option Data) → json_of bytes ≡ o → nat_lt MAX_BYTES (length bytes) ≡ false → tree_of_value o ≡ Ok s → IsSound s
   text None is small h = absurd (cc)
-  text (Some d) is small h = value d is small (nat_le (levels (shape_of d)) 32) refl h
+  text (Some d) is small h = value d is small (nat_le (levels (shape_of d)) MAX_LEVELS) refl h
 
-  size : (b : Bool) → nat_lt 4194304 (length bytes) ≡ b → (if b then Err TooLarge else tree_of_value (json_of bytes)) ≡ Ok s → IsSound s
+  size : (b : Bool) → nat_lt MAX_BYTES (length bytes) ≡ b → (if b then Err TooLarge else tree_of_value (json_of bytes)) ≡ Ok s → IsSound s
   size true is h = absurd (cc)
   size false is h = text (json_of bytes) refl is h
 

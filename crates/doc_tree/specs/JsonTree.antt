@@ -9,6 +9,7 @@ use Rattle.base_model.specs.declared.path.PathStep.{PathStep}
 use Rattle.base_model.specs.declared.path.PathStep.TheVariants.{Key, At}
 use Rattle.doc_tree.specs.Shape.{Shape, nothing, truth, whole, text, list, mapping, Shapes, no_shapes, more, Pairs, no_pairs, pair, shape, levels}
 use Rattle.doc_tree.specs.declared.tree.Tree.{Tree}
+use Rattle.doc_tree.specs.declared.limits.TheConstants.{MAX_BYTES, MAX_LEVELS}
 use Rattle.doc_tree.specs.declared.read.JsonFault.{JsonFault}
 use Rattle.doc_tree.specs.declared.read.JsonFault.TheVariants.{NotJson, NotWhole, TooDeep, TooLarge, OutOfMemory}
 
@@ -88,10 +89,10 @@ whole_tree d = unless_found (not_whole d) (shape_of d)
 
 abbrev pub tree_of_value : Option Data → Result Shape JsonFault
 tree_of_value None = Err NotJson
-tree_of_value (Some d) = if nat_le (levels (shape_of d)) 32 then whole_tree d else Err TooDeep
+tree_of_value (Some d) = if nat_le (levels (shape_of d)) MAX_LEVELS then whole_tree d else Err TooDeep
 
 unfoldable pub json_tree : List ℕ → Result Shape JsonFault
-json_tree bytes = if nat_lt 4194304 (length bytes) then Err TooLarge else tree_of_value (json_of bytes)
+json_tree bytes = if nat_lt MAX_BYTES (length bytes) then Err TooLarge else tree_of_value (json_of bytes)
 
 -- an answer is the defined one, or want of memory
 abbrev pub Gives : Result Shape JsonFault → Result Tree JsonFault → Type 0

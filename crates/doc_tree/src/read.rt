@@ -7,26 +7,21 @@ ghost use Rattle.doc_tree.specs.JsonTree.{json_tree, Gives};
 ghost use Rattle.doc_tree.specs.Reading.{within, items_within, members_within, integer_of, MakesTree, MakesItems, MakesPairs, ReadsValue, IsFaultAt};
 ghost use Rattle.doc_tree.specs.declared.read.Stop.TheVariants.{OutOfMemory};
 
-use crate::Tree;
+use crate::limits::{MAX_BYTES, MAX_LEVELS};
+use crate::tree::Tree;
 use base_model::{Items, Path, PathStep, Str};
 use serde_json::{Category, Map, Number, Value};
 use std::alloc::{AllocError, AllocFailed, Global};
 
-/// The bytes that a text may have.
-const LIMIT: usize = 4_194_304;
-
-/// The levels that a tree may have.
-const LEVELS: u32 = 32;
-
 /// Why a text gives no tree. Of several causes the one that stands first here is answered.
 #[derive(Debug, PartialEq, Eq, Drop)]
 pub enum JsonFault {
-    /// The text has more than 4,194,304 bytes.
+    /// The text has more than [`MAX_BYTES`] bytes.
     TooLarge,
     /// `serde_json` refuses the bytes: they aren't UTF-8, no JSON, nested more than 127 deep, or have a number beyond
     /// every float.
     NotJson,
-    /// The tree has more than 32 levels.
+    /// The tree has more than [`MAX_LEVELS`] levels.
     TooDeep,
     /// The first number, in the order of the tree, that isn't a whole one of u64 or i64.
     NotWhole(Path),
@@ -90,7 +85,7 @@ impl Stop {
 
 /// Whether a value has at most so many levels.
 #[cycle(levels)]
-fn fits(value: &Value, room: u32) -> bool
+fn fits(value: &Value, room: usize) -> bool
     ensures { result ≡ within room (view value.now) }
 {
     if room == 0 {
@@ -104,7 +99,7 @@ fn fits(value: &Value, room: u32) -> bool
 }
 
 #[cycle(levels)]
-fn items_fit(items: &Vec<Value>, room: u32) -> bool
+fn items_fit(items: &Vec<Value>, room: usize) -> bool
     ensures { result ≡ items_within room (items_view items.now.items) }
 {
     for item in items {
@@ -116,7 +111,7 @@ fn items_fit(items: &Vec<Value>, room: u32) -> bool
 }
 
 #[cycle(levels)]
-fn members_fit(members: &Map<String, Value>, room: u32) -> bool
+fn members_fit(members: &Map<String, Value>, room: usize) -> bool
     ensures { result ≡ members_within room (members_view members.now.entries) }
 {
     for (_, member) in members.iter() {
@@ -138,7 +133,7 @@ fn integer_of(number: &Number) -> Option<i128>
 
 /// The tree of a value of at most so many levels. The value's texts and keys move into the tree.
 #[cycle(trees)]
-fn tree_of(alloc: Global, value: Value, room: u32) -> Result<Tree, Stop>
+fn tree_of(alloc: Global, value: Value, room: usize) -> Result<Tree, Stop>
     ensures { MakesTree room (view value) result }
 {
     if room == 0 {
@@ -158,7 +153,7 @@ fn tree_of(alloc: Global, value: Value, room: u32) -> Result<Tree, Stop>
 }
 
 #[cycle(trees)]
-fn trees_of(alloc: Global, items: Vec<Value>, room: u32) -> Result<Vec<Tree>, Stop>
+fn trees_of(alloc: Global, items: Vec<Value>, room: usize) -> Result<Vec<Tree>, Stop>
     ensures { MakesItems room (items_view items.items) result }
 {
     let mut trees = Vec::with_capacity(alloc, items.len())?;
@@ -172,7 +167,7 @@ fn trees_of(alloc: Global, items: Vec<Value>, room: u32) -> Result<Vec<Tree>, St
 }
 
 #[cycle(trees)]
-fn pairs_of(alloc: Global, members: Map<String, Value>, room: u32) -> Result<Vec<(Str, Tree)>, Stop>
+fn pairs_of(alloc: Global, members: Map<String, Value>, room: usize) -> Result<Vec<(Str, Tree)>, Stop>
     ensures { MakesPairs room (members_view members.entries) result }
 {
     let mut pairs = Vec::with_capacity(alloc, members.len())?;
@@ -204,7 +199,7 @@ fn fault_at(alloc: Global, bytes: &[u8], mut steps: Vec<PathStep>) -> JsonFault
 {
     match value_of(alloc, bytes) {
         Ok(value) => {
-            if !fits(&value, LEVELS) {
+            if !fits(&value, MAX_LEVELS) {
                 return JsonFault::TooDeep;
             }
             steps.reverse();
@@ -219,11 +214,11 @@ fn fault_at(alloc: Global, bytes: &[u8], mut steps: Vec<PathStep>) -> JsonFault
 fn read_tree(alloc: Global, bytes: &[u8]) -> Result<Tree, JsonFault>
     ensures { Gives (json_tree bytes.now) result }
 {
-    if bytes.len() > LIMIT {
+    if bytes.len() > MAX_BYTES {
         return Err(JsonFault::TooLarge);
     }
     let value = value_of(alloc, bytes)?;
-    match tree_of(alloc, value, LEVELS) {
+    match tree_of(alloc, value, MAX_LEVELS) {
         Ok(tree) => Ok(tree),
         Err(Stop::NotWhole(steps)) => Err(fault_at(alloc, bytes, steps)),
         Err(Stop::TooDeep) => Err(JsonFault::TooDeep),
@@ -231,7 +226,7 @@ fn read_tree(alloc: Global, bytes: &[u8]) -> Result<Tree, JsonFault>
     }
 }
 
-/// The tree of a JSON text of at most 4,194,304 bytes.
+/// The tree of a JSON text of at most [`MAX_BYTES`] bytes.
 ///
 /// Of a key that comes twice in an object the last value stays, and each map's pairs come in the order of their keys'
 /// bytes. `-0`, a number with a point or an exponent and a whole number beyond u64 and i64 aren't whole.
@@ -239,7 +234,7 @@ pub fn tree_of_json(alloc: Global, bytes: &[u8]) -> Result<Tree, JsonFault>
     ensures tree { Gives (json_tree bytes.now) result }
     ensures order { IfOk result (λ tree. is_in_order (shape tree) ≡ true) }
     ensures distinct { IfOk result (λ tree. is_distinct (shape tree) ≡ true) }
-    ensures depth { IfOk result (λ tree. levels (shape tree) ≤ 32) }
+    ensures depth { IfOk result (λ tree. levels (shape tree) ≤ MAX_LEVELS) }
     ensures short { IfOk result (λ tree. has_short_lists (shape tree) ≡ true) }
 {
     read_tree(alloc, bytes)

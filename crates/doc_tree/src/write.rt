@@ -8,7 +8,8 @@ ghost use Rattle.doc_tree.specs.JsonText.{number_of, WritesText};
 ghost use Rattle.doc_tree.specs.Writing.{MakesValue, MakesList, MakesMap};
 ghost use Rattle.doc_tree.specs.declared.write.TextFault.TheVariants.{OutOfMemory};
 
-use crate::Tree;
+use crate::limits::{MAX_BYTES, MAX_LEVELS};
+use crate::tree::Tree;
 use base_model::Str;
 use serde_json::{Map, Value};
 use std::alloc::{AllocError, AllocFailed, Global};
@@ -91,12 +92,12 @@ fn members_of(alloc: Global, pairs: &Vec<(Str, Tree)>) -> Result<Map<String, Val
 
 /// The compact JSON text of a tree, with each map's pairs in the order of their keys' bytes.
 ///
-/// Where the tree has at most 32 levels and the text at most 4,194,304 bytes, the text reads as the tree with its pairs
+/// Where the tree has at most [`MAX_LEVELS`] levels and the text at most [`MAX_BYTES`] bytes, the text reads as the tree with its pairs
 /// in that order.
 pub fn json_of_tree(alloc: Global, tree: &Tree) -> Result<Vec<u8>, TextFault>
     requires { is_distinct (shape tree.now) ≡ true }
     ensures text { WritesText (shape tree.now) result }
-    ensures reads_back { IfOk result (λ text. levels (shape tree.now) ≤ 32 → length text.items ≤ 4194304
+    ensures reads_back { IfOk result (λ text. levels (shape tree.now) ≤ MAX_LEVELS → length text.items ≤ MAX_BYTES
         → json_tree text.items ≡ Ok (in_order (shape tree.now))) }
 {
     let value = value_of(alloc, tree)?;

@@ -15,8 +15,8 @@ fault bytes NotJson e h = e ∙ ap tree_of_value h
 fault bytes OutOfMemory e h = tt
 fault bytes _ e h = absurd h
 
-pub returns-then-bytes-gt-LIMIT : goal.returns-then-bytes-gt-LIMIT
-returns-then-bytes-gt-LIMIT c = too_large _ (search rules)
+pub returns-then-bytes-gt-MAX_BYTES : goal.returns-then-bytes-gt-MAX_BYTES
+returns-then-bytes-gt-MAX_BYTES c = too_large _ (search rules)
 
 pub returns-in_err-value : goal.returns-in_err-value
 returns-in_err-value c =
