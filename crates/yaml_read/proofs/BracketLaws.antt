@@ -1,5 +1,5 @@
 -- One turn of the reading of flow with the open brackets in hand.
-use Rattle.std.proofs.Common.{◌≡◌, ◌∙◌, ◌++◌, ◌∷◌, ◌-◌, ◌<◌, ◌+◌, ℕ, zero, suc, [], List, map, true, false, ◌||◌, Bool, Option, Result, Ok, Err, refl, sym, ap, arith}
+use Rattle.std.proofs.Common.{◌≡◌, ◌∙◌, ◌++◌, ◌∷◌, ◌-◌, ◌<◌, ℕ, suc, [], List, map, true, false, ◌||◌, Bool, Option, Result, Ok, Err, refl, sym, ap, arith}
 use Rattle.doc_tree.specs.Shape.{Shape}
 use Rattle.doc_tree.specs.declared.tree.Tree.{Tree}
 use Rattle.yaml_read.specs.declared.stop.Why.{Why}
@@ -8,7 +8,7 @@ use Rattle.yaml_read.specs.declared.stop.Stop.{Stop}
 use Rattle.yaml_read.specs.declared.stop.Repeats.{Repeats}
 use Rattle.yaml_read.specs.declared.brackets.Bracket.{Bracket}
 use Rattle.yaml_read.specs.declared.brackets.Bracket.TheVariants.{InList, InMap}
-use Rattle.yaml_read.specs.Bytes.{comma, left_bracket, right_bracket, left_brace, right_brace, begins, tail, skip_spaces, max_bytes}
+use Rattle.yaml_read.specs.Bytes.{comma, left_bracket, right_bracket, left_brace, right_brace, begins, tail, skip_spaces}
 use Rattle.yaml_read.specs.Keys.{Read, ◌>>=◌, begins_other, scalar}
 use Rattle.yaml_read.specs.Flow.{behind_entry, begins_node, next_key, items_step, flow_items, flow_value, pairs_step, flow_pairs, flow}
 use Rattle.yaml_read.specs.Brackets.{end_of, without_levels, behind, inside, from_node, from_value, stop_of, is_other_stop, is_repeat_stop}
@@ -16,6 +16,8 @@ use Rattle.yaml_read.specs.Faults.{is_other, is_repeat}
 use Rattle.yaml_read.specs.Seen.{Fails}
 use Rattle.yaml_read.proofs.Fronts.{one_more, Fails-bind, Fails-same}
 use Rattle.yaml_read.proofs.FlowLaws.{flow_other, flow_deep, flow_unfit, flow_list, flow_map, flow_scalar, list_rest, map_rest}
+use Rattle.doc_tree.specs.declared.limits.TheConstants.{MAX_BYTES}
+use Rattle.yaml_read.specs.declared.style.Style.TheVariants.{Flow}
 
 bind_assoc : {A B C E : Type 0} (r : Result A E) (f : A → Result B E) (g : B → Result C E) → ((r >>= f) >>= g) ≡ (r >>= (λ x. f x >>= g))
 bind_assoc (Ok x) f g = refl
@@ -44,20 +46,20 @@ module _ (repeats : Repeats) (levels : ℕ) (bs : List Bracket) where
         by_node false is = ap (λ (r : Read Shape). r >>= (λ v. behind repeats bs v.1)) (flow_unfit repeats levels text plain none is) ∙ rw is refl
 
       module _ (some : 0 < levels) where
-        pub node_list : begins left_bracket text ≡ true → from_node repeats levels bs text ≡ inside repeats (InList (levels - 1) max_bytes ∷ bs) (tail text)
+        pub node_list : begins left_bracket text ≡ true → from_node repeats levels bs text ≡ inside repeats (InList (levels - 1) MAX_BYTES ∷ bs) (tail text)
         node_list is =
             ap (λ (r : Read Shape). r >>= (λ v. behind repeats bs v.1)) (flow_list repeats levels text plain some is)
-            ∙ (bind_assoc (flow_items repeats (levels - 1) (flow repeats (levels - 1)) max_bytes (tail text)) list_rest (λ v. behind repeats bs v.1)
-            ∙ sym (bind_assoc (flow_items repeats (levels - 1) (flow repeats (levels - 1)) max_bytes (tail text)) (λ x. Ok x.1) (behind repeats bs)))
+            ∙ (bind_assoc (flow_items repeats (levels - 1) (flow repeats (levels - 1)) MAX_BYTES (tail text)) list_rest (λ v. behind repeats bs v.1)
+            ∙ sym (bind_assoc (flow_items repeats (levels - 1) (flow repeats (levels - 1)) MAX_BYTES (tail text)) (λ x. Ok x.1) (behind repeats bs)))
 
         module _ (not_list : begins left_bracket text ≡ false) where
-          pub node_map : begins left_brace text ≡ true → from_node repeats levels bs text ≡ inside repeats (InMap (levels - 1) max_bytes [] ∷ bs) (tail text)
+          pub node_map : begins left_brace text ≡ true → from_node repeats levels bs text ≡ inside repeats (InMap (levels - 1) MAX_BYTES [] ∷ bs) (tail text)
           node_map is =
               ap (λ (r : Read Shape). r >>= (λ v. behind repeats bs v.1)) (flow_map repeats levels text plain some not_list is)
-              ∙ (bind_assoc (flow_pairs repeats (levels - 1) (flow repeats (levels - 1)) max_bytes [] (tail text)) map_rest (λ v. behind repeats bs v.1)
-              ∙ sym (bind_assoc (flow_pairs repeats (levels - 1) (flow repeats (levels - 1)) max_bytes [] (tail text)) (λ x. Ok x.1) (behind repeats bs)))
+              ∙ (bind_assoc (flow_pairs repeats (levels - 1) (flow repeats (levels - 1)) MAX_BYTES [] (tail text)) map_rest (λ v. behind repeats bs v.1)
+              ∙ sym (bind_assoc (flow_pairs repeats (levels - 1) (flow repeats (levels - 1)) MAX_BYTES [] (tail text)) (λ x. Ok x.1) (behind repeats bs)))
 
-          pub node_scalar : begins left_brace text ≡ false → from_node repeats levels bs text ≡ (scalar true text >>= (λ v. behind repeats bs v.1))
+          pub node_scalar : begins left_brace text ≡ false → from_node repeats levels bs text ≡ (scalar Flow text >>= (λ v. behind repeats bs v.1))
           node_scalar not_map = ap (λ (r : Read Shape). r >>= (λ v. behind repeats bs v.1)) (flow_scalar repeats levels text plain some not_list not_map)
 
   -- ---- the value of a pair

@@ -12,6 +12,8 @@ use Rattle.yaml_read.specs.Outside.{is_outside}
 use Rattle.yaml_read.specs.Reading.{Block, is_own, own_key, own_dash, begin_with, is_deeper, is_below_key, first_pair, first_item, value_of, pairs, items, some_pairs, some_items, node, document, all_rows}
 use Rattle.yaml_read.specs.Standing.{HasValue, IsNode, IsMapping, IsSequence, StandFor}
 use Rattle.yaml_read.proofs.Sound.{FirstPair, FirstItem, ok_is, node_some}
+use Rattle.doc_tree.specs.declared.limits.TheConstants.{MAX_LEVELS}
+use Rattle.yaml_read.specs.declared.style.Style.TheVariants as style
 
 abbrev list_of : Pairs → List (List ℕ × Shape)
 list_of no_pairs = []
@@ -30,20 +32,20 @@ shapes_of-trees_of no_shapes = refl
 shapes_of-trees_of (more t ts) = ap (more t) (shapes_of-trees_of ts)
 
 -- ---- a dash is no key
-lone_no_key : (bs : List ℕ) → at_gap bs ≡ true → key false (45 ∷ bs) ≡ None
+lone_no_key : (bs : List ℕ) → at_gap bs ≡ true → key style.Block (45 ∷ bs) ≡ None
 unfolding key
 lone_no_key bs gap = rw gap refl
 
-dash_no_key : (b : ℕ) (bs : List ℕ) → b ≡ 45 → at_gap bs ≡ true → key false (b ∷ bs) ≡ None
-dash_no_key b bs is gap = subst (λ (x : ℕ). key false (x ∷ bs) ≡ None) (sym is) (lone_no_key bs gap)
+dash_no_key : (b : ℕ) (bs : List ℕ) → b ≡ 45 → at_gap bs ≡ true → key style.Block (b ∷ bs) ≡ None
+dash_no_key b bs is gap = subst (λ (x : ℕ). key style.Block (x ∷ bs) ≡ None) (sym is) (lone_no_key bs gap)
 
-pub no_key : (bs : List ℕ) → is_dash bs ≡ true → key false bs ≡ None
+pub no_key : (bs : List ℕ) → is_dash bs ≡ true → key style.Block bs ≡ None
 no_key [] is = absurd (false≢true is)
 no_key (b ∷ bs) is =
     let both = and_parts (eqb b 45) (at_gap bs) is in
     dash_no_key b bs (eqb-true b 45 both.0) both.1
 
-pub key_no_dash : (bs : List ℕ) (k : List ℕ × List ℕ) → key false bs ≡ Some k → is_dash bs ≡ false
+pub key_no_dash : (bs : List ℕ) (k : List ℕ × List ℕ) → key style.Block bs ≡ Some k → is_dash bs ≡ false
 key_no_dash bs k is = elim (cases_Bool (is_dash bs)) as (λ _. is_dash bs ≡ false) [
   | inl dash ↦ let e : Some k ≡ None = sym is ∙ no_key bs dash in absurd cc
   | inr other ↦ other
@@ -67,11 +69,11 @@ key_parts false o k is = absurd cc
 
 pub key_column : (c : ℕ) (r : Row) (k : List ℕ × List ℕ) → own_key c r ≡ Some k → r.column ≡ c
 unfolding own_key
-key_column c r k is = own_column c r (key_parts (is_own c r) (key false r.text) k is).0
+key_column c r k is = own_column c r (key_parts (is_own c r) (key style.Block r.text) k is).0
 
 pub key_text : (c : ℕ) (r : Row) (k : List ℕ × List ℕ) → own_key c r ≡ Some k → is_dash r.text ≡ false
 unfolding own_key
-key_text c r k is = key_no_dash r.text k (key_parts (is_own c r) (key false r.text) k is).1
+key_text c r k is = key_no_dash r.text k (key_parts (is_own c r) (key style.Block r.text) k is).1
 
 pub no_own_dash : (c : ℕ) (r : Row) → is_dash r.text ≡ false → own_dash c r ≡ false
 unfolding own_dash
@@ -86,7 +88,7 @@ other_dash c r ne = ap (λ b. b && is_dash r.text) (other_own c r ne)
 
 other_key : (c : ℕ) (r : Row) → r.column ≢ c → own_key c r ≡ None
 unfolding own_key
-other_key c r ne = ap (λ b. cond b (key false r.text) None) (other_own c r ne)
+other_key c r ne = ap (λ b. cond b (key style.Block r.text) None) (other_own c r ne)
 
 -- ---- what may follow
 -- behind a sequence at this column, and behind a map
@@ -322,10 +324,10 @@ After-nothing t c = Before-any t c [] tt
 -- what stands so is read
 pub document_complete : (rows : List Row) (t : Shape) → StandFor rows t → document rows ≡ Ok t
 unfolding document
-document_complete rows t (inl is) = rw (is.0, is.1) (node_nothing 32)
-document_complete [] t (inr is) = absurd (node_some 32 t is)
+document_complete rows t (inl is) = rw (is.0, is.1) (node_nothing MAX_LEVELS)
+document_complete [] t (inr is) = absurd (node_some MAX_LEVELS t is)
 document_complete (r ∷ rows) t (inr is) =
-    let whole : node 32 (r ∷ rows) ≡ Ok (t, []) = ap (node 32) (sym (append-nil (r ∷ rows))) ∙ node_complete 32 r rows t [] is (After-nothing t r.column) in
+    let whole : node MAX_LEVELS (r ∷ rows) ≡ Ok (t, []) = ap (node MAX_LEVELS) (sym (append-nil (r ∷ rows))) ∙ node_complete MAX_LEVELS r rows t [] is (After-nothing t r.column) in
     rw whole refl
 
 -- no two trees stand for the same rows

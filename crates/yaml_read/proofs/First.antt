@@ -17,6 +17,7 @@ use Rattle.yaml_read.proofs.Fronts.{one_more}
 use Rattle.yaml_read.proofs.Sound.{FirstPair, FirstItem, value_sound, node_sound, pair_is, item_is, document_sound}
 use Rattle.yaml_read.proofs.Complete.{document_complete}
 use Rattle.yaml_read.proofs.Local.{headed, Is, Local, Local-pure, Local-cons, Local-same, Local-map, Local-seq, seq, mapped}
+use Rattle.doc_tree.specs.declared.limits.TheConstants.{MAX_LEVELS}
 
 -- ---- a fault names the line of its row
 cause_line : (w : Why) (n : ℕ) → line_of (by_cause w n) ≡ n
@@ -354,11 +355,11 @@ stops : (rows front : List Row) (r : Row) (rest : List Row) (f : YamlFault) (t :
 stops rows front r rest f t split named before after =
     (front, r, rest, split, sym named, (t, document_sound front t before), λ more u stands. not_both f u (sym (after more) ∙ document_complete (front ++ r ∷ more) u stands))
 
-document_is : (rows : List Row) (res : Block Shape) → node 32 rows ≡ res → document rows ≡ (res >>= (λ x. all_rows x.0 x.1))
+document_is : (rows : List Row) (res : Block Shape) → node MAX_LEVELS rows ≡ res → document rows ≡ (res >>= (λ x. all_rows x.0 x.1))
 unfolding document
 document_is rows res e = ap (λ (b : Block Shape). b >>= (λ x. all_rows x.0 x.1)) e
 
-first_of : (rows : List Row) (res : Block Shape) → node 32 rows ≡ res → Is (node 32) rows res → (f : YamlFault) → document rows ≡ Err f → StopAt rows (line_of f)
+first_of : (rows : List Row) (res : Block Shape) → node MAX_LEVELS rows ≡ res → Is (node MAX_LEVELS) rows res → (f : YamlFault) → document rows ≡ Err f → StopAt rows (line_of f)
 first_of rows (Ok (y, [])) at e f fails = absurd (not_both f y (sym fails ∙ document_is rows (Ok (y, [])) at))
 first_of rows (Ok (y, r ∷ rest)) at e f fails =
     let same : fault_of Unfit r ≡ f = err_is _ f (sym (document_is rows (Ok (y, r ∷ rest)) at) ∙ fails) in
@@ -370,4 +371,4 @@ first_of rows (Err d) at e f fails =
     (stops rows e.0 e.1 e.2 d e.6.0 e.3 e.4 (document_is e.0 (Ok (e.6.0, [])) e.6.1) (λ more. document_is (e.0 ++ e.1 ∷ more) (Err d) (e.5 more)))
 
 pub document_stops : (rows : List Row) (f : YamlFault) → document rows ≡ Err f → StopAt rows (line_of f)
-document_stops rows f fails = first_of rows (node 32 rows) refl (node_local 32 rows) f fails
+document_stops rows f fails = first_of rows (node MAX_LEVELS rows) refl (node_local MAX_LEVELS rows) f fails

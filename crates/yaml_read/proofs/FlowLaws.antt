@@ -5,11 +5,13 @@ use Rattle.yaml_read.specs.declared.stop.Why.{Why}
 use Rattle.yaml_read.specs.declared.stop.Why.TheVariants.{Outside, Deep, Unfit}
 use Rattle.yaml_read.specs.declared.stop.Stop.{Stop}
 use Rattle.yaml_read.specs.declared.stop.Repeats.{Repeats}
-use Rattle.yaml_read.specs.Bytes.{left_bracket, right_bracket, left_brace, right_brace, begins, tail, skip_spaces, max_bytes}
+use Rattle.yaml_read.specs.Bytes.{left_bracket, right_bracket, left_brace, right_brace, begins, tail, skip_spaces}
 use Rattle.yaml_read.specs.Keys.{Read, ◌>>=◌, begins_other, scalar}
 use Rattle.yaml_read.specs.Flow.{behind_entry, begins_node, next_key, items_step, flow_items, flow_value, pairs_step, flow_pairs, flow}
 use Rattle.yaml_read.specs.Seen.{Fails}
 use Rattle.yaml_read.proofs.Fronts.{turn, no_turn, behind_front, one_more, Fails-bind, Fails-same, fails_behind, ends_behind, goes_behind}
+use Rattle.doc_tree.specs.declared.limits.TheConstants.{MAX_BYTES}
+use Rattle.yaml_read.specs.declared.style.Style.TheVariants.{Flow}
 
 module _ (repeats : Repeats) (levels : ℕ) (value : List ℕ → Read Shape) (n i : ℕ) (lt : i < n) where
   module _ (front : List Shape) (text : List ℕ) (total : Read (List Shape)) (so_far : behind_front front (flow_items repeats levels value (n - i) text) ≡ total) where
@@ -131,15 +133,15 @@ module _ (repeats : Repeats) (levels : ℕ) (bs : List ℕ) where
       one_less = omega arith
 
       pub flow_list : begins left_bracket bs ≡ true
-          → flow repeats levels bs ≡ (flow_items repeats (levels - 1) (flow repeats (levels - 1)) max_bytes (tail bs) >>= list_rest)
+          → flow repeats levels bs ≡ (flow_items repeats (levels - 1) (flow repeats (levels - 1)) MAX_BYTES (tail bs) >>= list_rest)
       unfolding flow
       flow_list is = ap (λ (k : ℕ). flow repeats k bs) one_less ∙ rw (plain, is) refl
 
       pub flow_map : begins left_bracket bs ≡ false → begins left_brace bs ≡ true
-          → flow repeats levels bs ≡ (flow_pairs repeats (levels - 1) (flow repeats (levels - 1)) max_bytes [] (tail bs) >>= map_rest)
+          → flow repeats levels bs ≡ (flow_pairs repeats (levels - 1) (flow repeats (levels - 1)) MAX_BYTES [] (tail bs) >>= map_rest)
       unfolding flow
       flow_map not_list is = ap (λ (k : ℕ). flow repeats k bs) one_less ∙ rw (plain, not_list, is) refl
 
-      pub flow_scalar : begins left_bracket bs ≡ false → begins left_brace bs ≡ false → flow repeats levels bs ≡ scalar true bs
+      pub flow_scalar : begins left_bracket bs ≡ false → begins left_brace bs ≡ false → flow repeats levels bs ≡ scalar Flow bs
       unfolding flow
       flow_scalar not_list not_map = ap (λ (k : ℕ). flow repeats k bs) one_less ∙ rw (plain, not_list, not_map) refl

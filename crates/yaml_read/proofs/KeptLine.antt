@@ -6,7 +6,7 @@ use Rattle.doc_tree.specs.Shape.{Shape, nothing, list, mapping, shapes_of, pairs
 use Rattle.yaml_read.specs.declared.stop.Why.{Why}
 use Rattle.yaml_read.specs.declared.stop.Why.TheVariants.{Outside, Repeated, Deep, Unfit}
 use Rattle.yaml_read.specs.declared.stop.Repeats.TheVariants.{Refused}
-use Rattle.yaml_read.specs.Bytes.{comma, left_bracket, right_bracket, left_brace, right_brace, begins, tail, skip_spaces, trim_end, max_bytes}
+use Rattle.yaml_read.specs.Bytes.{comma, left_bracket, right_bracket, left_brace, right_brace, begins, tail, skip_spaces, trim_end}
 use Rattle.yaml_read.specs.Plain.{is_integer, is_null, plain_value, begins_plain, plain_split}
 use Rattle.yaml_read.specs.Quoted.{begins_quoted, quoted}
 use Rattle.yaml_read.specs.Keys.{Read, ◌>>=◌, or_unfit, begins_other, quoted_value, value_of_plain, scalar, key, is_among}
@@ -14,6 +14,9 @@ use Rattle.yaml_read.specs.Flow.{behind_entry, begins_node, next_key, flow_items
 use Rattle.yaml_read.specs.OnLine.{is_blank, is_over, is_over_plain, alone, value_at, on_line, entry_on_line}
 use Rattle.yaml_read.proofs.Fronts.{one_more}
 use Rattle.yaml_read.proofs.Kept.{Kept, AllKept, PairsKept, Kept-nothing, Kept-truth, Kept-whole, Kept-text, AllKept-none, AllKept-more, Kept-list, PairsKept-none, PairsKept-more, Kept-map}
+use Rattle.doc_tree.specs.declared.limits.TheConstants.{MAX_BYTES}
+use Rattle.yaml_read.specs.declared.style.Style.TheVariants.{Block, Flow}
+use Rattle.yaml_read.specs.declared.style.Style.{Style}
 
 abbrev ok : {A : Type 0} → A → Result A Why
 ok x = Ok x
@@ -48,20 +51,20 @@ unquoted_kept : (n : ℕ) (b : Bool) (p : List ℕ × List ℕ) (x : Shape × Li
 unquoted_kept n true p x some e = subst (λ (y : Shape × List ℕ). Kept n y.0) (ok_same (value_of_plain p) x e) (plain_kept n (trim_end p.0) some)
 unquoted_kept n false p x some e = absurd cc
 
-scalar_cases : (n : ℕ) (in_flow : Bool) (bs : List ℕ) (b : Bool) (x : Shape × List ℕ) → 0 < n
-    → cond b (or_unfit (option_map quoted_value (quoted bs))) (cond (begins_plain in_flow bs) (Ok (value_of_plain (plain_split in_flow false bs))) (Err Unfit)) ≡ Ok x → Kept n x.0
-scalar_cases n in_flow bs true x some e = quoted_kept n (quoted bs) x some e
-scalar_cases n in_flow bs false x some e = unquoted_kept n (begins_plain in_flow bs) (plain_split in_flow false bs) x some e
+scalar_cases : (n : ℕ) (style : Style) (bs : List ℕ) (b : Bool) (x : Shape × List ℕ) → 0 < n
+    → cond b (or_unfit (option_map quoted_value (quoted bs))) (cond (begins_plain style bs) (Ok (value_of_plain (plain_split style false bs))) (Err Unfit)) ≡ Ok x → Kept n x.0
+scalar_cases n style bs true x some e = quoted_kept n (quoted bs) x some e
+scalar_cases n style bs false x some e = unquoted_kept n (begins_plain style bs) (plain_split style false bs) x some e
 
-scalar_kept : (n : ℕ) (in_flow : Bool) (bs : List ℕ) (x : Shape × List ℕ) → 0 < n → scalar in_flow bs ≡ Ok x → Kept n x.0
+scalar_kept : (n : ℕ) (style : Style) (bs : List ℕ) (x : Shape × List ℕ) → 0 < n → scalar style bs ≡ Ok x → Kept n x.0
 unfolding scalar
-scalar_kept n in_flow bs x some e = scalar_cases n in_flow bs (begins_quoted bs) x some e
+scalar_kept n style bs x some e = scalar_cases n style bs (begins_quoted bs) x some e
 
 new_key : (keys : List (List ℕ)) (bs : List ℕ) (k : List ℕ × List ℕ) → next_key Refused keys bs ≡ Ok k → is_among k.0 keys ≡ false
 unfolding next_key
 new_key keys bs k e =
-    let plain = otherwise (begins_other bs) Outside (or_unfit (key true bs) >>= (λ k. cond (is_among k.0 keys) (Err Repeated) (Ok k))) k e in
-    let found = bound (or_unfit (key true bs)) (λ k. cond (is_among k.0 keys) (Err Repeated) (Ok k)) k plain.1 in
+    let plain = otherwise (begins_other bs) Outside (or_unfit (key Flow bs) >>= (λ k. cond (is_among k.0 keys) (Err Repeated) (Ok k))) k e in
+    let found = bound (or_unfit (key Flow bs)) (λ k. cond (is_among k.0 keys) (Err Repeated) (Ok k)) k plain.1 in
     let new = otherwise (is_among found.0.0 keys) Repeated (Ok found.0) k found.2 in
     subst (λ (x : List ℕ × List ℕ). is_among x.0 keys ≡ false) (ok_same found.0 k new.1) new.0
 
@@ -131,31 +134,31 @@ deep_fails false true x e = absurd cc
 deep_fails false false x e = absurd cc
 
 abbrev flow_list : ℕ → List ℕ → Read Shape
-flow_list n bs = flow_items Refused n (flow Refused n) max_bytes (tail bs) >>= (λ x. Ok (list (shapes_of x.0), x.1))
+flow_list n bs = flow_items Refused n (flow Refused n) MAX_BYTES (tail bs) >>= (λ x. Ok (list (shapes_of x.0), x.1))
 
 abbrev flow_map : ℕ → List ℕ → Read Shape
-flow_map n bs = flow_pairs Refused n (flow Refused n) max_bytes [] (tail bs) >>= (λ x. Ok (mapping (pairs_of x.0), x.1))
+flow_map n bs = flow_pairs Refused n (flow Refused n) MAX_BYTES [] (tail bs) >>= (λ x. Ok (mapping (pairs_of x.0), x.1))
 
-few : max_bytes < 2 ^ 31
+few : MAX_BYTES < 2 ^ 31
 few = omega arith
 
 flow_cases : (n : ℕ) (bs : List ℕ) → ((bs : List ℕ) (x : Shape × List ℕ) → flow Refused n bs ≡ Ok x → Kept n x.0)
-    → (a b : Bool) (x : Shape × List ℕ) → cond a (flow_list n bs) (cond b (flow_map n bs) (scalar true bs)) ≡ Ok x → Kept (suc n) x.0
+    → (a b : Bool) (x : Shape × List ℕ) → cond a (flow_list n bs) (cond b (flow_map n bs) (scalar Flow bs)) ≡ Ok x → Kept (suc n) x.0
 flow_cases n bs ih true b x e =
-    let r = bound (flow_items Refused n (flow Refused n) max_bytes (tail bs)) (λ x. Ok (list (shapes_of x.0), x.1)) x e in
+    let r = bound (flow_items Refused n (flow Refused n) MAX_BYTES (tail bs)) (λ x. Ok (list (shapes_of x.0), x.1)) x e in
     let made : Shape × List ℕ = (list (shapes_of r.0.0), r.0.1) in
-    subst (λ (y : Shape × List ℕ). Kept (suc n) y.0) (ok_same made x r.2) (Kept-list n max_bytes r.0.0 few (items_kept n (flow Refused n) ih max_bytes (tail bs) r.0 r.1))
+    subst (λ (y : Shape × List ℕ). Kept (suc n) y.0) (ok_same made x r.2) (Kept-list n MAX_BYTES r.0.0 few (items_kept n (flow Refused n) ih MAX_BYTES (tail bs) r.0 r.1))
 flow_cases n bs ih false true x e =
-    let r = bound (flow_pairs Refused n (flow Refused n) max_bytes [] (tail bs)) (λ x. Ok (mapping (pairs_of x.0), x.1)) x e in
+    let r = bound (flow_pairs Refused n (flow Refused n) MAX_BYTES [] (tail bs)) (λ x. Ok (mapping (pairs_of x.0), x.1)) x e in
     let made : Shape × List ℕ = (mapping (pairs_of r.0.0), r.0.1) in
-    subst (λ (y : Shape × List ℕ). Kept (suc n) y.0) (ok_same made x r.2) (Kept-map n [] r.0.0 (pairs_kept n (flow Refused n) ih max_bytes [] (tail bs) r.0 r.1))
-flow_cases n bs ih false false x e = scalar_kept (suc n) true bs x (omega arith) e
+    subst (λ (y : Shape × List ℕ). Kept (suc n) y.0) (ok_same made x r.2) (Kept-map n [] r.0.0 (pairs_kept n (flow Refused n) ih MAX_BYTES [] (tail bs) r.0 r.1))
+flow_cases n bs ih false false x e = scalar_kept (suc n) Flow bs x (omega arith) e
 
 flow_kept : (n : ℕ) (bs : List ℕ) (x : Shape × List ℕ) → flow Refused n bs ≡ Ok x → Kept n x.0
 unfolding flow
 flow_kept zero bs x e = absurd (deep_fails (begins_other bs) (begins_node bs) x e)
 flow_kept (suc n) bs x e =
-    let plain = otherwise (begins_other bs) Outside (cond (begins left_bracket bs) (flow_list n bs) (cond (begins left_brace bs) (flow_map n bs) (scalar true bs))) x e in
+    let plain = otherwise (begins_other bs) Outside (cond (begins left_bracket bs) (flow_list n bs) (cond (begins left_brace bs) (flow_map n bs) (scalar Flow bs))) x e in
     flow_cases n bs (flow_kept n) (begins left_bracket bs) (begins left_brace bs) x plain.1
 
 abbrev some : Shape → Option Shape
@@ -174,10 +177,10 @@ alone_kept n read over kept t e =
     subst (Kept n) (alone_is (over r.0.1) r.0.0 t r.2) (kept r.0 r.1)
 
 value_cases : (n : ℕ) (bs : List ℕ) (a b : Bool) (t : Shape) → 0 < n
-    → cond a (flow Refused n bs >>= (λ p. alone (is_over p.1) p.0)) (cond b (scalar false bs >>= (λ p. alone (is_over p.1) p.0)) (scalar false bs >>= (λ p. alone (is_over_plain p.1) p.0))) ≡ Ok (Some t) → Kept n t
+    → cond a (flow Refused n bs >>= (λ p. alone (is_over p.1) p.0)) (cond b (scalar Block bs >>= (λ p. alone (is_over p.1) p.0)) (scalar Block bs >>= (λ p. alone (is_over_plain p.1) p.0))) ≡ Ok (Some t) → Kept n t
 value_cases n bs true b t more e = alone_kept n (flow Refused n bs) is_over (flow_kept n bs) t e
-value_cases n bs false true t more e = alone_kept n (scalar false bs) is_over (λ x. scalar_kept n false bs x more) t e
-value_cases n bs false false t more e = alone_kept n (scalar false bs) is_over_plain (λ x. scalar_kept n false bs x more) t e
+value_cases n bs false true t more e = alone_kept n (scalar Block bs) is_over (λ x. scalar_kept n Block bs x more) t e
+value_cases n bs false false t more e = alone_kept n (scalar Block bs) is_over_plain (λ x. scalar_kept n Block bs x more) t e
 
 line_cases : (n : ℕ) (bs : List ℕ) (b : Bool) (t : Shape) → 0 < n → cond b (ok None) (value_at Refused n bs) ≡ Ok (Some t) → Kept n t
 line_cases n bs true t more e = let none : None ≡ some t = ok_same None (some t) e in absurd cc

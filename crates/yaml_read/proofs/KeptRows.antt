@@ -7,7 +7,7 @@ use Rattle.doc_tree.specs.Shape.{Shape, nothing, list, mapping, shapes_of, pairs
 use Rattle.yaml_read.specs.declared.stop.Why.{Why}
 use Rattle.yaml_read.specs.declared.stop.Why.TheVariants.{Repeated}
 use Rattle.yaml_read.specs.declared.fault.YamlFault.TheVariants.{TooLarge, NotUtf8}
-use Rattle.yaml_read.specs.Bytes.{tail, max_bytes, is_same}
+use Rattle.yaml_read.specs.Bytes.{tail, is_same}
 use Rattle.yaml_read.specs.Keys.{◌>>=◌, is_among}
 use Rattle.yaml_read.specs.OnLine.{is_blank, entry_on_line}
 use Rattle.yaml_read.specs.Rows.{Row, is_dash, row, begins_compact, rows_of_row, rows_of_line, rows_from, without_start, rows_of}
@@ -18,6 +18,7 @@ use Rattle.yaml_read.proofs.LineLaws.{lines_count}
 use Rattle.yaml_read.proofs.Sound.{FirstPair, FirstItem, ok_is, bind_ok, passed, pair_is, item_is, value_sound, node_sound}
 use Rattle.yaml_read.proofs.Kept.{Kept, AllKept, PairsKept, Kept-nothing, AllKept-none, AllKept-more, Kept-list, PairsKept-none, PairsKept-more, Kept-map}
 use Rattle.yaml_read.proofs.KeptLine.{entry_kept, entry_level}
+use Rattle.doc_tree.specs.declared.limits.TheConstants.{MAX_BYTES, MAX_LEVELS}
 
 module _ (n : ℕ) (node_kept : (rows : List Row) (y : Shape × List Row) → 0 < n → length rows + 1 < 2 ^ 31 → node n rows ≡ Ok y → Kept n y.0) where
   below_kept : (b : Bool) (rows : List Row) (y : Shape × List Row) → 0 < n → length rows + 1 < 2 ^ 31 → below n (node n) b rows ≡ Ok y → Kept n y.0
@@ -109,15 +110,15 @@ node_kept n [] y some few e = subst (λ (x : Shape × List Row). Kept n x.0) (ok
 node_kept zero (r ∷ rows) y some few e = absurd (omega arith)
 node_kept (suc n) (r ∷ rows) y some few e = node_cases n (node_kept n) r rows y few (is_dash r.text) e
 
-whole_kept : (t : Shape) (rows : List Row) (u : Shape) → Kept 32 t → all_rows t rows ≡ Ok u → Kept 32 u
-whole_kept t [] u kept e = subst (Kept 32) (ok_is t u e) kept
+whole_kept : (t : Shape) (rows : List Row) (u : Shape) → Kept MAX_LEVELS t → all_rows t rows ≡ Ok u → Kept MAX_LEVELS u
+whole_kept t [] u kept e = subst (Kept MAX_LEVELS) (ok_is t u e) kept
 whole_kept t (r ∷ rows) u kept e = absurd cc
 
-pub document_kept : (rows : List Row) (t : Shape) → length rows + 1 < 2 ^ 31 → document rows ≡ Ok t → Kept 32 t
+pub document_kept : (rows : List Row) (t : Shape) → length rows + 1 < 2 ^ 31 → document rows ≡ Ok t → Kept MAX_LEVELS t
 unfolding document
 document_kept rows t few e =
-    let b = bind_ok (node 32 rows) (λ x. all_rows x.0 x.1) t e in
-    whole_kept b.0.0 b.0.1 t (node_kept 32 rows b.0 (omega arith) few b.1) b.2
+    let b = bind_ok (node MAX_LEVELS rows) (λ x. all_rows x.0 x.1) t e in
+    whole_kept b.0.0 b.0.1 t (node_kept MAX_LEVELS rows b.0 (omega arith) few b.1) b.2
 
 -- ---- how many rows a text has
 row_count : (b : Bool) (d k r : Row) → length (cond {A = List Row} b (d ∷ k ∷ []) (r ∷ [])) ≤ 2
@@ -148,11 +149,11 @@ rows_count : (bytes : List ℕ) → length (rows_of bytes) ≤ 2 * (length bytes
 unfolding rows_of
 rows_count bytes = omega (arith, start_count (rows_from 1 (lines bytes)), from_count 1 (lines bytes), lines_count bytes)
 
-kept_cases : (bytes : List ℕ) (t : Shape) (a b : Bool) (n : ℕ) → ltb max_bytes (length bytes) ≡ a → cond a (Err TooLarge) (cond b (Err (NotUtf8 n)) (document (rows_of bytes))) ≡ Ok t → Kept 32 t
+kept_cases : (bytes : List ℕ) (t : Shape) (a b : Bool) (n : ℕ) → ltb MAX_BYTES (length bytes) ≡ a → cond a (Err TooLarge) (cond b (Err (NotUtf8 n)) (document (rows_of bytes))) ≡ Ok t → Kept MAX_LEVELS t
 kept_cases bytes t true b n at e = absurd cc
 kept_cases bytes t false true n at e = absurd cc
-kept_cases bytes t false false n at e = document_kept (rows_of bytes) t (omega (arith, ltb-false max_bytes (length bytes) at, rows_count bytes)) e
+kept_cases bytes t false false n at e = document_kept (rows_of bytes) t (omega (arith, ltb-false MAX_BYTES (length bytes) at, rows_count bytes)) e
 
-pub reading_kept : (bytes : List ℕ) (t : Shape) → reading bytes ≡ Ok t → Kept 32 t
+pub reading_kept : (bytes : List ℕ) (t : Shape) → reading bytes ≡ Ok t → Kept MAX_LEVELS t
 unfolding reading
-reading_kept bytes t e = kept_cases bytes t (ltb max_bytes (length bytes)) (ltb (utf8_valid_len bytes) (length bytes)) (utf8_valid_len bytes) refl e
+reading_kept bytes t e = kept_cases bytes t (ltb MAX_BYTES (length bytes)) (ltb (utf8_valid_len bytes) (length bytes)) (utf8_valid_len bytes) refl e

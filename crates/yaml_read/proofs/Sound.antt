@@ -13,6 +13,7 @@ use Rattle.yaml_read.specs.Rows.{Row, is_dash}
 use Rattle.yaml_read.specs.Faults.{fault_of}
 use Rattle.yaml_read.specs.Reading.{Block, at_row, own_key, own_dash, begin_with, is_deeper, is_below_key, first_pair, first_item, below, value_or_below, value_of, pairs_step, pairs, items_step, items, some_pairs, some_items, node, document, all_rows}
 use Rattle.yaml_read.specs.Standing.{HasValue, IsNode, IsMapping, IsSequence, StandFor}
+use Rattle.doc_tree.specs.declared.limits.TheConstants.{MAX_LEVELS}
 
 abbrev pub done : {A : Type 0} → A → Result A YamlFault
 done x = Ok x
@@ -206,7 +207,7 @@ no_rows : (x : Shape) (rows : List Row) (t : Shape) → all_rows x rows ≡ Ok t
 no_rows x [] t e = (refl, ok_is x t e)
 no_rows x (r ∷ rows) t e = absurd cc
 
-nothing_read : (t : Shape) → (node 32 [] >>= (λ x. all_rows x.0 x.1)) ≡ Ok t → nothing ≡ t
+nothing_read : (t : Shape) → (node MAX_LEVELS [] >>= (λ x. all_rows x.0 x.1)) ≡ Ok t → nothing ≡ t
 unfolding node
 nothing_read t e = ok_is nothing t e
 
@@ -215,8 +216,8 @@ pub document_sound : (rows : List Row) (t : Shape) → document rows ≡ Ok t �
 unfolding document
 document_sound [] t e = inl (refl, sym (nothing_read t e))
 document_sound (r ∷ rows) t e =
-    let b = bind_ok (node 32 (r ∷ rows)) (λ x. all_rows x.0 x.1) t e in
+    let b = bind_ok (node MAX_LEVELS (r ∷ rows)) (λ x. all_rows x.0 x.1) t e in
     let whole = no_rows b.0.0 b.0.1 t b.2 in
-    let took = node_sound 32 (r ∷ rows) b.0.0 b.0.1 (λ e. absurd cc) b.1 in
+    let took = node_sound MAX_LEVELS (r ∷ rows) b.0.0 b.0.1 (λ e. absurd cc) b.1 in
     let all : r ∷ rows ≡ took.0 = took.1 ∙ ap (λ (x : List Row). took.0 ++ x) whole.0 ∙ append-nil took.0 in
-    inr (subst (λ (x : List Row). IsNode 32 x t) (sym all) (subst (λ (x : Shape). IsNode 32 took.0 x) whole.1 took.2))
+    inr (subst (λ (x : List Row). IsNode MAX_LEVELS x t) (sym all) (subst (λ (x : Shape). IsNode MAX_LEVELS took.0 x) whole.1 took.2))

@@ -6,9 +6,10 @@ use Rattle.std.specs.Str.Lossy.{utf8_valid_len}
 use Rattle.doc_tree.specs.Shape.{Shape}
 use Rattle.yaml_read.specs.declared.fault.YamlFault.{YamlFault}
 use Rattle.yaml_read.specs.declared.fault.YamlFault.TheVariants.{TooLarge, NotUtf8}
-use Rattle.yaml_read.specs.Bytes.{trim_end, push_unless_blank, max_bytes}
+use Rattle.yaml_read.specs.Bytes.{trim_end, push_unless_blank}
 use Rattle.yaml_read.specs.Rows.{rows_of}
 use Rattle.yaml_read.specs.Reading.{document, reading}
+use Rattle.doc_tree.specs.declared.limits.TheConstants.{MAX_BYTES}
 
 -- a part that was passed, in front of the first of two parts
 abbrev pub behind : List ℕ → List ℕ × List ℕ → List ℕ × List ℕ
@@ -46,4 +47,4 @@ by_tests false false n read t is = is
 
 pub reading_document : (bytes : List ℕ) (t : Shape) → reading bytes ≡ Ok t → document (rows_of bytes) ≡ Ok t
 unfolding reading
-reading_document bytes t is = by_tests (ltb max_bytes (length bytes)) (ltb (utf8_valid_len bytes) (length bytes)) (utf8_valid_len bytes) (document (rows_of bytes)) t is
+reading_document bytes t is = by_tests (ltb MAX_BYTES (length bytes)) (ltb (utf8_valid_len bytes) (length bytes)) (utf8_valid_len bytes) (document (rows_of bytes)) t is

@@ -1,6 +1,8 @@
 -- Bytes, and what stands at the front and the end of a text.
 use Rattle.std.specs.Prelude.{ℕ, ◌+◌, Bool, true, false, ◌&&◌, ◌||◌, ◌==◌, if◌then◌else◌, List, [], ◌∷◌, codes}
 use Rattle.std.specs.List.{list_any}
+use Rattle.yaml_read.specs.declared.style.Style.{Style}
+use Rattle.yaml_read.specs.declared.style.Style.TheVariants.{Block, Flow}
 
 abbrev pub space : ℕ
 space = 0x20
@@ -102,11 +104,12 @@ abbrev pub at_gap : List ℕ → Bool
 at_gap [] = true
 at_gap (b ∷ bs) = b == space
 
--- the same, and in flow a sign
-abbrev pub at_break : Bool → List ℕ → Bool
-at_break flow [] = true
-at_break flow (b ∷ bs) = (b == space) || (flow && is_sign b)
+-- within the brackets of flow
+abbrev pub is_flow : Style → Bool
+is_flow Block = false
+is_flow Flow = true
 
--- the greatest number of bytes of a text
-abbrev pub max_bytes : ℕ
-max_bytes = 4194304
+-- the same, and in flow a sign
+abbrev pub at_break : Style → List ℕ → Bool
+at_break style [] = true
+at_break style (b ∷ bs) = (b == space) || (is_flow style && is_sign b)

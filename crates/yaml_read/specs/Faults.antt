@@ -11,6 +11,7 @@ use Rattle.yaml_read.specs.Keys.{key}
 use Rattle.yaml_read.specs.OnLine.{on_line}
 use Rattle.yaml_read.specs.Rows.{Row}
 use Rattle.yaml_read.specs.Outside.{is_outside, entry_is_open, entry_of, has_two_dashes}
+use Rattle.yaml_read.specs.declared.style.Style.TheVariants.{Block}
 
 abbrev pub behind_key : List ℕ → Option (List ℕ × List ℕ) → List ℕ
 behind_key bs (Some k) = k.1
@@ -18,7 +19,7 @@ behind_key bs None = bs
 
 -- an entry read by itself, as deep as it may be: the value behind its key, or the value that it is
 unfoldable pub entry_by_itself : Repeats → List ℕ → Result (Option Shape) Why
-entry_by_itself repeats bs = on_line repeats (length bs) (behind_key bs (key false bs))
+entry_by_itself repeats bs = on_line repeats (length bs) (behind_key bs (key Block bs))
 
 abbrev pub is_other : Result (Option Shape) Why → Bool
 is_other (Ok t) = false

@@ -1,14 +1,16 @@
 -- Flow lists and flow maps (YAML 1.2, section 7.4).
 use Rattle.std.specs.Prelude.{ℕ, zero, suc, Bool, true, false, ◌&&◌, ◌||◌, if◌then◌else◌, List, [], ◌∷◌, ◌++◌, Result, Ok, Err}
+use Rattle.doc_tree.specs.declared.limits.TheConstants.{MAX_BYTES}
 use Rattle.doc_tree.specs.Shape.{Shape, nothing, list, mapping, shapes_of, pairs_of}
 use Rattle.yaml_read.specs.declared.stop.Why.{Why}
 use Rattle.yaml_read.specs.declared.stop.Why.TheVariants.{Outside, Repeated, Deep, Unfit}
 use Rattle.yaml_read.specs.declared.stop.Repeats.{Repeats}
 use Rattle.yaml_read.specs.declared.stop.Repeats.TheVariants.{Refused, Taken}
-use Rattle.yaml_read.specs.Bytes.{comma, left_bracket, right_bracket, left_brace, right_brace, begins, tail, skip_spaces, max_bytes}
+use Rattle.yaml_read.specs.Bytes.{comma, left_bracket, right_bracket, left_brace, right_brace, begins, tail, skip_spaces}
 use Rattle.yaml_read.specs.Plain.{begins_plain}
 use Rattle.yaml_read.specs.Quoted.{begins_quoted}
 use Rattle.yaml_read.specs.Keys.{Read, ◌>>=◌, or_unfit, begins_other, scalar, key, is_among}
+use Rattle.yaml_read.specs.declared.style.Style.TheVariants.{Flow}
 
 abbrev pub are_refused : Repeats → Bool
 are_refused Refused = true
@@ -22,13 +24,13 @@ behind_entry closing text =
 
 -- a list, a map or a scalar begins here
 abbrev pub begins_node : List ℕ → Bool
-begins_node bs = (begins left_bracket bs || begins left_brace bs) || (begins_quoted bs || begins_plain true bs)
+begins_node bs = (begins left_bracket bs || begins left_brace bs) || (begins_quoted bs || begins_plain Flow bs)
 
 -- the key of the next pair, and the text behind its colon, behind pairs with these keys
 unfoldable pub next_key : Repeats → List (List ℕ) → List ℕ → Read (List ℕ)
 next_key repeats keys bs =
     if begins_other bs then Err Outside
-    else or_unfit (key true bs) >>= (λ k. if are_refused repeats && is_among k.0 keys then Err Repeated else Ok k)
+    else or_unfit (key Flow bs) >>= (λ k. if are_refused repeats && is_among k.0 keys then Err Repeated else Ok k)
 
 -- in a list or a map, whose nodes have at most so many levels and are read by value
 module _ (repeats : Repeats) (levels : ℕ) (value : List ℕ → Read Shape) where
@@ -69,6 +71,6 @@ unfoldable pub flow : Repeats → ℕ → List ℕ → Read Shape
 flow repeats zero bs = if begins_other bs then Err Outside else if begins_node bs then Err Deep else Err Unfit
 flow repeats (suc levels) bs =
     if begins_other bs then Err Outside
-    else if begins left_bracket bs then flow_items repeats levels (flow repeats levels) max_bytes (tail bs) >>= (λ x. Ok (list (shapes_of x.0), x.1))
-    else if begins left_brace bs then flow_pairs repeats levels (flow repeats levels) max_bytes [] (tail bs) >>= (λ x. Ok (mapping (pairs_of x.0), x.1))
-    else scalar true bs
+    else if begins left_bracket bs then flow_items repeats levels (flow repeats levels) MAX_BYTES (tail bs) >>= (λ x. Ok (list (shapes_of x.0), x.1))
+    else if begins left_brace bs then flow_pairs repeats levels (flow repeats levels) MAX_BYTES [] (tail bs) >>= (λ x. Ok (mapping (pairs_of x.0), x.1))
+    else scalar Flow bs

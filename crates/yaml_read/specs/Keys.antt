@@ -2,9 +2,10 @@
 use Rattle.std.specs.Prelude.{ℕ, Bool, false, ◌&&◌, ◌||◌, if◌then◌else◌, List, codes, Option, Some, None, option_map, option_and_then, Result, Ok, Err}
 use Rattle.std.specs.List.{list_any}
 use Rattle.doc_tree.specs.Shape.{Shape, text}
+use Rattle.yaml_read.specs.declared.style.Style.{Style}
 use Rattle.yaml_read.specs.declared.stop.Why.{Why}
 use Rattle.yaml_read.specs.declared.stop.Why.TheVariants.{Unfit}
-use Rattle.yaml_read.specs.Bytes.{colon, comma, right_brace, begins, begins_with, is_same, tail, trim_end, at_gap}
+use Rattle.yaml_read.specs.Bytes.{colon, comma, right_brace, begins, begins_with, is_same, tail, trim_end, at_gap, is_flow}
 use Rattle.yaml_read.specs.Plain.{plain_value, begins_plain, plain_split}
 use Rattle.yaml_read.specs.Quoted.{begins_quoted, quoted}
 
@@ -32,28 +33,28 @@ abbrev pub value_of_plain : List ℕ × List ℕ → Shape × List ℕ
 value_of_plain p = (plain_value (trim_end p.0), p.1)
 
 -- a scalar as a value
-unfoldable pub scalar : Bool → List ℕ → Read Shape
-scalar flow bs =
+unfoldable pub scalar : Style → List ℕ → Read Shape
+scalar style bs =
     if begins_quoted bs then or_unfit (option_map quoted_value (quoted bs))
-    else if begins_plain flow bs then Ok (value_of_plain (plain_split flow false bs))
+    else if begins_plain style bs then Ok (value_of_plain (plain_split style false bs))
     else Err Unfit
 
 -- what may stand behind a key's colon: a gap, and in flow a sign that ends the value
-abbrev pub ends_value : Bool → List ℕ → Bool
-ends_value flow bs = at_gap bs || (flow && (begins comma bs || begins right_brace bs))
+abbrev pub ends_value : Style → List ℕ → Bool
+ends_value style bs = at_gap bs || (is_flow style && (begins comma bs || begins right_brace bs))
 
 -- a key, where its colon follows, and the text behind that
-abbrev pub behind_colon : Bool → List ℕ × List ℕ → Option (List ℕ × List ℕ)
-behind_colon flow p = if begins colon p.1 && ends_value flow (tail p.1) then Some (p.0, tail p.1) else None
+abbrev pub behind_colon : Style → List ℕ × List ℕ → Option (List ℕ × List ℕ)
+behind_colon style p = if begins colon p.1 && ends_value style (tail p.1) then Some (p.0, tail p.1) else None
 
 abbrev pub trimmed : List ℕ × List ℕ → List ℕ × List ℕ
 trimmed p = (trim_end p.0, p.1)
 
 -- a key with its colon, where one stands there, and the text behind the colon
-unfoldable pub key : Bool → List ℕ → Option (List ℕ × List ℕ)
-key flow bs =
-    if begins_quoted bs then option_and_then (behind_colon flow) (quoted bs)
-    else if begins_plain flow bs then behind_colon flow (trimmed (plain_split flow false bs))
+unfoldable pub key : Style → List ℕ → Option (List ℕ × List ℕ)
+key style bs =
+    if begins_quoted bs then option_and_then (behind_colon style) (quoted bs)
+    else if begins_plain style bs then behind_colon style (trimmed (plain_split style false bs))
     else None
 
 -- the key is one of these

@@ -9,6 +9,7 @@ use Rattle.yaml_read.specs.Bytes.{space, hash, left_bracket, left_brace, is_empt
 use Rattle.yaml_read.specs.Quoted.{begins_quoted}
 use Rattle.yaml_read.specs.Keys.{◌>>=◌, begins_other, scalar}
 use Rattle.yaml_read.specs.Flow.{flow}
+use Rattle.yaml_read.specs.declared.style.Style.TheVariants.{Block}
 
 -- spaces and a comment, or less
 unfoldable pub is_blank : List ℕ → Bool
@@ -32,8 +33,8 @@ abbrev pub value_at : Repeats → ℕ → List ℕ → Result (Option Shape) Why
 value_at repeats levels bs =
     if begins_other bs then Err Outside
     else if begins left_bracket bs || begins left_brace bs then flow repeats levels bs >>= (λ p. alone (is_over p.1) p.0)
-    else if begins_quoted bs then scalar false bs >>= (λ p. alone (is_over p.1) p.0)
-    else scalar false bs >>= (λ p. alone (is_over_plain p.1) p.0)
+    else if begins_quoted bs then scalar Block bs >>= (λ p. alone (is_over p.1) p.0)
+    else scalar Block bs >>= (λ p. alone (is_over_plain p.1) p.0)
 
 -- the value, of at most so many levels, where one stands there
 unfoldable pub on_line : Repeats → ℕ → List ℕ → Result (Option Shape) Why

@@ -4,6 +4,7 @@ use Rattle.yaml_read.specs.Bytes.{space, tab, hash, colon, comma, left_bracket, 
 use Rattle.yaml_read.specs.Plain.{begins_plain, plain_split}
 use Rattle.yaml_read.specs.Quoted.{begins_quoted, closed_quote}
 use Rattle.yaml_read.specs.Rows.{Row, is_dash}
+use Rattle.yaml_read.specs.declared.style.Style.TheVariants.{Block, Flow}
 
 -- a tab stands among the spaces and tabs at the front
 abbrev pub has_tab : List ℕ → Bool
@@ -33,7 +34,7 @@ closes_flow bs = begins right_bracket bs || begins right_brace bs
 
 -- a sign behind which a node can begin
 abbrev pub parts_flow : List ℕ → Bool
-parts_flow bs = begins comma bs || (begins colon bs && at_break true (tail bs))
+parts_flow bs = begins comma bs || (begins colon bs && at_break Flow (tail bs))
 
 -- One step in flow. depth: how many signs are open within the first. fresh: a node can begin here. spaced: a space comes before.
 abbrev pub open_step : (ℕ → Bool → Bool → List ℕ → Bool) → ℕ → Bool → Bool → List ℕ → Bool
@@ -65,7 +66,7 @@ pair_is_open bs = (begins colon bs && at_gap (tail bs)) && value_is_open (skip_s
 unfoldable pub entry_is_open : List ℕ → Bool
 entry_is_open bs =
     if begins_quoted bs then behind_quote pair_is_open (closed_quote bs)
-    else if begins_plain false bs then pair_is_open (plain_split false false bs).1
+    else if begins_plain Block bs then pair_is_open (plain_split Block false bs).1
     else value_is_open bs
 
 -- the entry of a line: what stands there, behind its dash if it has one

@@ -3,8 +3,9 @@ use Rattle.std.specs.Prelude.{ℕ, ◌^◌, Bool, true, false, not, ◌&&◌, �
 use Rattle.std.specs.List.{list_all}
 use Rattle.std.specs.Char.{is_digit}
 use Rattle.std.specs.Str.Parse.{digits_value, signed_digits_value}
-use Rattle.doc_tree.specs.Shape.{Shape, nothing, truth, whole, text}
-use Rattle.yaml_read.specs.Bytes.{space, hash, colon, dash, question, is_empty, begins, is_same, tail, is_sign, is_indicator, at_gap, at_break}
+use Rattle.doc_tree.specs.Shape.{Shape, nothing, truth, whole, text, list, mapping}
+use Rattle.yaml_read.specs.Bytes.{space, hash, colon, dash, question, is_empty, begins, is_same, tail, is_sign, is_indicator, at_gap, is_flow, at_break}
+use Rattle.yaml_read.specs.declared.style.Style.{Style}
 
 -- decimal digits that don't begin with 0
 abbrev pub is_digits : List ℕ → Bool
@@ -33,22 +34,30 @@ plain_value bs =
     else if is_null bs then nothing
     else text bs
 
+abbrev pub is_text : Shape → Bool
+is_text nothing = false
+is_text (truth b) = false
+is_text (whole z) = false
+is_text (text s) = true
+is_text (list ts) = false
+is_text (mapping ps) = false
+
 -- A plain scalar begins here: with none of the signs, nor with a dash, a question mark or a colon before a gap.
-abbrev pub begins_plain : Bool → List ℕ → Bool
-begins_plain flow [] = false
-begins_plain flow (b ∷ bs) =
-    (not (is_indicator b) && not (((b == dash) || (b == question)) && at_gap bs)) && not ((b == colon) && at_break flow bs)
+abbrev pub begins_plain : Style → List ℕ → Bool
+begins_plain style [] = false
+begins_plain style (b ∷ bs) =
+    (not (is_indicator b) && not (((b == dash) || (b == question)) && at_gap bs)) && not ((b == colon) && at_break style bs)
 
 -- A plain scalar ends before this byte, which has this text behind it: before a comment, before a colon and a gap, and in
 -- flow before a sign. spaced: a space comes before.
-abbrev pub ends_plain : Bool → Bool → ℕ → List ℕ → Bool
-ends_plain flow spaced b bs = ((spaced && (b == hash)) || ((b == colon) && at_break flow bs)) || (flow && is_sign b)
+abbrev pub ends_plain : Style → Bool → ℕ → List ℕ → Bool
+ends_plain style spaced b bs = ((spaced && (b == hash)) || ((b == colon) && at_break style bs)) || (is_flow style && is_sign b)
 
 abbrev pub with_front : ℕ → List ℕ × List ℕ → List ℕ × List ℕ
 with_front b p = (b ∷ p.0, p.1)
 
 -- a plain scalar with the spaces behind it, and the text from its end on
-abbrev pub plain_split : Bool → Bool → List ℕ → List ℕ × List ℕ
-plain_split flow spaced [] = ([], [])
-plain_split flow spaced (b ∷ bs) =
-    if ends_plain flow spaced b bs then ([], b ∷ bs) else with_front b (plain_split flow (b == space) bs)
+abbrev pub plain_split : Style → Bool → List ℕ → List ℕ × List ℕ
+plain_split style spaced [] = ([], [])
+plain_split style spaced (b ∷ bs) =
+    if ends_plain style spaced b bs then ([], b ∷ bs) else with_front b (plain_split style (b == space) bs)

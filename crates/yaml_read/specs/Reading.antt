@@ -1,17 +1,19 @@
 -- The tree that a text stands for, or its first fault, as a function of its rows.
 use Rattle.std.specs.Prelude.{ℕ, zero, suc, ◌+◌, Bool, true, false, not, ◌&&◌, ◌||◌, ◌==◌, nat_lt, if◌then◌else◌, List, [], ◌∷◌, ◌++◌, length, Option, Some, None, option_map, Result, Ok, Err}
 use Rattle.std.specs.Str.Lossy.{utf8_valid_len}
+use Rattle.doc_tree.specs.declared.limits.TheConstants.{MAX_BYTES, MAX_LEVELS}
 use Rattle.doc_tree.specs.Shape.{Shape, nothing, list, mapping, shapes_of, pairs_of}
 use Rattle.yaml_read.specs.declared.stop.Why.{Why}
 use Rattle.yaml_read.specs.declared.stop.Why.TheVariants.{Repeated, Deep, Unfit}
 use Rattle.yaml_read.specs.declared.fault.YamlFault.{YamlFault}
 use Rattle.yaml_read.specs.declared.fault.YamlFault.TheVariants as faults
-use Rattle.yaml_read.specs.Bytes.{tail, max_bytes}
+use Rattle.yaml_read.specs.Bytes.{tail}
 use Rattle.yaml_read.specs.Keys.{◌>>=◌, key, is_among}
 use Rattle.yaml_read.specs.OnLine.{entry_on_line}
 use Rattle.yaml_read.specs.Rows.{Row, rows_of, is_dash}
 use Rattle.yaml_read.specs.Outside.{is_outside}
 use Rattle.yaml_read.specs.Faults.{fault_of}
+use Rattle.yaml_read.specs.declared.style.Style.TheVariants as style
 
 -- something read from the front, and the rows behind it
 abbrev pub Block : Type 0 → Type 0
@@ -28,7 +30,7 @@ is_own column r = (r.column == column) && not (is_outside r)
 
 -- the key of a row that goes on with a map at this column, and what stands behind its colon
 unfoldable pub own_key : ℕ → Row → Option (List ℕ × List ℕ)
-own_key column r = if is_own column r then key false r.text else None
+own_key column r = if is_own column r then key style.Block r.text else None
 
 -- the row goes on with a sequence at this column
 unfoldable pub own_dash : ℕ → Row → Bool
@@ -117,9 +119,6 @@ node (suc levels) (r ∷ rows) =
     if is_dash r.text then items levels (node levels) (length (r ∷ rows) + 1) r.column (r ∷ rows) >>= (λ x. some_items r x.0 x.1)
     else pairs levels (node levels) (length (r ∷ rows) + 1) r.column [] (r ∷ rows) >>= (λ x. some_pairs r x.0 x.1)
 
-abbrev pub max_levels : ℕ
-max_levels = 32
-
 -- a row behind the top node doesn't go on
 abbrev pub all_rows : Shape → List Row → Result Shape YamlFault
 all_rows t [] = Ok t
@@ -127,11 +126,11 @@ all_rows t (r ∷ rows) = Err (fault_of Unfit r)
 
 -- what rows stand for
 unfoldable pub document : List Row → Result Shape YamlFault
-document rows = node max_levels rows >>= (λ x. all_rows x.0 x.1)
+document rows = node MAX_LEVELS rows >>= (λ x. all_rows x.0 x.1)
 
 -- what bytes stand for
 unfoldable pub reading : List ℕ → Result Shape YamlFault
 reading bytes =
-    if nat_lt max_bytes (length bytes) then Err faults.TooLarge
+    if nat_lt MAX_BYTES (length bytes) then Err faults.TooLarge
     else if nat_lt (utf8_valid_len bytes) (length bytes) then Err (faults.NotUtf8 (utf8_valid_len bytes))
     else document (rows_of bytes)

@@ -1,9 +1,10 @@
 -- The rows of a text: its lines that aren't blank (YAML 1.2, sections 6.1, 6.6 and 8.2).
-use Rattle.std.specs.Prelude.{ℕ, ◌+◌, Bool, false, ◌&&◌, if◌then◌else◌, List, [], ◌∷◌, ◌++◌, codes, is_some}
+use Rattle.std.specs.Prelude.{ℕ, ◌+◌, Bool, ◌&&◌, if◌then◌else◌, List, [], ◌∷◌, ◌++◌, codes, is_some}
 use Rattle.std.specs.Str.Lines.{lines}
 use Rattle.yaml_read.specs.Bytes.{dash, begins, is_same, tail, leading_spaces, skip_spaces, at_gap}
 use Rattle.yaml_read.specs.Keys.{key}
 use Rattle.yaml_read.specs.OnLine.{is_blank}
+use Rattle.yaml_read.specs.declared.style.Style.TheVariants.{Block}
 
 -- a line with its number from 1, and what stands there, with its column
 pub record Row : Type 0 where
@@ -33,7 +34,7 @@ behind_dash r = record {
 
 -- a map begins behind the dash
 abbrev pub begins_compact : Row → Bool
-begins_compact r = is_dash r.text && is_some (key false (behind_dash r).text)
+begins_compact r = is_dash r.text && is_some (key Block (behind_dash r).text)
 
 -- A line is one row. Where a map begins behind its dash, it is two: the dash, and the first pair at its own column.
 abbrev pub rows_of_row : Row → List Row

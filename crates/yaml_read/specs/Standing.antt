@@ -1,6 +1,7 @@
 -- Rows stand for a tree: a relation by cases on rows and columns, apart from any reading. The rows of a map or a sequence
 -- split into those of its first entry and the rest.
 use Rattle.std.specs.Prelude.{◌≡◌, ◌≢◌, ℕ, suc, ◌+◌, ◌⊎◌, length, List, [], ◌∷◌, ◌++◌, Bool, true, false, Some, None, Ok}
+use Rattle.doc_tree.specs.declared.limits.TheConstants.{MAX_LEVELS}
 use Rattle.doc_tree.specs.Shape.{Shape, nothing, truth, whole, text, list, mapping, Shapes, no_shapes, more, Pairs, no_pairs, pair}
 use Rattle.yaml_read.specs.declared.fault.YamlFault.{YamlFault}
 use Rattle.yaml_read.specs.declared.fault.YamlFault.TheVariants as faults
@@ -8,7 +9,7 @@ use Rattle.yaml_read.specs.Bytes.{tail}
 use Rattle.yaml_read.specs.Keys.{is_among}
 use Rattle.yaml_read.specs.OnLine.{entry_on_line}
 use Rattle.yaml_read.specs.Rows.{Row, rows_of_lines, rows_of}
-use Rattle.yaml_read.specs.Reading.{own_key, own_dash, begins_deeper, begins_below_key, max_levels}
+use Rattle.yaml_read.specs.Reading.{own_key, own_dash, begins_deeper, begins_below_key}
 
 -- The value of an entry, with this text behind its colon or dash and these rows behind its own: it stands on the line, or in
 -- the rows, where those may be its own, or nowhere.
@@ -48,7 +49,7 @@ abbrev mutual
 
 -- the rows stand for the tree
 abbrev pub StandFor : List Row → Shape → Type 0
-StandFor rows t = ((rows ≡ []) × (t ≡ nothing)) ⊎ IsNode max_levels rows t
+StandFor rows t = ((rows ≡ []) × (t ≡ nothing)) ⊎ IsNode MAX_LEVELS rows t
 
 -- the text stands for the tree
 abbrev pub StandsFor : List ℕ → Shape → Type 0

@@ -7,12 +7,13 @@ ghost use Rattle.yaml_read.specs.declared.brackets.Bracket.TheVariants.{InList, 
 ghost use Rattle.yaml_read.specs.Brackets.{end_of, closing, without_levels, behind, inside, from_node, from_value, GoesOn};
 ghost use Rattle.yaml_read.specs.Seen.{Gives};
 
-use crate::bytes::{MAX_BYTES, begins, skip_spaces, tail};
+use crate::bytes::{begins, skip_spaces, tail};
 use crate::entries::Entries;
 use crate::flow::{begins_node, behind_entry, next_key};
 use crate::keys::{begins_other, scalar};
 use crate::stop::{Repeats, Stop, Why};
-use doc_tree::Tree;
+use crate::style::Style;
+use doc_tree::{MAX_BYTES, Tree};
 use std::alloc::{AllocError, Global};
 
 /// A bracket that is open: the levels and the turns that are left in it, and of a map the pairs so far, without their values.
@@ -101,7 +102,7 @@ fn node<'a>(
         let more = opened(stack, bracket)?;
         return Ok((more, tail(text)));
     }
-    let (_, rest) = scalar(alloc, true, text)?;
+    let (_, rest) = scalar(alloc, Style::Flow, text)?;
     behind(alloc, repeats, stack, rest)
 }
 

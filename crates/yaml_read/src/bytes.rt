@@ -2,9 +2,7 @@
 
 ghost use Rattle.std.specs.Prelude.{◌≡◌};
 ghost use Rattle.yaml_read.specs.Bytes.{begins, tail, skip_spaces, leading_spaces, trim_end, is_sign, is_indicator, at_gap, at_break, is_same};
-
-/// The greatest number of bytes of a text.
-pub const MAX_BYTES: usize = 4_194_304;
+use crate::style::Style;
 
 pub fn begins(byte: u8, text: &[u8]) -> bool
     ensures { result ≡ begins byte text.now }
@@ -95,12 +93,12 @@ pub fn at_gap(text: &[u8]) -> bool
     }
 }
 
-pub fn at_break(flow: bool, text: &[u8]) -> bool
-    ensures { result ≡ at_break flow text.now }
+pub fn at_break(style: Style, text: &[u8]) -> bool
+    ensures { result ≡ at_break style text.now }
 {
     match text {
         [] => true,
-        [first, ..] => *first == b' ' || (flow && is_sign(*first)),
+        [first, ..] => *first == b' ' || (style.is_flow() && is_sign(*first)),
     }
 }
 

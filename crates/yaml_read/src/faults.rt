@@ -52,7 +52,7 @@ fn is_repeat(alloc: Global, text: &[u8]) -> Result<bool, AllocError>
     Ok(is_repeat_stop(stop))
 }
 
-fn is_none_of_any(row: &Row) -> bool
+fn is_never_supported(row: &Row) -> bool
     ensures { result ≡ (is_outside (seen row.now) || has_two_dashes row.now.line.items) }
 {
     is_outside(row) || has_two_dashes(&row.line)
@@ -63,7 +63,7 @@ fn is_none_of_any(row: &Row) -> bool
 fn has_other(alloc: Global, row: &Row) -> Result<bool, AllocError>
     ensures { IfOk result (λ b. b ≡ has_other (seen row.now)) }
 {
-    if is_none_of_any(row) {
+    if is_never_supported(row) {
         return Ok(true);
     }
     if entry_is_open(entry_of(&row.line)) {
@@ -92,7 +92,7 @@ fn by_cause(why: Why, number: u64) -> YamlFault
 }
 
 #[tactic(auto, unfolding(crate::specs::Faults::fault_of))]
-fn named(alloc: Global, why: Why, row: &Row) -> Result<YamlFault, AllocError>
+fn try_fault_of(alloc: Global, why: Why, row: &Row) -> Result<YamlFault, AllocError>
     ensures { IfOk result (λ f. f ≡ fault_of why (seen row.now)) }
 {
     if has_other(alloc, row)? {
@@ -108,7 +108,7 @@ fn named(alloc: Global, why: Why, row: &Row) -> Result<YamlFault, AllocError>
 pub fn fault_of(alloc: Global, why: Why, row: &Row) -> YamlFault
     ensures { Names result (fault_of why (seen row.now)) }
 {
-    match named(alloc, why, row) {
+    match try_fault_of(alloc, why, row) {
         Ok(fault) => fault,
         Err(_) => YamlFault::OutOfMemory,
     }

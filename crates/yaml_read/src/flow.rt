@@ -6,14 +6,15 @@ ghost use Rattle.doc_tree.specs.Shape.{shape, pair_shape};
 ghost use Rattle.yaml_read.specs.Flow.{are_refused, behind_entry, begins_node, next_key, flow_items, flow_value, flow_pairs, flow};
 ghost use Rattle.yaml_read.specs.Seen.{Gives};
 
-use crate::bytes::{MAX_BYTES, begins, skip_spaces, tail};
+use crate::bytes::{begins, skip_spaces, tail};
 use crate::entries::Entries;
 use crate::keys::{begins_other, key, scalar};
 use crate::plain::begins_plain;
 use crate::quoted::begins_quoted;
 use crate::stop::{Repeats, Stop, Why};
+use crate::style::Style;
 use base_model::Str;
-use doc_tree::Tree;
+use doc_tree::{MAX_BYTES, Tree};
 use std::alloc::Global;
 
 /// The text behind an entry: behind a comma, or from the closing sign on.
@@ -35,7 +36,7 @@ pub fn behind_entry(closing: u8, text: &[u8]) -> Result<&[u8], Stop>
 pub fn begins_node(text: &[u8]) -> bool
     ensures { result ≡ begins_node text.now }
 {
-    begins(b'[', text) || begins(b'{', text) || begins_quoted(text) || begins_plain(true, text)
+    begins(b'[', text) || begins(b'{', text) || begins_quoted(text) || begins_plain(Style::Flow, text)
 }
 
 fn is_refused(repeats: Repeats, name: &Str, entries: &Entries) -> bool
@@ -60,7 +61,7 @@ pub fn next_key<'a>(
     if begins_other(text) {
         return Err(Stop::Because(Why::Outside));
     }
-    let Some((name, behind)) = key(alloc, true, text)? else {
+    let Some((name, behind)) = key(alloc, Style::Flow, text)? else {
         return Err(Stop::Because(Why::Unfit));
     };
     if is_refused(repeats, &name, entries) {
@@ -172,5 +173,5 @@ pub fn flow<'a>(
         let (pairs, rest) = flow_pairs(alloc, repeats, levels - 1, MAX_BYTES, tail(text))?;
         return Ok((Tree::Map(pairs), rest));
     }
-    scalar(alloc, true, text)
+    scalar(alloc, Style::Flow, text)
 }

@@ -11,6 +11,7 @@ use crate::plain::{begins_plain, plain_split, plain_value};
 use crate::quoted::{begins_quoted, quoted};
 use crate::stop::{Stop, Why};
 use crate::text::copied;
+use crate::style::Style;
 use base_model::Str;
 use doc_tree::Tree;
 use std::alloc::{AllocError, Global};
@@ -38,43 +39,43 @@ fn quoted_scalar(alloc: Global, text: &[u8]) -> Result<(Tree, &[u8]), Stop>
 
 /// A scalar as a value, and the text behind it.
 #[tactic(auto, unfolding(crate::specs::Keys::scalar))]
-pub fn scalar(alloc: Global, flow: bool, text: &[u8]) -> Result<(Tree, &[u8]), Stop>
-    ensures { Gives (λ x. (shape x.0, x.1.now)) result (scalar flow text.now) }
+pub fn scalar(alloc: Global, style: Style, text: &[u8]) -> Result<(Tree, &[u8]), Stop>
+    ensures { Gives (λ x. (shape x.0, x.1.now)) result (scalar style text.now) }
 {
     if begins_quoted(text) {
         return quoted_scalar(alloc, text);
     }
-    if !begins_plain(flow, text) {
+    if !begins_plain(style, text) {
         return Err(Stop::Because(Why::Unfit));
     }
-    let (plain, behind) = plain_split(flow, text);
+    let (plain, behind) = plain_split(style, text);
     Ok((plain_value(alloc, trim_end(plain))?, behind))
 }
 
 /// Whether this may stand behind a key's colon.
-fn ends_value(flow: bool, text: &[u8]) -> bool
-    ensures { result ≡ ends_value flow text.now }
+fn ends_value(style: Style, text: &[u8]) -> bool
+    ensures { result ≡ ends_value style text.now }
 {
-    at_gap(text) || (flow && (begins(b',', text) || begins(b'}', text)))
+    at_gap(text) || (style.is_flow() && (begins(b',', text) || begins(b'}', text)))
 }
 
 /// The text behind a key's colon, if a colon stands there.
-fn behind_colon(flow: bool, text: &[u8]) -> Option<&[u8]>
-    ensures { (k : List ℕ) → option_map (λ p. (k, p.now)) result ≡ behind_colon flow (k, text.now) }
+fn behind_colon(style: Style, text: &[u8]) -> Option<&[u8]>
+    ensures { (k : List ℕ) → option_map (λ p. (k, p.now)) result ≡ behind_colon style (k, text.now) }
 {
     match text {
-        [b':', behind @ ..] if ends_value(flow, behind) => Some(behind),
+        [b':', behind @ ..] if ends_value(style, behind) => Some(behind),
         _ => None,
     }
 }
 
-fn quoted_key(alloc: Global, flow: bool, text: &[u8]) -> Result<Option<(Str, &[u8])>, AllocError>
-    ensures { IfOk result (λ r. option_map (λ p. (p.0, p.1.now)) r ≡ option_and_then (behind_colon flow) (quoted text.now)) }
+fn quoted_key(alloc: Global, style: Style, text: &[u8]) -> Result<Option<(Str, &[u8])>, AllocError>
+    ensures { IfOk result (λ r. option_map (λ p. (p.0, p.1.now)) r ≡ option_and_then (behind_colon style) (quoted text.now)) }
 {
     let Some((name, behind)) = quoted(alloc, text)? else {
         return Ok(None);
     };
-    match behind_colon(flow, behind) {
+    match behind_colon(style, behind) {
         Some(behind) => Ok(Some((name, behind))),
         None => Ok(None),
     }
@@ -82,17 +83,17 @@ fn quoted_key(alloc: Global, flow: bool, text: &[u8]) -> Result<Option<(Str, &[u
 
 /// A key with its colon, if one stands there, and the text behind the colon.
 #[tactic(auto, unfolding(crate::specs::Keys::key))]
-pub fn key(alloc: Global, flow: bool, text: &[u8]) -> Result<Option<(Str, &[u8])>, AllocError>
-    ensures { IfOk result (λ r. option_map (λ p. (p.0, p.1.now)) r ≡ key flow text.now) }
+pub fn key(alloc: Global, style: Style, text: &[u8]) -> Result<Option<(Str, &[u8])>, AllocError>
+    ensures { IfOk result (λ r. option_map (λ p. (p.0, p.1.now)) r ≡ key style text.now) }
 {
     if begins_quoted(text) {
-        return quoted_key(alloc, flow, text);
+        return quoted_key(alloc, style, text);
     }
-    if !begins_plain(flow, text) {
+    if !begins_plain(style, text) {
         return Ok(None);
     }
-    let (plain, behind) = plain_split(flow, text);
-    match behind_colon(flow, behind) {
+    let (plain, behind) = plain_split(style, text);
+    match behind_colon(style, behind) {
         Some(behind) => Ok(Some((copied(alloc, trim_end(plain))?, behind))),
         None => Ok(None),
     }

@@ -6,7 +6,7 @@ ghost use Rattle.std.specs.Str.Lines.{lines};
 ghost use Rattle.doc_tree.specs.Shape.{Shape};
 ghost use Rattle.yaml_read.specs.declared.fault.YamlFault.{YamlFault};
 ghost use Rattle.yaml_read.specs.Rows.{Row, rows_of_lines};
-ghost use Rattle.yaml_read.specs.Bytes.{max_bytes};
+ghost use Rattle.doc_tree.specs.declared.limits.TheConstants.{MAX_BYTES};
 ghost use Rattle.yaml_read.specs.Reading.{document, reading};
 ghost use Rattle.yaml_read.specs.Standing.{StandFor, StandsFor, StopAt, StopsAt, line_of};
 
@@ -25,7 +25,7 @@ pub fn reading_laws()
     // The same of texts: what is read stands so ..
     ensures text_sound { (bytes : List ℕ) (t : Shape) → reading bytes ≡ Ok t → StandsFor bytes t }
     // .. and within the limit what stands so is read.
-    ensures text_complete { (bytes : List ℕ) (t : Shape) → length bytes ≤ max_bytes → IsUtf8 bytes → StandsFor bytes t → reading bytes ≡ Ok t }
+    ensures text_complete { (bytes : List ℕ) (t : Shape) → length bytes ≤ MAX_BYTES → IsUtf8 bytes → StandsFor bytes t → reading bytes ≡ Ok t }
     // A fault of such a text names the first of its lines that doesn't go on.
-    ensures text_first_line { (bytes : List ℕ) (f : YamlFault) → length bytes ≤ max_bytes → IsUtf8 bytes → reading bytes ≡ Err f → StopsAt (lines bytes) (line_of f) }
+    ensures text_first_line { (bytes : List ℕ) (f : YamlFault) → length bytes ≤ MAX_BYTES → IsUtf8 bytes → reading bytes ≡ Err f → StopsAt (lines bytes) (line_of f) }
 {}

@@ -18,10 +18,11 @@ mod read;
 mod reader;
 mod rows;
 mod stop;
+mod style;
 mod text;
 
-pub use bytes::MAX_BYTES;
 pub use fault::YamlFault;
+pub use plain::{integer_of, is_plain_string};
 pub use laws::reading_laws;
 pub use read::tree_of_yaml;
 

@@ -11,6 +11,7 @@ use crate::flow::flow;
 use crate::keys::{begins_other, scalar};
 use crate::quoted::begins_quoted;
 use crate::stop::{Repeats, Stop, Why};
+use crate::style::Style;
 use doc_tree::Tree;
 use std::alloc::Global;
 
@@ -63,7 +64,7 @@ fn value_at(
             Err(Stop::Because(Why::Unfit))
         };
     }
-    let (tree, behind) = scalar(alloc, false, text)?;
+    let (tree, behind) = scalar(alloc, Style::Block, text)?;
     let over = if begins_quoted(text) {
         is_over(behind)
     } else {

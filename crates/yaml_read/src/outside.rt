@@ -10,6 +10,7 @@ use crate::bytes::{at_break, at_gap, begins, skip_spaces, tail};
 use crate::plain::{begins_plain, plain_split};
 use crate::quoted::{begins_quoted, closed_quote};
 use crate::rows::{Row, is_dash};
+use crate::style::Style;
 
 /// Whether a tab stands among the spaces and tabs at the front.
 fn has_tab(line: &[u8]) -> bool
@@ -62,7 +63,7 @@ fn closes_flow(text: &[u8]) -> bool
 fn parts_flow(text: &[u8]) -> bool
     ensures { result ≡ parts_flow text.now }
 {
-    begins(b',', text) || (begins(b':', text) && at_break(true, tail(text)))
+    begins(b',', text) || (begins(b':', text) && at_break(Style::Flow, tail(text)))
 }
 
 fn ends_line(spaced: bool, text: &[u8]) -> bool
@@ -172,8 +173,8 @@ pub fn entry_is_open(text: &[u8]) -> bool
     if begins_quoted(text) {
         return quoted_pair_is_open(text);
     }
-    if begins_plain(false, text) {
-        let (_, behind) = plain_split(false, text);
+    if begins_plain(Style::Block, text) {
+        let (_, behind) = plain_split(Style::Block, text);
         return pair_is_open(behind);
     }
     value_is_open(text)

@@ -6,27 +6,28 @@ ghost use Rattle.std.specs.List.{list_all};
 ghost use Rattle.std.specs.Str.Parse.{signed_digits_value};
 ghost use Rattle.doc_tree.specs.Shape.{shape};
 ghost use Rattle.yaml_read.specs.Bytes.{dash, question};
-ghost use Rattle.yaml_read.specs.Plain.{begins_plain, ends_plain, plain_split, is_digits, is_whole, is_integer, is_null, plain_value};
+ghost use Rattle.yaml_read.specs.Plain.{begins_plain, ends_plain, plain_split, is_digits, is_whole, is_integer, is_null, is_text, plain_value};
 
 use crate::bytes::{at_break, at_gap, is_indicator, is_same, is_sign};
 use crate::text::copied;
+use crate::style::Style;
 use doc_tree::Tree;
 use std::alloc::{AllocError, Global};
 use std::str;
 
-fn ends_plain(flow: bool, spaced: bool, byte: u8, behind: &[u8]) -> bool
-    ensures { result ≡ ends_plain flow spaced byte behind.now }
+fn ends_plain(style: Style, spaced: bool, byte: u8, behind: &[u8]) -> bool
+    ensures { result ≡ ends_plain style spaced byte behind.now }
 {
-    (spaced && byte == b'#') || (byte == b':' && at_break(flow, behind)) || (flow && is_sign(byte))
+    (spaced && byte == b'#') || (byte == b':' && at_break(style, behind)) || (style.is_flow() && is_sign(byte))
 }
 
 /// A plain scalar with the spaces behind it, and the text from its end on.
-pub fn plain_split(flow: bool, text: &[u8]) -> (&[u8], &[u8])
-    ensures { (result.0.now, result.1.now) ≡ plain_split flow false text.now }
+pub fn plain_split(style: Style, text: &[u8]) -> (&[u8], &[u8])
+    ensures { (result.0.now, result.1.now) ≡ plain_split style false text.now }
 {
     let mut spaced = false;
     for (i, b) in text.iter().enumerate() {
-        if ends_plain(flow, spaced, *b, &text[i + 1..]) {
+        if ends_plain(style, spaced, *b, &text[i + 1..]) {
             return text.split_at(i);
         }
         spaced = *b == b' ';
@@ -41,15 +42,15 @@ fn is_mark(byte: u8) -> bool
 }
 
 /// Whether a plain scalar begins here.
-pub fn begins_plain(flow: bool, text: &[u8]) -> bool
-    ensures { result ≡ begins_plain flow text.now }
+pub fn begins_plain(style: Style, text: &[u8]) -> bool
+    ensures { result ≡ begins_plain style text.now }
 {
     match text {
         [] => false,
         [first, behind @ ..] => {
             !is_indicator(*first)
                 && !(is_mark(*first) && at_gap(behind))
-                && !(*first == b':' && at_break(flow, behind))
+                && !(*first == b':' && at_break(style, behind))
         }
     }
 }
@@ -80,25 +81,36 @@ fn is_whole(text: &[u8]) -> bool
     }
 }
 
-/// The whole number that a text of that form writes, if it has at most 128 bits.
-fn number(text: &[u8]) -> Result<Option<i128>, AllocError>
+// The whole number that a text of that form writes, if it has at most 128 bits.
+fn number(text: &str) -> Option<i128>
     requires { is_whole text.now ≡ true }
-    ensures { IfOk result (λ n. n ≡ (if is_integer text.now then Some (signed_digits_value 10 text.now) else None)) }
+    ensures { result ≡ (if is_integer text.now then Some (signed_digits_value 10 text.now) else None) }
 {
-    match str::from_utf8(text) {
-        Ok(text) => Ok(text.parse::<i128>().ok()),
-        Err(_) => Err(AllocError),
+    text.parse::<i128>().ok()
+}
+
+/// The whole number that a text writes as a plain scalar does: `0`, or digits that don't begin with 0, where a minus may
+/// come first. One of more than 128 bits isn't read.
+pub fn integer_of(text: &str) -> Option<i128>
+    ensures { result ≡ (if is_integer text.now then Some (signed_digits_value 10 text.now) else None) }
+{
+    if is_whole(text.as_bytes()) {
+        number(text)
+    } else {
+        None
     }
 }
 
-/// The whole number that a text writes, if it is one.
-fn integer(text: &[u8]) -> Result<Option<i128>, AllocError>
-    ensures { IfOk result (λ n. n ≡ (if is_integer text.now then Some (signed_digits_value 10 text.now) else None)) }
+// The same of bytes that are UTF-8.
+fn integer(bytes: &[u8]) -> Result<Option<i128>, AllocError>
+    ensures { IfOk result (λ n. n ≡ (if is_integer bytes.now then Some (signed_digits_value 10 bytes.now) else None)) }
 {
-    if is_whole(text) {
-        number(text)
-    } else {
-        Ok(None)
+    if !is_whole(bytes) {
+        return Ok(None);
+    }
+    match str::from_utf8(bytes) {
+        Ok(text) => Ok(number(text)),
+        Err(_) => Err(AllocError),
     }
 }
 
@@ -106,6 +118,24 @@ fn is_null(text: &[u8]) -> bool
     ensures { result ≡ is_null text.now }
 {
     is_same(text, b"null") || is_same(text, b"~") || text.is_empty()
+}
+
+/// Whether a plain scalar stands for a string, and for no number, boolean or null.
+#[tactic(auto, unfolding(crate::specs::Plain::plain_value))]
+pub fn is_plain_string(text: &str) -> bool
+    ensures { result ≡ is_text (plain_value text.now) }
+{
+    let bytes = text.as_bytes();
+    if integer_of(text).is_some() {
+        return false;
+    }
+    if is_same(bytes, b"true") {
+        return false;
+    }
+    if is_same(bytes, b"false") {
+        return false;
+    }
+    !is_null(bytes)
 }
 
 /// What a plain scalar stands for, as a value.

@@ -15,12 +15,10 @@ use crate::line::entry_on_line;
 use crate::outside::is_outside;
 use crate::rows::{Row, is_dash};
 use crate::stop::{Stop, Why};
+use crate::style::Style;
 use base_model::Str;
-use doc_tree::Tree;
+use doc_tree::{MAX_LEVELS, Tree};
 use std::alloc::{AllocError, Global};
-
-/// The greatest number of levels of a tree.
-const MAX_LEVELS: usize = 32;
 
 fn is_own(column: usize, row: &Row) -> bool
     ensures { result ≡ is_own column (seen row.now) }
@@ -42,7 +40,7 @@ fn own_key(alloc: Global, column: usize, row: &Row) -> Result<Option<(Str, &[u8]
     ensures { IfOk result (λ r. option_map (λ p. (p.0, p.1.now)) r ≡ own_key column (seen row.now)) }
 {
     if is_own(column, row) {
-        key(alloc, false, &row.text)
+        key(alloc, Style::Block, &row.text)
     } else {
         Ok(None)
     }

@@ -6,10 +6,12 @@ ghost use Rattle.std.specs.Str.Lines.{lines};
 ghost use Rattle.yaml_read.specs.Keys.{key};
 ghost use Rattle.yaml_read.specs.Rows.{is_dash, row, lone_dash, behind_dash, begins_compact, rows_of_row, rows_of_line, rows_from, without_start};
 ghost use Rattle.yaml_read.specs.Seen.{seen, all_seen};
+ghost use Rattle.yaml_read.specs.declared.style.Style.TheVariants.{Block};
 
 use crate::bytes::{at_gap, is_same, leading_spaces, skip_spaces, tail};
 use crate::keys::key;
 use crate::line::is_blank;
+use crate::style::Style;
 use std::alloc::{AllocError, Global};
 
 /// A line, or a part of one: the dash before a map, or the map's first pair.
@@ -49,12 +51,12 @@ fn row_at(alloc: Global, number: u64, line: &[u8]) -> Result<Row, AllocError>
 
 /// Whether a map begins behind the dash of a row with this text.
 fn begins_compact(alloc: Global, text: &[u8]) -> Result<bool, AllocError>
-    ensures { IfOk result (λ b. b ≡ (is_dash text.now && is_some (key false (skip_spaces (tail text.now))))) }
+    ensures { IfOk result (λ b. b ≡ (is_dash text.now && is_some (key Block (skip_spaces (tail text.now))))) }
 {
     if !is_dash(text) {
         return Ok(false);
     }
-    Ok(key(alloc, false, skip_spaces(tail(text)))?.is_some())
+    Ok(key(alloc, Style::Block, skip_spaces(tail(text)))?.is_some())
 }
 
 /// The dash of a row alone.

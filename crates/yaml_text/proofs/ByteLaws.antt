@@ -8,6 +8,7 @@ use Rattle.yaml_read.specs.Bytes.{begins, begins_with}
 use Rattle.yaml_read.specs.Plain.{begins_plain}
 use Rattle.yaml_read.specs.Quoted.{begins_quoted}
 use Rattle.yaml_read.specs.Keys.{begins_other}
+use Rattle.yaml_read.specs.declared.style.Style.TheVariants.{Block}
 
 -- what a printed key begins with
 abbrev pub starts_key : ℕ → Bool
@@ -39,7 +40,7 @@ no_other p b bs is none question =
     (and_left (eqb b 63) (begins_with (codes " ") bs) (apart p b 63 is question))
 
 -- a plain scalar begins with such a byte, and no quoted one does
-pub begins_plainly : (p : ℕ → Bool) (b : ℕ) (bs : List ℕ) → p b ≡ true → list_any p (codes "[]{},#&*!|>'\"%@`") ≡ false → p 45 ≡ false → p 63 ≡ false → p 58 ≡ false → begins_plain false (b ∷ bs) ≡ true
+pub begins_plainly : (p : ℕ → Bool) (b : ℕ) (bs : List ℕ) → p b ≡ true → list_any p (codes "[]{},#&*!|>'\"%@`") ≡ false → p 45 ≡ false → p 63 ≡ false → p 58 ≡ false → begins_plain Block (b ∷ bs) ≡ true
 begins_plainly p b bs is none dash question colon =
     rw (none_of p b (codes "[]{},#&*!|>'\"%@`") is none, apart p b 45 is dash, apart p b 63 is question, apart p b 58 is colon) refl
 

@@ -20,6 +20,7 @@ use Rattle.yaml_text.proofs.ByteLaws.{apart, no_other, starts_key}
 use Rattle.yaml_text.proofs.PlainReads.{plain_parts}
 use Rattle.yaml_text.proofs.ScalarReads.{printed_text}
 use Rattle.yaml_text.proofs.NumberReads.{starts, Shown}
+use Rattle.yaml_read.specs.declared.style.Style.TheVariants.{Block}
 
 -- the first byte of a key
 pub record First (x : List ℕ) : Type 0 where
@@ -75,31 +76,31 @@ truth_shown false = record { first = 102; others = codes "alse"; is = refl; star
 
 -- ---- a value on its line
 abbrev whole_line : List ℕ → Result (Option Shape) Why
-whole_line bs = cond (begins_quoted bs) (scalar false bs >>= (λ p. alone (is_over p.1) p.0)) (scalar false bs >>= (λ p. alone (is_over_plain p.1) p.0))
+whole_line bs = cond (begins_quoted bs) (scalar Block bs >>= (λ p. alone (is_over p.1) p.0)) (scalar Block bs >>= (λ p. alone (is_over_plain p.1) p.0))
 
-read_whole : (bs : List ℕ) (t : Shape) → scalar false bs ≡ Ok (t, []) → whole_line bs ≡ Ok (Some t)
+read_whole : (bs : List ℕ) (t : Shape) → scalar Block bs ≡ Ok (t, []) → whole_line bs ≡ Ok (Some t)
 unfolding is_over
 read_whole bs t is = rw is (same (begins_quoted bs) (Ok (Some t))) where
   same : (q : Bool) (r : Result (Option Shape) Why) → cond q r r ≡ r
   same true r = refl
   same false r = refl
 
-scalar_line : (m b : ℕ) (bs : List ℕ) (t : Shape) → starts b ≡ true → scalar false (b ∷ bs) ≡ Ok (t, []) → entry_on_line (suc m) (32 ∷ b ∷ bs) ≡ Ok (Some t)
+scalar_line : (m b : ℕ) (bs : List ℕ) (t : Shape) → starts b ≡ true → scalar Block (b ∷ bs) ≡ Ok (t, []) → entry_on_line (suc m) (32 ∷ b ∷ bs) ≡ Ok (Some t)
 unfolding on_line is_blank
 scalar_line m b bs t start is =
     rw (apart starts b 32 start refl, apart starts b 35 start refl, no_other starts b bs start refl refl, apart starts b 91 start refl, apart starts b 123 start refl) (read_whole (b ∷ bs) t is)
 
 pub shown_line : (m : ℕ) (x : List ℕ) (t : Shape) → Shown x t → entry_on_line (suc m) (32 ∷ x) ≡ Ok (Some t)
 shown_line m x t s =
-    subst (λ (y : List ℕ). entry_on_line (suc m) (32 ∷ y) ≡ Ok (Some t)) (sym s.is) (scalar_line m s.first s.others t s.start (subst (λ (y : List ℕ). scalar false y ≡ Ok (t, [])) s.is s.reads))
+    subst (λ (y : List ℕ). entry_on_line (suc m) (32 ∷ y) ≡ Ok (Some t)) (sym s.is) (scalar_line m s.first s.others t s.start (subst (λ (y : List ℕ). scalar Block y ≡ Ok (t, [])) s.is s.reads))
 
 skip_one : (b : ℕ) (bs : List ℕ) → eqb b 32 ≡ false → skip_spaces (32 ∷ b ∷ bs) ≡ b ∷ bs
 skip_one b bs is = rw is refl
 
-pub shown_no_key : (x : List ℕ) (t : Shape) → Shown x t → key false (skip_spaces (32 ∷ x)) ≡ None
+pub shown_no_key : (x : List ℕ) (t : Shape) → Shown x t → key Block (skip_spaces (32 ∷ x)) ≡ None
 shown_no_key x t s =
-    subst (λ (y : List ℕ). key false (skip_spaces (32 ∷ y)) ≡ None) (sym s.is)
-    (ap (key false) (skip_one s.first s.others (apart starts s.first 32 s.start refl)) ∙ subst (λ (y : List ℕ). key false y ≡ None) s.is s.no_key)
+    subst (λ (y : List ℕ). key Block (skip_spaces (32 ∷ y)) ≡ None) (sym s.is)
+    (ap (key Block) (skip_one s.first s.others (apart starts s.first 32 s.start refl)) ∙ subst (λ (y : List ℕ). key Block y ≡ None) s.is s.no_key)
 
 pub no_line : (m : ℕ) → entry_on_line (suc m) [] ≡ Ok None
 unfolding on_line is_blank
@@ -130,14 +131,14 @@ pub empty_map_line : (m : ℕ) → entry_on_line (suc m) (32 ∷ codes "{}") ≡
 unfolding on_line is_blank begins_other is_over
 empty_map_line m = rw (flow_map m) refl
 
-pub empty_list_no_key : key false (skip_spaces (32 ∷ codes "[]")) ≡ None
+pub empty_list_no_key : key Block (skip_spaces (32 ∷ codes "[]")) ≡ None
 unfolding key
 empty_list_no_key = refl
 
-pub empty_map_no_key : key false (skip_spaces (32 ∷ codes "{}")) ≡ None
+pub empty_map_no_key : key Block (skip_spaces (32 ∷ codes "{}")) ≡ None
 unfolding key
 empty_map_no_key = refl
 
-pub nothing_no_key : key false (skip_spaces []) ≡ None
+pub nothing_no_key : key Block (skip_spaces []) ≡ None
 unfolding key
 nothing_no_key = refl

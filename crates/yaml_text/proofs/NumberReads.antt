@@ -17,6 +17,7 @@ use Rattle.yaml_text.specs.Scalars.{is_plain_byte, ends_with_colon}
 use Rattle.yaml_text.specs.Fits.{has_128_bits}
 use Rattle.yaml_text.proofs.ByteLaws.{apart, begins_plainly, no_quote}
 use Rattle.yaml_text.proofs.PlainReads.{plain_scalar, plain_no_key}
+use Rattle.yaml_read.specs.declared.style.Style.TheVariants.{Block}
 
 abbrev pub is_decimal : ℕ → Bool
 is_decimal c = is_in_range 48 57 c
@@ -107,8 +108,8 @@ pub record Shown (x : List ℕ) (t : Shape) : Type 0 where
   pub others : List ℕ
   pub is : x ≡ first ∷ others
   pub start : starts first ≡ true
-  pub reads : scalar false x ≡ Ok (t, [])
-  pub no_key : key false x ≡ None
+  pub reads : scalar Block x ≡ Ok (t, [])
+  pub no_key : key Block x ≡ None
 
 plus_shown : (n : ℕ) (x : List ℕ) → decimal n ≡ x → Digits n x → digits_value 10 x ≡ n → n < 2 ^ 127 → Shown x (whole (pos n))
 plus_shown n [] same is value fits = absurd (omega (arith, is.some))

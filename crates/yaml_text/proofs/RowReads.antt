@@ -9,6 +9,7 @@ use Rattle.yaml_read.specs.Rows.{Row, row, is_dash, lone_dash, behind_dash, begi
 use Rattle.yaml_read.specs.Outside.{has_tab, begins_mark, byte_order_mark, is_outside}
 use Rattle.yaml_text.specs.Layout.{spaces}
 use Rattle.yaml_text.proofs.ByteLaws.{apart, starts_key}
+use Rattle.yaml_read.specs.declared.style.Style.TheVariants.{Block}
 
 -- spaces before something else
 lead_count : (c b : ℕ) (bs : List ℕ) → eqb b 32 ≡ false → leading_spaces (replicate c 32 ++ (b ∷ bs)) ≡ c
@@ -86,20 +87,20 @@ gap_tab (b ∷ bs) gap = dash_next b bs gap where
 pub dash_inside : (n c column : ℕ) (g text : List ℕ) → at_gap g ≡ true → is_outside (row_at n column text (spaces c ++ (45 ∷ g))) ≡ false
 dash_inside n c column g text gap = not_outside n c column (45 ∷ g) text refl (gap_tab g gap) refl
 
-pub dash_row : (n c : ℕ) (g : List ℕ) → key false (skip_spaces g) ≡ None → rows_of_line n (spaces c ++ (45 ∷ g)) ≡ row_at n c (45 ∷ g) (spaces c ++ (45 ∷ g)) ∷ []
+pub dash_row : (n c : ℕ) (g : List ℕ) → key Block (skip_spaces g) ≡ None → rows_of_line n (spaces c ++ (45 ∷ g)) ≡ row_at n c (45 ∷ g) (spaces c ++ (45 ∷ g)) ∷ []
 dash_row n c g none =
     line_rows n c 45 g refl refl
-    ∙ one_row (row_at n c (45 ∷ g) (spaces c ++ (45 ∷ g))) (and_right (is_dash (45 ∷ g)) (is_some (key false (skip_spaces g))) (ap (λ (o : Option (List ℕ × List ℕ)). is_some o) none))
+    ∙ one_row (row_at n c (45 ∷ g) (spaces c ++ (45 ∷ g))) (and_right (is_dash (45 ∷ g)) (is_some (key Block (skip_spaces g))) (ap (λ (o : Option (List ℕ × List ℕ)). is_some o) none))
 
 -- a line with a dash and a key
-pub compact_rows : (n c b : ℕ) (bs : List ℕ) (k : List ℕ × List ℕ) → starts_key b ≡ true → key false (b ∷ bs) ≡ Some k
+pub compact_rows : (n c b : ℕ) (bs : List ℕ) (k : List ℕ × List ℕ) → starts_key b ≡ true → key Block (b ∷ bs) ≡ Some k
     → rows_of_line n (spaces c ++ (45 ∷ 32 ∷ b ∷ bs)) ≡ row_at n c (45 ∷ []) (spaces c ++ (45 ∷ 32 ∷ b ∷ bs)) ∷ row_at n (c + 2) (b ∷ bs) (spaces c ++ (45 ∷ 32 ∷ b ∷ bs)) ∷ []
 compact_rows n c b bs k start is =
     let other : eqb b 32 ≡ false = apart starts_key b 32 start refl in
     let skip : skip_spaces (b ∷ bs) ≡ b ∷ bs = lead_skip 0 b bs other in
     let none : leading_spaces (b ∷ bs) ≡ 0 = lead_count 0 b bs other in
     let column : (c + 1) + (leading_spaces (b ∷ bs) + 1) ≡ c + 2 = omega (arith, none) in
-    let compact : begins_compact (row_at n c (45 ∷ 32 ∷ b ∷ bs) (spaces c ++ (45 ∷ 32 ∷ b ∷ bs))) ≡ true = ap (λ (x : List ℕ). is_some (key false x)) skip ∙ ap (λ (o : Option (List ℕ × List ℕ)). is_some o) is in
+    let compact : begins_compact (row_at n c (45 ∷ 32 ∷ b ∷ bs) (spaces c ++ (45 ∷ 32 ∷ b ∷ bs))) ≡ true = ap (λ (x : List ℕ). is_some (key Block x)) skip ∙ ap (λ (o : Option (List ℕ × List ℕ)). is_some o) is in
     line_rows n c 45 (32 ∷ b ∷ bs) refl refl
     ∙ (two_rows (row_at n c (45 ∷ 32 ∷ b ∷ bs) (spaces c ++ (45 ∷ 32 ∷ b ∷ bs))) compact
     ∙ ap₂ (λ (at : ℕ) (text : List ℕ). row_at n c (45 ∷ []) (spaces c ++ (45 ∷ 32 ∷ b ∷ bs)) ∷ row_at n at text (spaces c ++ (45 ∷ 32 ∷ b ∷ bs)) ∷ []) column skip)

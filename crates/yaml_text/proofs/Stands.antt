@@ -20,6 +20,7 @@ use Rattle.yaml_text.proofs.ScalarReads.{printed_key}
 use Rattle.yaml_text.proofs.NumberReads.{Shown, integer_shown}
 use Rattle.yaml_text.proofs.RowReads.{row_at, key_row, key_inside, dash_row, dash_inside, compact_rows, rows_append}
 use Rattle.yaml_text.proofs.LineReads.{printed_first, text_shown, null_shown, truth_shown, shown_line, shown_no_key, no_line, empty_list_line, empty_map_line, empty_list_no_key, empty_map_no_key, nothing_no_key}
+use Rattle.yaml_read.specs.declared.style.Style.TheVariants.{Block}
 
 -- ---- keys that differ from those before
 same_is : (a b : List ℕ) → is_same a b ≡ true → a ≡ b
@@ -71,7 +72,7 @@ some_if false o x is = absurd cc
 
 key_column : (column : ℕ) (r : Row) (x : List ℕ × List ℕ) → own_key column r ≡ Some x → r.column ≡ column
 unfolding own_key
-key_column column r x is = eqb-true r.column column (and_parts (eqb r.column column) (not (is_outside r)) (some_if (is_own column r) (key false r.text) x is)).0
+key_column column r x is = eqb-true r.column column (and_parts (eqb r.column column) (not (is_outside r)) (some_if (is_own column r) (key Block r.text) x is)).0
 
 dash_column : (column : ℕ) (r : Row) → own_dash column r ≡ true → r.column ≡ column
 unfolding own_dash
@@ -101,7 +102,7 @@ list_deeper n column above rows t ts lt is =
     (ap (begins_deeper above) is.3 ∙ lt-ltb above r.column (omega arith), λ (e : rows ≡ []). absurd (cc (e, is.3)))
 
 -- ---- rows that go on
-own_key_is : (column : ℕ) (r : Row) (x : List ℕ × List ℕ) → r.column ≡ column → is_outside r ≡ false → key false r.text ≡ Some x → own_key column r ≡ Some x
+own_key_is : (column : ℕ) (r : Row) (x : List ℕ × List ℕ) → r.column ≡ column → is_outside r ≡ false → key Block r.text ≡ Some x → own_key column r ≡ Some x
 unfolding own_key
 own_key_is column r x at inside is = rw (eq-eqb r.column column at, inside, is) refl
 
@@ -176,7 +177,7 @@ row_of_pair num column k t =
     let r = row_at num column (first.first ∷ (first.others ++ (58 ∷ behind t))) (spaces column ++ (first.first ∷ (first.others ++ (58 ∷ behind t)))) in (
       r,
       ap (λ (x : List ℕ). rows_of_line num (spaces column ++ x)) at ∙ key_row num column first.first (first.others ++ (58 ∷ behind t)) first.start,
-      own_key_is column r (k, behind t) refl (key_inside num column column first.first (first.others ++ (58 ∷ behind t)) r.text first.start) (ap (key false) (sym at) ∙ printed_key k (behind t) (gap_behind t)),
+      own_key_is column r (k, behind t) refl (key_inside num column column first.first (first.others ++ (58 ∷ behind t)) r.text first.start) (ap (key Block) (sym at) ∙ printed_key k (behind t) (gap_behind t)),
       no_dash column first.first (first.others ++ (58 ∷ behind t)) (apart starts_key first.first 45 first.start refl),
     )
 
@@ -190,7 +191,7 @@ rows_of_compact num column k t =
     let first = printed_first k in
     let rest = first.others ++ (58 ∷ behind t) in
     let at : printed k ++ (58 ∷ behind t) ≡ first.first ∷ rest = ap (λ (x : List ℕ). x ++ (58 ∷ behind t)) first.is in
-    let is : key false (first.first ∷ rest) ≡ Some (k, behind t) = ap (key false) (sym at) ∙ printed_key k (behind t) (gap_behind t) in
+    let is : key Block (first.first ∷ rest) ≡ Some (k, behind t) = ap (key Block) (sym at) ∙ printed_key k (behind t) (gap_behind t) in
     let line = spaces column ++ (45 ∷ 32 ∷ first.first ∷ rest) in
     let same : compact_line column k t ≡ line = append_assoc (spaces column) (45 ∷ 32 ∷ []) (printed k ++ (58 ∷ behind t)) ∙ ap (λ (x : List ℕ). spaces column ++ (45 ∷ 32 ∷ x)) at in
     let lone = row_at num column (45 ∷ []) line in
@@ -209,7 +210,7 @@ ItemStands n num column t =
     (r : Row) × (body : List Row) × (rows_from num (item_lines column t) ≡ r ∷ body) × (own_dash column r ≡ true)
     × HasValue n (tail r.text) (begins_deeper column body) body t (IsNode n body t)
 
-scalar_item : (n num column : ℕ) (t : Shape) → item_lines column t ≡ (spaces column ++ (45 ∷ behind t)) ∷ [] → entry_on_line n (behind t) ≡ Ok (Some t) → key false (skip_spaces (behind t)) ≡ None → ItemStands n num column t
+scalar_item : (n num column : ℕ) (t : Shape) → item_lines column t ≡ (spaces column ++ (45 ∷ behind t)) ∷ [] → entry_on_line n (behind t) ≡ Ok (Some t) → key Block (skip_spaces (behind t)) ≡ None → ItemStands n num column t
 scalar_item n num column t lines value no_key =
     let r = row_at num column (45 ∷ behind t) (spaces column ++ (45 ∷ behind t)) in (
       r,

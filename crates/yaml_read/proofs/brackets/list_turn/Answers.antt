@@ -1,4 +1,4 @@
-use Rattle.std.proofs.Common.{◌≡◌, ◌∙◌, List, ℕ, reverse, sym, ap, ap₂, arith}
+use Rattle.std.proofs.Common.{◌∙◌, List, ℕ, reverse, sym, ap, ap₂, arith}
 use Rattle.yaml_read.specs.declared.brackets.Bracket.{Bracket}
 use Rattle.yaml_read.specs.Bytes.{begins, tail}
 use Rattle.yaml_read.specs.Brackets.{behind, from_node}

@@ -1,4 +1,4 @@
-use Rattle.std.proofs.Common.{◌≡◌, ◌∙◌, ◌-◌, ◌∷◌, List, ℕ, reverse, Ok, Err, sym, ap, ap₂, arith}
+use Rattle.std.proofs.Common.{◌∙◌, ◌-◌, ◌∷◌, List, ℕ, reverse, Err, sym, ap, ap₂, arith}
 use Rattle.std.proofs.lemmas.Result.{err_from_is_err_and}
 use Rattle.doc_tree.specs.Shape.{Shape}
 use Rattle.doc_tree.specs.declared.tree.Tree.{Tree}
@@ -10,6 +10,7 @@ use Rattle.yaml_read.specs.Brackets.{behind, inside}
 use Rattle.yaml_read.proofs.Fronts.{Fails-bind, Fails-same}
 use Rattle.yaml_read.proofs.BracketLaws.{node_other, node_none, node_list, node_map, node_scalar}
 use Rattle.yaml_read.proofs.brackets.node.Goals as goal
+use Rattle.doc_tree.specs.declared.limits.TheConstants.{MAX_BYTES}
 
 pub returns-then-begins_other : goal.returns-then-begins_other
 returns-then-begins_other c = node_other c.args.repeats c.args.levels (reverse c.args.stack.items) c.args.text.now (sym c.if-begins_other.ensures)
@@ -27,7 +28,7 @@ returns-then-begins c =
 pub returns-then-begins-2 : goal.returns-then-begins-2
 returns-then-begins-2 c =
     node_map c.args.repeats c.args.levels (reverse c.args.stack.items) c.args.text.now (sym c.if-begins_other.ensures) (omega arith) (sym c.if-begins.ensures) (sym c.if-begins-2.ensures)
-    ∙ (ap (λ (ps : List (List ℕ × Tree)). inside c.args.repeats (InMap (c.args.levels - 1) 4194304 ps ∷ reverse c.args.stack.items) (tail c.args.text.now)) (sym c.new.ensures)
+    ∙ (ap (λ (ps : List (List ℕ × Tree)). inside c.args.repeats (InMap (c.args.levels - 1) MAX_BYTES ps ∷ reverse c.args.stack.items) (tail c.args.text.now)) (sym c.new.ensures)
     ∙ ap₂ (λ (bs : List Bracket) (b : List ℕ). inside c.args.repeats bs b) (sym c.in_ok-more-2.ensures) (sym c.tail-then-begins-2.ensures))
 
 pub returns-in_err-rest : goal.returns-in_err-rest

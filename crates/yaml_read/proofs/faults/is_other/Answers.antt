@@ -1,4 +1,4 @@
-use Rattle.std.proofs.Common.{◌≡◌, ◌∙◌, ap}
+use Rattle.std.proofs.Common.{◌∙◌, ap}
 use Rattle.yaml_read.specs.declared.stop.Repeats.TheVariants.{Taken}
 use Rattle.yaml_read.specs.Faults.{entry_by_itself}
 use Rattle.yaml_read.specs.Brackets.{is_other_stop}

@@ -11,6 +11,7 @@ use Rattle.yaml_read.proofs.Shapes.{shape-List, shape-Map}
 use Rattle.yaml_read.proofs.FlowLaws.{items_end, items_fail, items_unparted, items_go, items_turns, pairs_end, keys_fail, values_fail, pairs_unparted, pairs_go, pairs_turns, flow_other, flow_deep, flow_unfit, flow_list, flow_map, flow_scalar, list_rest, map_rest}
 use Rattle.yaml_read.proofs.flow.+flow.Goals as goal
 use Rattle.yaml_read.proofs.flow.+flow.Goals.{flow-then-begins_node, flow-else-begins_node}
+use Rattle.doc_tree.specs.declared.limits.TheConstants.{MAX_BYTES}
 
 pub flow-returns-then-begins_other : goal.flow-returns-then-begins_other
 flow-returns-then-begins_other t c = flow_other c.args.repeats c.args.levels c.args.text.now (sym c.if-begins_other.ensures)
@@ -27,26 +28,26 @@ pub flow-returns-in_err-items : goal.flow-returns-in_err-items
 flow-returns-in_err-items t c =
     let p = err_from_is_err_and c.from_residual.result c.from_residual.ensures.1 in
     let e = flow_list c.args.repeats c.args.levels c.args.text.now (sym c.if-begins_other.ensures) (omega arith) (sym c.if-begins.ensures) in
-    let inner = Fails-same c.in_err-items.field-0.0 _ _ (ap (flow_items c.args.repeats (c.args.levels - 1) (flow c.args.repeats (c.args.levels - 1)) 4194304) c.tail.ensures) c.in_err-items.ensures in
+    let inner = Fails-same c.in_err-items.field-0.0 _ _ (ap (flow_items c.args.repeats (c.args.levels - 1) (flow c.args.repeats (c.args.levels - 1)) MAX_BYTES) c.tail.ensures) c.in_err-items.ensures in
     rw (p.1, p.2) (Fails-same c.in_err-items.field-0.0 _ _ (sym e) (Fails-bind c.in_err-items.field-0.0 _ list_rest inner))
 
 pub flow-returns-then-begins : goal.flow-returns-then-begins
 flow-returns-then-begins t c =
     flow_list c.args.repeats c.args.levels c.args.text.now (sym c.if-begins_other.ensures) (omega arith) (sym c.if-begins.ensures)
-    ∙ (ap (λ b. flow_items c.args.repeats (c.args.levels - 1) (flow c.args.repeats (c.args.levels - 1)) 4194304 b >>= list_rest) (sym c.tail.ensures)
+    ∙ (ap (λ b. flow_items c.args.repeats (c.args.levels - 1) (flow c.args.repeats (c.args.levels - 1)) MAX_BYTES b >>= list_rest) (sym c.tail.ensures)
     ∙ (ap (λ r. r >>= list_rest) c.in_ok-items.ensures ∙ ap (λ s. Ok (s, c.in_ok-items.rest.now)) (sym (shape-List c.in_ok-items.items))))
 
 pub flow-returns-in_err-pairs : goal.flow-returns-in_err-pairs
 flow-returns-in_err-pairs t c =
     let p = err_from_is_err_and c.from_residual-in_err-pairs.result c.from_residual-in_err-pairs.ensures.1 in
     let e = flow_map c.args.repeats c.args.levels c.args.text.now (sym c.if-begins_other.ensures) (omega arith) (sym c.if-begins.ensures) (sym c.if-begins-2.ensures) in
-    let inner = Fails-same c.in_err-pairs.field-0.0 _ _ (ap (flow_pairs c.args.repeats (c.args.levels - 1) (flow c.args.repeats (c.args.levels - 1)) 4194304 []) c.tail-then-begins-2.ensures) c.in_err-pairs.ensures in
+    let inner = Fails-same c.in_err-pairs.field-0.0 _ _ (ap (flow_pairs c.args.repeats (c.args.levels - 1) (flow c.args.repeats (c.args.levels - 1)) MAX_BYTES []) c.tail-then-begins-2.ensures) c.in_err-pairs.ensures in
     rw (p.1, p.2) (Fails-same c.in_err-pairs.field-0.0 _ _ (sym e) (Fails-bind c.in_err-pairs.field-0.0 _ map_rest inner))
 
 pub flow-returns-then-begins-2 : goal.flow-returns-then-begins-2
 flow-returns-then-begins-2 t c =
     flow_map c.args.repeats c.args.levels c.args.text.now (sym c.if-begins_other.ensures) (omega arith) (sym c.if-begins.ensures) (sym c.if-begins-2.ensures)
-    ∙ (ap (λ b. flow_pairs c.args.repeats (c.args.levels - 1) (flow c.args.repeats (c.args.levels - 1)) 4194304 [] b >>= map_rest) (sym c.tail-then-begins-2.ensures)
+    ∙ (ap (λ b. flow_pairs c.args.repeats (c.args.levels - 1) (flow c.args.repeats (c.args.levels - 1)) MAX_BYTES [] b >>= map_rest) (sym c.tail-then-begins-2.ensures)
     ∙ (ap (λ r. r >>= map_rest) c.in_ok-pairs.ensures ∙ ap (λ s. Ok (s, c.in_ok-pairs.rest.now)) (sym (shape-Map c.in_ok-pairs.pairs))))
 
 pub flow-returns : goal.flow-returns

@@ -7,7 +7,6 @@ use Rattle.std.specs.Str.Lines.{lines}
 use Rattle.yaml_read.specs.declared.fault.YamlFault.{YamlFault}
 use Rattle.yaml_read.specs.Standing.{StopsAt, line_of}
 use Rattle.yaml_read.specs.Rows.{rows_of}
-use Rattle.yaml_read.specs.Bytes.{max_bytes}
 use Rattle.yaml_read.specs.Reading.{document, reading}
 use Rattle.yaml_read.proofs.Sound.{document_sound}
 use Rattle.yaml_read.proofs.Complete.{document_complete, one_tree}
@@ -15,11 +14,12 @@ use Rattle.yaml_read.proofs.First.{document_stops}
 use Rattle.yaml_read.proofs.Lines.{lines_stop}
 use Rattle.yaml_read.proofs.Texts.{reading_document}
 use Rattle.yaml_read.proofs.laws.reading_laws.Goals as goal
+use Rattle.doc_tree.specs.declared.limits.TheConstants.{MAX_BYTES}
 
-within : (bytes : List ℕ) → length bytes ≤ max_bytes → IsUtf8 bytes → reading bytes ≡ document (rows_of bytes)
+within : (bytes : List ℕ) → length bytes ≤ MAX_BYTES → IsUtf8 bytes → reading bytes ≡ document (rows_of bytes)
 unfolding reading
 within bytes le utf8 =
-    let small = le-ltb max_bytes (length bytes) le in
+    let small = le-ltb MAX_BYTES (length bytes) le in
     let whole = le-ltb (utf8_valid_len bytes) (length bytes) (omega (arith, utf8_valid_len-IsUtf8 bytes utf8)) in
     rw (small, whole) refl
 

@@ -4,4 +4,4 @@ use Rattle.yaml_read.proofs.Texts.{behind}
 use Rattle.yaml_read.proofs.plain.plain_split.Given as goal
 
 abbrev pub invariant-loop-i : goal.invariant-loop-i
-invariant-loop-i l = behind (take l.i l.text) (plain_split l.flow l.spaced (drop l.i l.text)) ≡ plain_split l.flow false l.text
+invariant-loop-i l = behind (take l.i l.text) (plain_split l.style l.spaced (drop l.i l.text)) ≡ plain_split l.style false l.text

@@ -8,20 +8,21 @@ use Rattle.yaml_read.specs.Seen.{Answers}
 use Rattle.yaml_read.proofs.Kept.{Kept}
 use Rattle.yaml_read.proofs.KeptRows.{reading_kept}
 use Rattle.yaml_read.proofs.read.tree_of_yaml.Goals as goal
+use Rattle.doc_tree.specs.declared.limits.TheConstants.{MAX_LEVELS}
 
-kept : (bytes : List ℕ) (r : Result Tree YamlFault) → Answers shape r (reading bytes) → IfOk r (λ tree. Kept 32 (shape tree))
+kept : (bytes : List ℕ) (r : Result Tree YamlFault) → Answers shape r (reading bytes) → IfOk r (λ tree. Kept MAX_LEVELS (shape tree))
 kept bytes (Ok tree) is = reading_kept bytes (shape tree) is
 kept bytes (Err f) is = tt
 
-distinct : (r : Result Tree YamlFault) → IfOk r (λ tree. Kept 32 (shape tree)) → IfOk r (λ tree. is_distinct (shape tree) ≡ true)
+distinct : (r : Result Tree YamlFault) → IfOk r (λ tree. Kept MAX_LEVELS (shape tree)) → IfOk r (λ tree. is_distinct (shape tree) ≡ true)
 distinct (Ok tree) is = is.distinct
 distinct (Err f) is = tt
 
-depth : (r : Result Tree YamlFault) → IfOk r (λ tree. Kept 32 (shape tree)) → IfOk r (λ tree. levels (shape tree) ≤ 32)
+depth : (r : Result Tree YamlFault) → IfOk r (λ tree. Kept MAX_LEVELS (shape tree)) → IfOk r (λ tree. levels (shape tree) ≤ MAX_LEVELS)
 depth (Ok tree) is = is.depth
 depth (Err f) is = tt
 
-short : (r : Result Tree YamlFault) → IfOk r (λ tree. Kept 32 (shape tree)) → IfOk r (λ tree. has_short_lists (shape tree) ≡ true)
+short : (r : Result Tree YamlFault) → IfOk r (λ tree. Kept MAX_LEVELS (shape tree)) → IfOk r (λ tree. has_short_lists (shape tree) ≡ true)
 short (Ok tree) is = is.short
 short (Err f) is = tt
 
