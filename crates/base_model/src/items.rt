@@ -1,13 +1,13 @@
-//! A list in a field.
-ghost use Rattle.std.specs.Prelude.{◌≡◌, ◌++◌, ◌∷◌, [], OnOk, OnErr};
+//! Lists that a struct owns.
+ghost use Rattle.std.specs.Prelude.{◌≡◌, ◌<◌, ◌≤◌, ◌++◌, ◌∷◌, [], length, slice_index_or, insert, remove, OnOk, OnErr};
 ghost use Rattle.std.specs.Cmp.Lexicographic.{pointwise, slice_cmp, slice_partial_cmp, lists_equiv, lists_agrees, lists_total, lists_ties, lists_per, lists_po};
 
 use crate::OutOfMemory;
 use std::cmp::Ordering;
 use std::marker::Model;
 
-/// A list that is owned. Contracts see it as the list of its items, so that two of them with the same items are one
-/// value; a field of a type that contracts compare has this in place of a vector.
+/// An owned list. Contracts see the list of its items, so that two of them with the same items are equal values; a type
+/// that contracts compare has this in place of a vector.
 #[derive(Clone, Debug, Drop)]
 pub struct Items<T> {
     items: Vec<T>,
@@ -22,7 +22,7 @@ impl<T> Model for Items<T> {
 }
 
 impl<T> Items<T> {
-    /// The list of these items. It takes no memory.
+    /// The list of these items. It allocates nothing.
     pub fn of(items: Vec<T>) -> Items<T>
         ensures { result ≡ items.items }
     {
@@ -35,7 +35,7 @@ impl<T> Items<T> {
         &self.items
     }
 
-    /// The vector of the items. It takes no memory.
+    /// The vector of the items. It allocates nothing.
     pub fn into_vec(self) -> Vec<T>
         ensures { result.items ≡ self }
     {
@@ -52,6 +52,27 @@ impl<T> Items<T> {
     {
         self.items.push(item)?;
         Ok(())
+    }
+
+    /// Inserts an item at an index. Where memory is refused, the list is as it was.
+    pub fn insert(&mut self, index: usize, item: T) -> Result<(), OutOfMemory>
+    where
+        T: Drop,
+        requires { index ≤ length self.old }
+        ensures ok { OnOk result (self.new ≡ insert self.old index item) }
+        ensures err { OnErr result (self.new ≡ self.old) }
+    {
+        self.items.insert(index, item)?;
+        Ok(())
+    }
+
+    /// Takes the item at an index out.
+    pub fn remove(&mut self, index: usize) -> T
+        requires { index < length self.old }
+        ensures item { (d : T) → result ≡ slice_index_or self.old index d }
+        ensures rest { self.new ≡ remove self.old index }
+    {
+        self.items.remove(index)
     }
 
     pub fn clear(&mut self)
@@ -98,5 +119,21 @@ impl<T: Ord> Ord for Items<T> {
 
     fn cmp(&self, other: &Items<T>) -> Ordering {
         self.items.cmp(&other.items)
+    }
+}
+
+#[cfg(test)]
+mod tests {
+    use super::*;
+    use std::test::Fail;
+
+    #[test]
+    fn inserts_and_removes(rt: HostRuntime) -> Result<(), Fail> {
+        let mut items = Items::of(Vec::from_array(rt.alloc(), [1u8, 3])?);
+        items.insert(1, 2)?;
+        items.push(4)?;
+        assert_eq!(rt; items.remove(0), 1);
+        assert_eq!(rt; items.items().as_slice(), [2, 3, 4].as_slice());
+        Ok(())
     }
 }

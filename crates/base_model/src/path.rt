@@ -1,10 +1,9 @@
 //! A place in a document.
-ghost use Rattle.std.specs.Prelude.{◌≡◌, ◌++◌, take, length, OnOk, OnErr};
+ghost use Rattle.std.specs.Prelude.{◌≡◌, ◌++◌, ◌∷◌, [], take, length, IfOk, OnOk, OnErr};
 ghost use Rattle.base_model.specs.PathText.{step_text, steps_text, path_text};
 
-use crate::{Items, OutOfMemory, Str};
-use itoa::Buffer;
-use std::alloc::AllocError;
+use crate::{Items, OutOfMemory, Str, push_decimal};
+use std::alloc::Global;
 
 /// One step down into a document.
 #[derive(Debug, PartialEq, Eq, Drop)]
@@ -21,8 +20,67 @@ pub struct Path {
     pub steps: Items<PathStep>,
 }
 
-/// Appends a step behind others. Where memory is refused, a part of it may stand behind the old bytes.
-fn append_step(step: &PathStep, out: &mut Vec<u8>) -> Result<(), AllocError>
+impl PathStep {
+    /// An equal step.
+    pub fn copy(&self) -> Result<PathStep, OutOfMemory>
+        ensures { IfOk result (λ copy. copy ≡ self.now) }
+    {
+        match self {
+            PathStep::Key(key) => Ok(PathStep::Key(key.copy()?)),
+            PathStep::At(position) => Ok(PathStep::At(*position)),
+        }
+    }
+}
+
+fn copy_steps(steps: &Vec<PathStep>) -> Result<Vec<PathStep>, OutOfMemory>
+    ensures { IfOk result (λ copies. copies.items ≡ steps.now.items) }
+{
+    let mut copies = Vec::new(*steps.allocator());
+    for step in steps {
+        copies.push(step.copy()?)?;
+    }
+    Ok(copies)
+}
+
+impl Path {
+    /// The place at the top of a document. It allocates nothing.
+    pub fn top(alloc: Global) -> Path
+        ensures { result.steps ≡ [] }
+    {
+        Path {
+            steps: Items::of(Vec::new(alloc)),
+        }
+    }
+
+    /// An equal path.
+    pub fn copy(&self) -> Result<Path, OutOfMemory>
+        ensures { IfOk result (λ copy. copy ≡ self.now) }
+    {
+        Ok(Path {
+            steps: Items::of(copy_steps(self.steps.items())?),
+        })
+    }
+
+    /// Goes a step further down. Where memory is refused, the path is as it was.
+    pub fn push(&mut self, step: PathStep) -> Result<(), OutOfMemory>
+        ensures ok { OnOk result (self.new.steps ≡ self.old.steps ++ step ∷ []) }
+        ensures err { OnErr result (self.new.steps ≡ self.old.steps) }
+    {
+        self.steps.push(step)
+    }
+
+    /// The path that goes a step further down than this one.
+    pub fn extended(&self, step: PathStep) -> Result<Path, OutOfMemory>
+        ensures { IfOk result (λ path. path.steps ≡ self.now.steps ++ step ∷ []) }
+    {
+        let mut path = self.copy()?;
+        path.push(step)?;
+        Ok(path)
+    }
+}
+
+// Appends a step. Where memory is refused, a part of it may follow the old bytes.
+fn append_step(step: &PathStep, out: &mut Vec<u8>) -> Result<(), OutOfMemory>
     ensures ok { OnOk result (out.new.items ≡ out.old.items ++ step_text step.now) }
     ensures err { OnErr result (take (length out.old.items) out.new.items ≡ out.old.items) }
 {
@@ -32,16 +90,15 @@ fn append_step(step: &PathStep, out: &mut Vec<u8>) -> Result<(), AllocError>
             out.extend_from_slice(key.as_str().as_bytes())?;
         }
         PathStep::At(position) => {
-            let mut buffer = Buffer::new();
             out.push(b'[')?;
-            out.extend_from_slice(buffer.format(*position).as_bytes())?;
+            push_decimal(*position, out)?;
             out.push(b']')?;
         }
     }
     Ok(())
 }
 
-fn append_steps(steps: &[PathStep], out: &mut Vec<u8>) -> Result<(), AllocError>
+fn append_steps(steps: &[PathStep], out: &mut Vec<u8>) -> Result<(), OutOfMemory>
     ensures ok { OnOk result (out.new.items ≡ out.old.items ++ steps_text steps.now) }
     ensures err { OnErr result (take (length out.old.items) out.new.items ≡ out.old.items) }
 {
@@ -51,7 +108,7 @@ fn append_steps(steps: &[PathStep], out: &mut Vec<u8>) -> Result<(), AllocError>
     Ok(())
 }
 
-fn append_path(steps: &[PathStep], out: &mut Vec<u8>) -> Result<(), AllocError>
+fn append_path(steps: &[PathStep], out: &mut Vec<u8>) -> Result<(), OutOfMemory>
     ensures ok { OnOk result (out.new.items ≡ out.old.items ++ path_text steps.now) }
     ensures err { OnErr result (take (length out.old.items) out.new.items ≡ out.old.items) }
 {
@@ -64,8 +121,8 @@ fn append_path(steps: &[PathStep], out: &mut Vec<u8>) -> Result<(), AllocError>
     }
 }
 
-/// Appends the text of a path, as in `interfaces[0].ipv4.address[1].ip`: a key behind a dot, but for the first step's,
-/// and a position in brackets. The path of no step has the empty text. Where memory is refused, `out` is as it was.
+/// Appends a path as in `interfaces[0].ipv4.address[1].ip`: a key after a dot, which the first step's has not, and a
+/// position in brackets. The path of no step is the empty string. Where memory is refused, `out` is as it was.
 pub fn write_path(path: &Path, out: &mut Vec<u8>) -> Result<(), OutOfMemory>
     ensures ok { OnOk result (out.new.items ≡ out.old.items ++ path_text path.now.steps) }
     ensures err { OnErr result (out.new.items ≡ out.old.items) }
@@ -83,7 +140,7 @@ pub fn write_path(path: &Path, out: &mut Vec<u8>) -> Result<(), OutOfMemory>
 #[cfg(test)]
 mod tests {
     use super::*;
-    use std::alloc::Global;
+    use std::alloc::AllocError;
     use std::test::Fail;
 
     fn key(alloc: Global, text: &str) -> Result<PathStep, AllocError> {
@@ -127,6 +184,20 @@ mod tests {
             write_path(&path, &mut out)?;
             assert_eq!(rt; out.as_slice(), text.as_bytes());
         }
+        Ok(())
+    }
+
+    #[test]
+    fn extends_paths(rt: HostRuntime) -> Result<(), Fail> {
+        let alloc = rt.alloc();
+        let mut path = Path::top(alloc);
+        path.push(key(alloc, "routes")?)?;
+        let item = path.extended(PathStep::At(3))?;
+        let mut out = Vec::new(alloc);
+        write_path(&path, &mut out)?;
+        push_decimal(-7i64, &mut out)?;
+        write_path(&item, &mut out)?;
+        assert_eq!(rt; out.as_slice(), b"routes-7routes[3]".as_slice());
         Ok(())
     }
 }

@@ -1,11 +1,11 @@
-//! A text in a field.
+//! Strings that a struct owns.
 ghost use Rattle.std.specs.Prelude.{◌≡◌, IfOk, string_bytes};
 
 use std::alloc::AllocError;
 use std::cmp::Ordering;
 use std::marker::Model;
 
-/// A text that is owned, in UTF-8. Contracts see it as the list of its bytes.
+/// An owned string, in UTF-8. Contracts see the list of its bytes.
 #[derive(Debug, Drop)]
 pub struct Str {
     text: String,
@@ -20,7 +20,7 @@ impl Model for Str {
 }
 
 impl Str {
-    /// The text. It takes no memory.
+    /// This string. It allocates nothing.
     pub fn of(text: String) -> Str
         ensures { result ≡ string_bytes text }
     {
@@ -33,7 +33,7 @@ impl Str {
         self.text.as_str()
     }
 
-    /// The text as a string of std. It takes no memory.
+    /// The string of std. It allocates nothing.
     pub fn into_string(self) -> String
         ensures { string_bytes result ≡ self }
     {
@@ -41,7 +41,7 @@ impl Str {
         text
     }
 
-    /// An equal text.
+    /// An equal string.
     pub fn copy(&self) -> Result<Str, AllocError>
         ensures { IfOk result (λ text. text ≡ self.now) }
     {
