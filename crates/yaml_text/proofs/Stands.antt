@@ -21,6 +21,7 @@ use Rattle.yaml_text.proofs.NumberReads.{Shown, integer_shown}
 use Rattle.yaml_text.proofs.RowReads.{row_at, key_row, key_inside, dash_row, dash_inside, compact_rows, rows_append}
 use Rattle.yaml_text.proofs.LineReads.{printed_first, text_shown, null_shown, truth_shown, shown_line, shown_no_key, no_line, empty_list_line, empty_map_line, empty_list_no_key, empty_map_no_key, nothing_no_key}
 use Rattle.yaml_read.specs.declared.style.Style.TheVariants.{Block}
+use Rattle.doc_tree.specs.declared.limits.TheConstants.{MAX_LEVELS}
 
 -- ---- keys that differ from those before
 same_is : (a b : List ℕ) → is_same a b ≡ true → a ≡ b
@@ -366,8 +367,8 @@ mutual
       map_item n num column ps le (λ m less. first_stands m (num + 1) (column + 2) (compact_row num column ps) ps (compact_first num column ps) (record { distinct = good.distinct; fit = good.fit }) less)
 
 -- a printed map with a pair stands for itself
-pub map_stands : (k : List ℕ) (t : Shape) (ps : Pairs) → pairs_are_distinct (pair k t ps) ≡ true → pairs_fit (pair k t ps) ≡ true → levels (mapping (pair k t ps)) ≤ 32
-    → IsNode 32 (rows_from 1 (pairs_lines [] 0 (pair k t ps))) (mapping (pair k t ps))
+pub map_stands : (k : List ℕ) (t : Shape) (ps : Pairs) → pairs_are_distinct (pair k t ps) ≡ true → pairs_fit (pair k t ps) ≡ true → levels (mapping (pair k t ps)) ≤ MAX_LEVELS
+    → IsNode MAX_LEVELS (rows_from 1 (pairs_lines [] 0 (pair k t ps))) (mapping (pair k t ps))
 map_stands k t ps distinct fit le =
     let s = pairs_stand 31 1 0 [] (pair k t ps) (record { distinct = distinct; fit = fit }) (free_none (pair k t ps)) (omega arith) in
     let below = map_some 31 0 [] (rows_from 1 (pairs_lines [] 0 (pair k t ps))) k t ps s in

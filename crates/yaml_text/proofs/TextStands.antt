@@ -10,6 +10,7 @@ use Rattle.yaml_text.specs.Layout.{spaces, pairs_lines, below_key, yaml_text_of,
 use Rattle.yaml_text.specs.Fits.{integers_fit}
 use Rattle.yaml_text.proofs.Stands.{row_of_pair, map_stands}
 use Rattle.yaml_text.proofs.CleanLines.{clean_map, lines_of_text}
+use Rattle.doc_tree.specs.declared.limits.TheConstants.{MAX_LEVELS}
 
 no_start : (line : List ℕ) → begins 45 line ≡ false → is_same line (codes "---") ≡ false
 no_start [] is = refl
@@ -28,11 +29,11 @@ rows_are k t ps fit =
     ap rows_of_lines (lines_of_text (pairs_lines [] 0 (pair k t ps)) (clean_map (pair k t ps) fit))
     ∙ kept_all (rows_from 1 (pairs_lines [] 0 (pair k t ps))) row.0 (rows_from 2 (below_key 0 t ++ pairs_lines (spaces 0) 0 ps)) (ap (λ (rows : List Row). rows ++ rows_from 2 (below_key 0 t ++ pairs_lines (spaces 0) 0 ps)) row.1) row.3
 
-pub text_stands : (k : List ℕ) (t : Shape) (ps : Pairs) → is_distinct (mapping (pair k t ps)) ≡ true → integers_fit (mapping (pair k t ps)) ≡ true → levels (mapping (pair k t ps)) ≤ 32
+pub text_stands : (k : List ℕ) (t : Shape) (ps : Pairs) → is_distinct (mapping (pair k t ps)) ≡ true → integers_fit (mapping (pair k t ps)) ≡ true → levels (mapping (pair k t ps)) ≤ MAX_LEVELS
     → StandsFor (yaml_text_of (mapping (pair k t ps))) (mapping (pair k t ps))
-text_stands k t ps distinct fit le = inr (subst (λ (rows : List Row). IsNode 32 rows (mapping (pair k t ps))) (sym (rows_are k t ps fit)) (map_stands k t ps distinct fit le))
+text_stands k t ps distinct fit le = inr (subst (λ (rows : List Row). IsNode MAX_LEVELS rows (mapping (pair k t ps))) (sym (rows_are k t ps fit)) (map_stands k t ps distinct fit le))
 
-pub filled_stands : (t : Shape) → is_filled_map t ≡ true → is_distinct t ≡ true → integers_fit t ≡ true → levels t ≤ 32 → StandsFor (yaml_text_of t) t
+pub filled_stands : (t : Shape) → is_filled_map t ≡ true → is_distinct t ≡ true → integers_fit t ≡ true → levels t ≤ MAX_LEVELS → StandsFor (yaml_text_of t) t
 filled_stands nothing filled distinct fit le = absurd (false≢true filled)
 filled_stands (truth b) filled distinct fit le = absurd (false≢true filled)
 filled_stands (whole z) filled distinct fit le = absurd (false≢true filled)

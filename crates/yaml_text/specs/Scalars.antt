@@ -1,19 +1,11 @@
 -- How a scalar or a key is printed on its line.
-use Rattle.std.specs.Prelude.{ℕ, ◌+◌, ◌/◌, ◌%◌, Bool, true, false, not, ◌&&◌, ◌||◌, ◌==◌, nat_lt, if◌then◌else◌, List, [], ◌∷◌, ◌++◌, codes, flat_map}
+use Rattle.std.specs.Prelude.{ℕ, ◌+◌, ◌/◌, ◌%◌, Bool, false, not, ◌&&◌, ◌||◌, ◌==◌, nat_lt, if◌then◌else◌, List, [], ◌∷◌, ◌++◌, codes, flat_map}
 use Rattle.std.specs.List.{list_all, list_any}
 use Rattle.std.specs.Char.{is_ascii_alphanumeric}
 use Rattle.std.specs.Fmt.{signed_decimal}
 use Rattle.doc_tree.specs.Shape.{Shape, nothing, truth, whole, text, list, mapping}
 use Rattle.yaml_read.specs.Bytes.{quote, apostrophe, backslash, colon}
-use Rattle.yaml_read.specs.Plain.{plain_value}
-
-abbrev pub is_text : Shape → Bool
-is_text nothing = false
-is_text (truth b) = false
-is_text (whole z) = false
-is_text (text s) = true
-is_text (list ts) = false
-is_text (mapping ps) = false
+use Rattle.yaml_read.specs.Plain.{is_text, plain_value}
 
 -- a letter, a digit, or one of these signs
 abbrev pub is_plain_byte : ℕ → Bool

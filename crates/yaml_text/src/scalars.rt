@@ -34,7 +34,7 @@ fn hex_digit(digit: u8) -> char
 }
 
 /// Appends the escape of a control byte.
-fn put_control(byte: u8, out: &mut String) -> Result<(), AllocError>
+fn push_control(byte: u8, out: &mut String) -> Result<(), AllocError>
     requires { is_control byte ≡ true }
     ensures { OnOk result (string_bytes out.new ≡ string_bytes out.old ++ escaped byte) }
 {
@@ -44,12 +44,12 @@ fn put_control(byte: u8, out: &mut String) -> Result<(), AllocError>
 }
 
 /// Appends a character of ASCII as it stands between double quotes.
-fn put_ascii(byte: u8, out: &mut String) -> Result<(), AllocError>
+fn push_ascii(byte: u8, out: &mut String) -> Result<(), AllocError>
     requires { byte < 128 }
     ensures { OnOk result (string_bytes out.new ≡ string_bytes out.old ++ escaped byte) }
 {
     if is_control(byte) {
-        return put_control(byte, out);
+        return push_control(byte, out);
     }
     if byte == b'"' || byte == b'\\' {
         out.push('\\')?;
@@ -58,18 +58,18 @@ fn put_ascii(byte: u8, out: &mut String) -> Result<(), AllocError>
 }
 
 /// Appends a character as it stands between double quotes.
-fn put_escaped(c: char, out: &mut String) -> Result<(), AllocError>
+fn push_escaped(c: char, out: &mut String) -> Result<(), AllocError>
     ensures { OnOk result (string_bytes out.new ≡ string_bytes out.old ++ spelled escaped c) }
 {
     if c.is_ascii() {
-        put_ascii(c as u32 as u8, out)
+        push_ascii(c as u32 as u8, out)
     } else {
         out.push(c)
     }
 }
 
 /// Appends a character as it stands between single quotes.
-fn put_doubled(c: char, out: &mut String) -> Result<(), AllocError>
+fn push_doubled(c: char, out: &mut String) -> Result<(), AllocError>
     ensures { OnOk result (string_bytes out.new ≡ string_bytes out.old ++ spelled doubled c) }
 {
     if c == '\'' {
@@ -79,51 +79,51 @@ fn put_doubled(c: char, out: &mut String) -> Result<(), AllocError>
     }
 }
 
-fn put_all_escaped(text: &str, out: &mut String) -> Result<(), AllocError>
+fn append_escaped(text: &str, out: &mut String) -> Result<(), AllocError>
     ensures { OnOk result (string_bytes out.new ≡ string_bytes out.old ++ flat_map (spelled escaped) (chars text.now)) }
 {
     for c in text.chars() {
-        put_escaped(c, out)?;
+        push_escaped(c, out)?;
     }
     Ok(())
 }
 
-fn put_all_doubled(text: &str, out: &mut String) -> Result<(), AllocError>
+fn append_doubled(text: &str, out: &mut String) -> Result<(), AllocError>
     ensures { OnOk result (string_bytes out.new ≡ string_bytes out.old ++ flat_map (spelled doubled) (chars text.now)) }
 {
     for c in text.chars() {
-        put_doubled(c, out)?;
+        push_doubled(c, out)?;
     }
     Ok(())
 }
 
-fn put_in_double_quotes(text: &str, out: &mut String) -> Result<(), AllocError>
+fn push_in_double_quotes(text: &str, out: &mut String) -> Result<(), AllocError>
     ensures { OnOk result (string_bytes out.new ≡ string_bytes out.old ++ in_double_quotes text.now) }
 {
     out.push('"')?;
-    put_all_escaped(text, out)?;
+    append_escaped(text, out)?;
     out.push('"')
 }
 
-fn put_in_single_quotes(text: &str, out: &mut String) -> Result<(), AllocError>
+fn push_in_single_quotes(text: &str, out: &mut String) -> Result<(), AllocError>
     ensures { OnOk result (string_bytes out.new ≡ string_bytes out.old ++ in_single_quotes text.now) }
 {
     out.push('\'')?;
-    put_all_doubled(text, out)?;
+    append_doubled(text, out)?;
     out.push('\'')
 }
 
 /// Appends a text or a key.
 #[tactic(auto, unfolding(crate::specs::Scalars::printed))]
-pub fn put_text(text: &str, out: &mut String) -> Result<(), AllocError>
+pub fn push_text(text: &str, out: &mut String) -> Result<(), AllocError>
     ensures { OnOk result (string_bytes out.new ≡ string_bytes out.old ++ printed text.now) }
 {
     if is_plain(text) {
         return out.push_str(text);
     }
     if has_control(text.as_bytes()) {
-        put_in_double_quotes(text, out)
+        push_in_double_quotes(text, out)
     } else {
-        put_in_single_quotes(text, out)
+        push_in_single_quotes(text, out)
     }
 }

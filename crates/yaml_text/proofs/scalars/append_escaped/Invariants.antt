@@ -1,7 +1,7 @@
 use Rattle.std.proofs.Common.{◌≡◌, ◌++◌, string_bytes, flat_map}
 use Rattle.yaml_text.specs.Scalars.{escaped}
 use Rattle.yaml_text.specs.Spelled.{spelled}
-use Rattle.yaml_text.proofs.scalars.put_all_escaped.Given as goal
+use Rattle.yaml_text.proofs.scalars.append_escaped.Given as goal
 
 abbrev pub invariant-loop-c : goal.invariant-loop-c
 invariant-loop-c l = string_bytes l.out ≡ string_bytes l.fn.out ++ flat_map (spelled escaped) l.yielded

@@ -1,5 +1,5 @@
 use Rattle.std.proofs.Common.{◌≡◌, ◌++◌, replicate, string_bytes}
-use Rattle.yaml_text.proofs.layout.put_spaces.Given as goal
+use Rattle.yaml_text.proofs.layout.append_spaces.Given as goal
 
 abbrev pub invariant-loop : goal.invariant-loop
 invariant-loop l = string_bytes l.out ≡ string_bytes l.initial.out ++ replicate l.counter 32
