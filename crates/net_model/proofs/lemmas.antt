@@ -13,3 +13,9 @@ pub mod AllParts
 pub mod Grounded
 pub mod FactsHold
 pub mod Ordered
+pub mod ByName
+pub mod Maps
+pub mod Changes
+pub mod Parts
+pub mod Puts
+pub mod Ranks
