@@ -25,7 +25,7 @@ pub record HostView : Type 1 where
 -- the network takes the call and becomes this one, by the kernel's step
 pub record Accepted (call : Call) (old : NetData) (new : Option NetData) : Type 0 where
   pub next : NetData
-  pub stepped : step call old ≡ Some (Ok next)
+  pub stepped : step call old ≡ Ok next
   pub becomes : new ≡ Some next
 
 abbrev pub Accepts : Call → Option NetData → Option NetData → Type 0
@@ -34,7 +34,7 @@ Accepts call None new = ⊥
 
 -- the network refuses the call with this number
 abbrev pub Refuses : Call → Option NetData → ℕ → Type 0
-Refuses call (Some net) k = step call net ≡ Some (Err k)
+Refuses call (Some net) k = step call net ≡ Err k
 Refuses call None k = ⊥
 
 -- the call was done, or it wasn't

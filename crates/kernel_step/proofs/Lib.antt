@@ -1,3 +1,4 @@
-mod Mapped
 pub mod MtuLaw
-mod StepLaws
+pub mod InPlace
+pub mod OneLink
+pub mod RuleGap

@@ -1,8 +1,10 @@
 //! What the kernel does to a network.
 #![tactic(auto)]
 
-mod laws;
+mod one_link;
+mod rules;
 mod stepping;
 
-pub use laws::step_laws;
+pub use one_link::set_mac;
+pub use rules::add_rule;
 pub use stepping::{StepFault, step};

@@ -2,7 +2,9 @@
 use Rattle.std.proofs.Common.{◌≡◌, ◌∙◌, ◌⊎◌, ◌≤◌, ℕ, inl, inr, true, Option, Some, None, refl, sym, ap, subst, arith}
 use Rattle.std.specs.Prelude.{⊤, Result, Ok, Err}
 use Rattle.net_model.specs.NetData.{NetData}
-use Rattle.kernel_model.specs.Kernel.{Outcome, step, all_ethernet}
+use Rattle.kernel_model.specs.Outcome.{Outcome}
+use Rattle.kernel_model.specs.Devices.{all_ethernet}
+use Rattle.kernel_model.specs.Kernel.{step}
 use Rattle.net_model.specs.declared.Call.{Call}
 use Rattle.host_core.specs.Faults.{Rose}
 use Rattle.host_core.specs.HostView.{HostView, State, Kernel, counted, WasRefused, Accepts, Refuses, MaybeCalled, refused, dumped}
@@ -16,11 +18,11 @@ use Rattle.nmstate_top.specs.declared.report.Cause.TheVariants.{Done, NotYet, Me
 same_some : (x y : NetData) → Some x ≡ Some y → x ≡ y
 same_some x y e = cc
 
-abbrev accepted_with : NetData → Option Outcome
-accepted_with next = Some (Ok next)
+abbrev accepted_with : NetData → Outcome
+accepted_with next = Ok next
 
-abbrev refused_with : ℕ → Option Outcome
-refused_with k = Some (Err k)
+abbrev refused_with : ℕ → Outcome
+refused_with k = Err k
 
 same_next : (x y : NetData) → accepted_with x ≡ accepted_with y → x ≡ y
 same_next x y e = cc
@@ -36,7 +38,7 @@ module _ (honest tells : Type 0) (tells_if : honest → tells) (entry : LinkEntr
 
   accepted : (before after : Option NetData) → before ≡ Some net → Accepts call before after → after ≡ Some (merged net entry)
   accepted (Some n) after is taken =
-      let there : step call net ≡ Some (Ok taken.next) = ap (step call) (sym (same_some n net is)) ∙ taken.stepped in
+      let there : step call net ≡ Ok taken.next = ap (step call) (sym (same_some n net is)) ∙ taken.stepped in
       taken.becomes ∙ ap Some (same_next taken.next (merged net entry) (sym there ∙ leads.0))
   accepted None after is h = absurd h
 

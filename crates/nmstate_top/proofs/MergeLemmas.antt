@@ -4,7 +4,7 @@ use Rattle.std.specs.Prelude.{not, ◌&&◌, ◌||◌, ◌==◌, Ok}
 use Rattle.std.proofs.lemmas.Bool.{eqb-true}
 use Rattle.std.proofs.lemmas.Cmp.{nat_eq_equiv}
 use Rattle.net_model.specs.Links.{is_named}
-use Rattle.kernel_model.specs.Kernel.{with_mtu}
+use Rattle.kernel_model.specs.Settings.{with_mtu}
 use Rattle.net_model.specs.declared.Link.{Link}
 use Rattle.nmstate_top.specs.Words.{Text}
 use Rattle.nmstate_top.specs.Merge.{is_at, has_mtu, set_mtu_of}

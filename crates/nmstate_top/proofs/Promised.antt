@@ -2,7 +2,7 @@
 use Rattle.std.proofs.Common.{◌≡◌, ◌∙◌, ◌⊎◌, inl, inr, ℕ, Bool, true, false, Option, Some, None, refl, sym, ap, subst, take}
 use Rattle.std.specs.Prelude.{⊤, Result, Ok, Err, if◌then◌else◌}
 use Rattle.net_model.specs.NetData.{NetData}
-use Rattle.kernel_model.specs.Kernel.{all_ethernet}
+use Rattle.kernel_model.specs.Devices.{all_ethernet}
 use Rattle.document_model.specs.declared.Refused.{Refused}
 use Rattle.host_core.specs.declared.Failed.{Failed}
 use Rattle.nmstate_top.specs.Words.{Text, is_apply, stdin}

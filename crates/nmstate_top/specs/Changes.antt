@@ -1,7 +1,7 @@
 -- What a document's change leaves on a host.
 use Rattle.std.specs.Prelude.{◌≡◌, ◌⊎◌, ◌≤◌, ⊤, ℕ, true, false, Some, None, Result, Ok, Err}
 use Rattle.net_model.specs.NetData.{NetData}
-use Rattle.kernel_model.specs.Kernel.{all_ethernet}
+use Rattle.kernel_model.specs.Devices.{all_ethernet}
 use Rattle.host_core.specs.Faults.{Rose}
 use Rattle.host_core.specs.HostView.{HostView, WasRefused, Accepts, Refuses, MaybeCalled, counted, refused}
 use Rattle.net_model.specs.declared.Call.{Call}

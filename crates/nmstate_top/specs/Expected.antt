@@ -2,7 +2,7 @@
 -- What isn't built is a document of another form, and a network with a link that is no Ethernet device.
 use Rattle.std.specs.Prelude.{List, Option, Some, None, if◌then◌else◌, take}
 use Rattle.net_model.specs.NetData.{NetData}
-use Rattle.kernel_model.specs.Kernel.{all_ethernet}
+use Rattle.kernel_model.specs.Devices.{all_ethernet}
 use Rattle.document_model.specs.declared.Refused.{Refused}
 use Rattle.nmstate_top.specs.Words.{Text, is_apply}
 use Rattle.nmstate_top.specs.Documents.{document}

@@ -3,7 +3,9 @@ use Rattle.std.specs.Prelude.{◌≡◌, ◌||◌, ◌==◌, ℕ, List, Bool, fa
 use Rattle.std.specs.List.{list_all}
 use Rattle.net_model.specs.Links.{is_named}
 use Rattle.net_model.specs.NetData.{NetData}
-use Rattle.kernel_model.specs.Kernel.{has_link, with_mtu, step}
+use Rattle.kernel_model.specs.Words.{has_link}
+use Rattle.kernel_model.specs.Settings.{with_mtu}
+use Rattle.kernel_model.specs.Kernel.{step}
 use Rattle.net_model.specs.declared.Link.{Link}
 use Rattle.net_model.specs.declared.Call.{Call}
 use Rattle.document_model.specs.declared.Refused.{Refused}
@@ -46,7 +48,7 @@ has_mtu name mtu links = list_all (is_at name mtu) links
 
 -- the network takes the call, which leads to the merged one, and the two differ
 abbrev pub Leads : Call → NetData → LinkEntry → Type 0
-Leads call net entry = (step call net ≡ Some (Ok (merged net entry))) × (merged net entry ≡ net → ⊥)
+Leads call net entry = (step call net ≡ Ok (merged net entry)) × (merged net entry ≡ net → ⊥)
 
 abbrev pub Changes : NetData → LinkEntry → Result (Option Call) Refused → Type 0
 Changes net entry (Err r) = broken_rule net entry ≡ Some r

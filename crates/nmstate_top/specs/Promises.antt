@@ -1,7 +1,7 @@
 -- What a run promises, answer by answer.
 use Rattle.std.specs.Prelude.{◌≡◌, ◌⊎◌, ℕ, Some, None, true, false, take}
 use Rattle.net_model.specs.NetData.{NetData}
-use Rattle.kernel_model.specs.Kernel.{all_ethernet}
+use Rattle.kernel_model.specs.Devices.{all_ethernet}
 use Rattle.document_model.specs.declared.Refused.{Refused}
 use Rattle.host_core.specs.Faults.{Rose}
 use Rattle.host_core.specs.Streams.{Appends, AppendsSome}

@@ -1,6 +1,7 @@
 //! What a document of one link changes.
 ghost use Rattle.std.specs.Prelude.{◌≡◌, true, IsTrue};
-ghost use Rattle.kernel_model.specs.Kernel.{has_link, all_ethernet};
+ghost use Rattle.kernel_model.specs.Words.{has_link};
+ghost use Rattle.kernel_model.specs.Devices.{all_ethernet};
 ghost use Rattle.nmstate_top.specs.Documents.{mtu_fits};
 ghost use Rattle.nmstate_top.specs.Merge.{is_at, has_mtu, rule_of, Changes};
 

@@ -1,13 +1,17 @@
-use Rattle.std.proofs.Common.{◌≡◌, ◌∙◌, true, sym, ap, rules}
-use Rattle.kernel_model.specs.Kernel.{has_link, with_mtu}
+use Rattle.std.proofs.Common.{◌≡◌, ◌∙◌, true, sym, rules}
+use Rattle.kernel_model.specs.Words.{has_link}
 use Rattle.net_model.specs.Valid.{mtu_in_range}
-use Rattle.kernel_step.proofs.MtuLaw.{set_mtu-IsNet, mtu_stepped}
+use Rattle.net_model.specs.declared.Call.TheVariants.{SetMtu}
+use Rattle.kernel_step.proofs.MtuLaw.{mtu_stepped}
+use Rattle.kernel_laws.proofs.lemmas.StepKeeps.{keeps_net}
 use Rattle.kernel_step.proofs.stepping.step_mtu.Goals as goal
 
 pub from_parts-requires : goal.from_parts-requires
 from_parts-requires c =
+    let there : has_link c.args.name.now c.args.net.now.links ≡ true = search rules in
+    let fits : mtu_in_range c.args.mtu ≡ true = sym c.mtu_in_range.ensures ∙ c.if-not-mtu_in_range.false in
     rw (c.set_mtu_of.ensures, c.take-parts.ensures.parts)
-    (set_mtu-IsNet c.args.name.now c.args.mtu c.args.net.now c.requires (sym c.mtu_in_range.ensures ∙ c.if-not-mtu_in_range.false) c.take-parts.ensures.net)
+    (keeps_net (SetMtu c.args.name.now c.args.mtu) c.args.net.now _ c.take-parts.ensures.net (mtu_stepped c.args.name.now c.args.mtu c.args.net.now c.requires there fits))
 
 pub returns : goal.returns
 returns c =

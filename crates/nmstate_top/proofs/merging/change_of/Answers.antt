@@ -1,6 +1,6 @@
 use Rattle.std.proofs.Common.{◌≡◌, ◌∙◌, true, Some, List, rules, ap, sym, refl}
 use Rattle.std.specs.Prelude.{Ok}
-use Rattle.kernel_model.specs.Kernel.{has_link}
+use Rattle.kernel_model.specs.Words.{has_link}
 use Rattle.net_model.specs.Valid.{mtu_in_range}
 use Rattle.net_model.specs.declared.Link.{Link}
 use Rattle.nmstate_top.specs.Documents.{mtu_fits}
@@ -26,4 +26,4 @@ returns c =
     let there : has_link name net.links ≡ true = search rules in
     let fits : mtu_in_range mtu ≡ true = ap mtu_fits (sym c.in-Some.is) ∙ c.requires.fits in
     let differs : merged net c.args.entry.now ≡ net → ⊥ = λ same. not_both _ (has_mtu-same name mtu net.links (ap (λ o. with_mtu_of name o net.links) (sym c.in-Some.is) ∙ ap (λ n. n.links) same)) (sym c.has_mtu.ensures ∙ c.if-has_mtu.false) in
-    (search rules, (mtu_stepped name mtu net c.requires.built there fits ∙ ap (λ o. Some (Ok (record net { links = with_mtu_of name o net.links }))) (sym c.in-Some.is), differs))
+    (search rules, (mtu_stepped name mtu net c.requires.built there fits ∙ ap (λ o. Ok (record net { links = with_mtu_of name o net.links })) (sym c.in-Some.is), differs))

@@ -1,0 +1,11 @@
+pub mod lemmas
+pub mod Attaching
+pub mod AttachNet
+pub mod MtuNet
+pub mod Downing
+pub mod Adding
+pub mod Single
+pub mod Lists
+pub mod Detaching
+pub mod Addressing
+pub mod SameLists

@@ -1,0 +1,4 @@
+pub mod Frames
+pub mod Takes
+pub mod Lists
+pub mod Laws
