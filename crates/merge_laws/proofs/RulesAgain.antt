@@ -9,23 +9,14 @@ use Rattle.net_model.specs.Order.{rule_cmp}
 use Rattle.net_model.specs.OrderLaws.{rule_cmp_total}
 use Rattle.net_model.specs.Rule.{RuleParts}
 use Rattle.net_model.specs.Valid.{same_body, same_rule}
-use Rattle.net_model.proofs.lemmas.Exact.{exact_rules}
 use Rattle.net_model.proofs.lemmas.Ties.{rules_tie}
 use Rattle.net_model.proofs.lemmas.Truth.{and_left, and_right, and_both}
 use Rattle.document_model.specs.declared.RuleEntry.{RuleEntry}
-use Rattle.merge_model.specs.RuleNumbers.{is_rule_kept, numbered_rule, unnumbered_rule, free_from, take_unnumbered, first_taken, merged_rules}
+use Rattle.merge_model.specs.RuleNumbers.{is_taken, is_rule_kept, numbered_rule, unnumbered_rule, free_from, take_unnumbered, first_taken, merged_rules}
 use Rattle.merge_laws.proofs.RuleLaws.{rules_differ-law}
 use Rattle.merge_laws.proofs.Membership.{In, in_left, in_right, in_either, in_filter, filter_in, in_once, once_in, in_sorted, sorted_in, in_any, any_in, sorted_members}
-use Rattle.merge_laws.specs.Laws.{is_taken}
-use Rattle.merge_laws.proofs.FreeNumbers.{same_of, first_free, one_first_free}
-
-tie_equal : (o : Ordering) → is_eq o ≡ true → o ≡ Equal
-tie_equal Less h = absurd cc
-tie_equal Equal h = refl
-tie_equal Greater h = absurd cc
-
-one_rule : (a b : RuleParts) → same_rule a b ≡ true → a ≡ b
-one_rule a b h = exact_rules a b (tie_equal (rule_cmp a b) (sym (rules_tie a b) ∙ h))
+use Rattle.merge_model.proofs.lemmas.Equal.{one_rule}
+use Rattle.merge_model.proofs.lemmas.FreeNumbers.{same_of, first_free, one_first_free}
 
 itself : (a : RuleParts) → same_rule a a ≡ true
 itself a = rules_tie a a ∙ ap is_eq (tied_itself rule_cmp_total a)

@@ -1,6 +1,6 @@
 -- The merged rules: those of the running network that are kept, those stated with a priority, and then those stated
 -- without one, which get numbers. The numbering is this project's own.
-use Rattle.std.specs.Prelude.{ℕ, ◌+◌, Bool, false, not, ◌&&◌, ◌||◌, ◌==◌, List, [], ◌∷◌, ◌++◌, length, filter, Option, Some, None, if◌then◌else◌, is_some, zero, suc}
+use Rattle.std.specs.Prelude.{◌≡◌, ℕ, ◌+◌, ◌<◌, ◌≤◌, Bool, true, false, not, ◌&&◌, ◌||◌, ◌==◌, List, [], ◌∷◌, ◌++◌, length, filter, Option, Some, None, if◌then◌else◌, is_some, zero, suc}
 use Rattle.std.specs.List.{list_any, filter_map, fold}
 use Rattle.std.specs.Option.{option_map, option_or, unwrap_or}
 use Rattle.net_model.specs.Name.{same_bytes}
@@ -38,10 +38,20 @@ numbered_rule e = if e.absent then None else option_map (rule_by e) e.priority
 abbrev pub unnumbered_rule : RuleEntry → Option RuleParts
 unnumbered_rule e = if e.absent || is_some e.priority then None else Some (rule_by e 0)
 
--- the least number from n on that no rule has as its priority, looking at so many numbers
+-- a rule has this number as its priority
+abbrev pub is_taken : List RuleParts → ℕ → Bool
+is_taken rules n = list_any (λ r. r.priority == n) rules
+
+-- the least number from n on that no rule has, looking at so many numbers
 abbrev pub free_from : List RuleParts → ℕ → ℕ → ℕ
 free_from taken zero n = n
-free_from taken (suc steps) n = if list_any (λ r. r.priority == n) taken then free_from taken steps (n + 1) else n
+free_from taken (suc steps) n = if is_taken taken n then free_from taken steps (n + 1) else n
+
+-- the number is free, and all numbers from n up to it are taken
+pub record IsFirstFree (rules : List RuleParts) (n number : ℕ) : Type 0 where
+  pub from : n ≤ number
+  pub free : is_taken rules number ≡ false
+  pub taken : (m : ℕ) → n ≤ m → m < number → is_taken rules m ≡ true
 
 -- a rule that equals one taken before in all but the priority is that one; else it gets the least free number
 abbrev pub take_unnumbered : List RuleParts → RuleParts → List RuleParts
