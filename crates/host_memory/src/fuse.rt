@@ -1,0 +1,62 @@
+//! Which calls of an instance in memory fail.
+ghost use Rattle.std.specs.Prelude.{◌≡◌, [], None, Ok, true, IsTrue, OnOk};
+ghost use Rattle.host_core.specs.Faults.{HasCause};
+ghost use Rattle.host_memory.specs.Fused.{HasNoFuse};
+
+use host_core::{Failed, raised};
+
+/// A call that fails: its number, from 1, among all calls on the instance that can fail, and whether it is done all the
+/// same.
+#[derive(Clone, Copy, Debug, PartialEq, Eq)]
+pub struct Fuse {
+    pub call: u64,
+    pub done: bool,
+}
+
+/// The calls that are to fail, and how many were made.
+#[derive(Debug, Drop)]
+pub struct Fuses {
+    fuses: Vec<Fuse>,
+    made: u64,
+}
+
+impl Fuses {
+    pub fn new(fuses: Vec<Fuse>) -> Fuses
+        ensures { fuses.items ≡ [] → HasNoFuse result }
+    {
+        Fuses { fuses, made: 0 }
+    }
+
+    /// Counts a call, and gives its fuse if it is to fail.
+    pub fn next(&mut self) -> Option<Fuse>
+        ensures unfused { HasNoFuse self.old → result ≡ None }
+        ensures same { HasNoFuse self.old → HasNoFuse self.new }
+    {
+        self.made = self.made.saturating_add(1);
+        let made = self.made;
+        self.fuses.iter().find(|fuse| fuse.call == made).copied()
+    }
+}
+
+/// The answer of a call that was done or failed; a failure is counted.
+pub fn counted(faults: &mut u64, is_done: bool) -> Result<(), Failed>
+    ensures done { OnOk result (IsTrue is_done) }
+    ensures quiet { IsTrue is_done → (result ≡ Ok tt) × (faults.new ≡ faults.old) }
+    ensures cause { HasCause faults.old faults.new result }
+{
+    if is_done {
+        return Ok(());
+    }
+    *faults = raised(*faults);
+    Err(Failed)
+}
+
+/// Whether the call of this fuse is carried out: it has none, or one that lets it be done.
+pub fn is_carried_out(fuse: Option<Fuse>) -> bool
+    ensures { fuse ≡ None → result ≡ true }
+{
+    match fuse {
+        None => true,
+        Some(fuse) => fuse.done,
+    }
+}

@@ -1,0 +1,319 @@
+//! A host in memory.
+ghost use Rattle.std.specs.Prelude.{◌≡◌, ◌≢◌, ◌⊎◌, ◌<◌, ◌+◌, ◌^◌, ℕ, [], ◌∷◌, length, get_or, reverse, None, Some, false, IfOk, OnOk, OnErr, IsErrOf, IsSome, option_map};
+ghost use Rattle.host_core.specs.Bytes.{Torn, Written, Filled};
+ghost use Rattle.host_core.specs.Faults.{HasCause, HasFault, one_more};
+ghost use Rattle.host_core.specs.HostView.{State, HasCell, Accepts, Refuses, MaybeCalled, SameCell, SameKernel, Untouched, CellTorn, IsFirst, IsMade, MaybeMade, counted, refused, dumped};
+ghost use Rattle.host_core.specs.Stops.{Steps, Stays};
+ghost use Rattle.host_memory.specs.HostMemory.{IsUnfused, told_of};
+ghost use Rattle.host_memory.specs.HostRecord.{Left, stops_of, IsAsBefore};
+
+use crate::bytes::{fill, rewritten};
+use crate::fuse::{Fuse, Fuses, counted, is_carried_out};
+use crate::record::{HostEvent, called, sync, write};
+use base_model::OutOfMemory;
+use host_core::{CallFault, DumpFault, Failed, Host, MakeFault, raised};
+use kernel_step::StepFault;
+use net_model::{Call, Net};
+use std::alloc::{AllocError, Global};
+
+/// A host whose network and checkpoint area stand in memory. It keeps a record of what was done to it, and fails at the
+/// calls that its fuses name. Memory that is refused in a write or a sync of the checkpoint area is a fault of it; without
+/// fuses there is no other.
+#[derive(Drop)]
+pub struct MemoryHost {
+    alloc: Global,
+    net: Option<Net>,
+    cell: Vec<u8>,
+    events: Vec<HostEvent>,
+    fuses: Fuses,
+    settled: bool,
+    fresh: bool,
+    faults: u64,
+    calls: u64,
+    refusals: u64,
+    last_number: u8,
+    last_call: u64,
+}
+
+impl MemoryHost {
+    /// A host with this network, or none, and these bytes in its checkpoint area, of which none is in doubt. It isn't
+    /// settled; nothing was called and nothing failed.
+    pub fn new(alloc: Global, net: Option<Net>, cell: Vec<u8>, fuses: Vec<Fuse>) -> MemoryHost
+        ensures state { (⟦<MemoryHost as Host>⟧.told result).state ≡ record { net = net; cell = cell.items } }
+        ensures sure { (s : State) → (⟦<MemoryHost as Host>⟧.told result).stops.may_leave s → s ≡ (⟦<MemoryHost as Host>⟧.told result).state }
+        ensures unsettled { (⟦<MemoryHost as Host>⟧.told result).settled → ⊥ }
+        ensures fresh { (⟦<MemoryHost as Host>⟧.told result).fresh ≡ None }
+        ensures faults { (⟦<MemoryHost as Host>⟧.told result).faults ≡ 0 }
+        ensures calls { (⟦<MemoryHost as Host>⟧.told result).kernel.calls ≡ 0 }
+        ensures refusals { (⟦<MemoryHost as Host>⟧.told result).kernel.refusals ≡ 0 }
+        ensures unfused { fuses.items ≡ [] → IsUnfused result }
+    {
+        MemoryHost {
+            alloc,
+            net,
+            cell,
+            events: Vec::new(alloc),
+            fuses: Fuses::new(fuses),
+            settled: false,
+            fresh: false,
+            faults: 0,
+            calls: 0,
+            refusals: 0,
+            last_number: 0,
+            last_call: 0,
+        }
+    }
+
+    /// The network that it has, if it has one.
+    pub fn net(&self) -> Option<&Net>
+        ensures { option_map (λ net. net.now) result ≡ (⟦<MemoryHost as Host>⟧.told self.now).state.net }
+    {
+        self.net.as_ref()
+    }
+
+    /// The bytes of its checkpoint area, as they read.
+    pub fn cell(&self) -> &Vec<u8>
+        ensures { result.now.items ≡ (⟦<MemoryHost as Host>⟧.told self.now).state.cell }
+    {
+        &self.cell
+    }
+
+    /// How many kernel calls, writes and syncs it has recorded, which is the moment.
+    pub fn calls(&self) -> u64
+        ensures { result ≡ (⟦<MemoryHost as Host>⟧.told self.now).stops.moment }
+    {
+        self.events.len() as u64
+    }
+
+    /// Counts a kernel call that isn't made.
+    pub fn pass_over(&mut self)
+        ensures { self.new ≡ record self.old { calls = one_more self.old.calls; fresh = false } }
+    {
+        self.calls = raised(self.calls);
+        self.fresh = false;
+    }
+}
+
+// What a making does: the gate is written and synced, and a network stands where none was.
+fn making(alloc: Global, before: Vec<u8>) -> Result<Vec<HostEvent>, AllocError>
+    ensures { IfOk result (λ events. events.items ≡ HostEvent.Wrote 0 1 before ∷ (HostEvent.Synced ∷ (HostEvent.Changed None ∷ []))) }
+{
+    let mut events = Vec::new(alloc);
+    events.push(HostEvent::Wrote {
+        at: 0,
+        len: 1,
+        before,
+    })?;
+    events.push(HostEvent::Synced)?;
+    events.push(HostEvent::Changed(None))?;
+    Ok(events)
+}
+
+// Closes the checkpoint and stores the first network, and records it. All memory is taken first.
+fn made(
+    alloc: Global,
+    net: &mut Option<Net>,
+    cell: &mut Vec<u8>,
+    events: &mut Vec<HostEvent>,
+    first: &Net,
+) -> Result<(), OutOfMemory>
+    requires { net.old ≡ None }
+    ensures net { OnOk result (net.new ≡ Some first.now) }
+    ensures closed { OnOk result (get_or cell.new.items 0 1 ≢ 1) }
+    ensures sure { OnOk result ((s : State) → Left (record { net = net.new; cell = cell.new.items }) (reverse events.new.items) s → s.cell ≡ cell.new.items) }
+    ensures same_net { OnErr result (net.new ≡ net.old) }
+    ensures same { OnErr result (IsAsBefore cell.old.items cell.new.items events.old.items events.new.items) }
+    ensures stops { Steps (MaybeMade first.now) (stops_of (record { net = net.old; cell = cell.old.items }) (reverse events.old.items))
+        (stops_of (record { net = net.new; cell = cell.new.items }) (reverse events.new.items)) }
+{
+    let copy = first.copy()?;
+    let next = rewritten(alloc, cell, 0, &[0], true)?;
+    let mut making = making(alloc, cell.to_vec(alloc)?)?;
+    events.append(&mut making)?;
+    *cell = next;
+    *net = Some(copy);
+    Ok(())
+}
+
+impl Host for MemoryHost {
+    ghost use Rattle.host_memory.specs.HostMemory.{told_of, lawful_host};
+
+    ghost tells = { Unit {0} };
+
+    ghost honest = { Unit {0} };
+
+    ghost told = { told_of };
+
+    ghost honest_tells = { λ honest. honest };
+
+    ghost lawful = { lawful_host };
+
+    fn make(&mut self, _alloc: Global, first: &Net) -> Result<(), MakeFault>
+        requires { IsFirst first.now }
+        ensures exists { IsErrOf result MakeFault.Exists → IsSome (told_of self.old).state.net }
+        ensures met { OnOk result ((told_of self.old).state.net ≡ None) }
+        ensures made { OnOk result (IsMade first.now (told_of self.new)) }
+        ensures stays { IsSome (told_of self.old).state.net → Steps Stays (told_of self.old).stops (told_of self.new).stops × ((told_of self.new).state ≡ (told_of self.old).state) }
+        ensures same { IsErrOf result MakeFault.OutOfMemory → Steps Stays (told_of self.old).stops (told_of self.new).stops × ((told_of self.new).state ≡ (told_of self.old).state) }
+        ensures maybe { MaybeMade first.now (told_of self.old).state (told_of self.new).state }
+        ensures stops { Steps (MaybeMade first.now) (told_of self.old).stops (told_of self.new).stops }
+        ensures kernel { (told_of self.new).kernel ≡ (told_of self.old).kernel }
+        ensures settled { (told_of self.old).settled → (told_of self.new).settled }
+        ensures fresh { (told_of self.new).fresh ≡ None }
+        ensures cause { HasFault (told_of self.old).faults (told_of self.new).faults MakeFault.Failed result }
+        ensures unfused { IsUnfused self.old → IsUnfused self.new }
+        ensures quiet { IsUnfused self.old → (told_of self.new).faults ≡ (told_of self.old).faults }
+    {
+        self.fresh = false;
+        let fuse = self.fuses.next();
+        if !is_carried_out(fuse) {
+            self.faults = raised(self.faults);
+            return Err(MakeFault::Failed);
+        }
+        if self.net.is_some() {
+            if fuse.is_some() {
+                self.faults = raised(self.faults);
+                return Err(MakeFault::Failed);
+            }
+            return Err(MakeFault::Exists);
+        }
+        let answer = made(
+            self.alloc,
+            &mut self.net,
+            &mut self.cell,
+            &mut self.events,
+            first,
+        );
+        if fuse.is_some() {
+            self.faults = raised(self.faults);
+            return Err(MakeFault::Failed);
+        }
+        match answer {
+            Ok(()) => Ok(()),
+            Err(OutOfMemory) => Err(MakeFault::OutOfMemory),
+        }
+    }
+
+    fn dump(&mut self, _alloc: Global) -> Result<Net, DumpFault>
+        ensures net { IfOk result (λ net. (told_of self.old).state.net ≡ Some net) }
+        ensures found { OnOk result (IsSome (told_of self.old).state.net) }
+        ensures damaged { IsErrOf result DumpFault.Damaged → (told_of self.old).state.net ≡ None }
+        ensures state { (told_of self.new).state ≡ (told_of self.old).state }
+        ensures stops { Steps Stays (told_of self.old).stops (told_of self.new).stops }
+        ensures settles { OnOk result (told_of self.new).settled }
+        ensures settled { (told_of self.old).settled → (told_of self.new).settled }
+        ensures fresh { IfOk result (λ net. (told_of self.new).fresh ≡ Some net) }
+        ensures stale { OnErr result ((told_of self.new).fresh ≡ (told_of self.old).fresh) }
+        ensures calls { OnOk result ((told_of self.new).kernel ≡ dumped (told_of self.old).kernel) }
+        ensures kernel { OnErr result ((told_of self.new).kernel ≡ (told_of self.old).kernel) }
+        ensures cause { HasFault (told_of self.old).faults (told_of self.new).faults DumpFault.Failed result }
+        ensures unfused { IsUnfused self.old → IsUnfused self.new }
+        ensures quiet { IsUnfused self.old → (told_of self.new).faults ≡ (told_of self.old).faults }
+    {
+        if self.fuses.next().is_some() {
+            self.faults = raised(self.faults);
+            return Err(DumpFault::Failed);
+        }
+        let Some(net) = &self.net else {
+            return Err(DumpFault::Damaged);
+        };
+        let Ok(copy) = net.copy() else {
+            return Err(DumpFault::OutOfMemory);
+        };
+        self.calls = 0;
+        self.settled = true;
+        self.fresh = true;
+        Ok(copy)
+    }
+
+    fn call(&mut self, _alloc: Global, call: &Call) -> Result<(), CallFault>
+        requires { (told_of self.old).settled }
+        ensures accepted { OnOk result (Accepts call.now (told_of self.old).state.net (told_of self.new).state.net) }
+        ensures refused { (k : ℕ) → IsErrOf result (CallFault.Refused k) → Refuses call.now (told_of self.old).state.net k }
+        ensures maybe { MaybeCalled call.now (told_of self.old).state (told_of self.new).state }
+        ensures cell { SameCell (told_of self.old).state (told_of self.new).state }
+        ensures stops { Steps (MaybeCalled call.now) (told_of self.old).stops (told_of self.new).stops }
+        ensures stops_cell { Steps SameCell (told_of self.old).stops (told_of self.new).stops }
+        ensures settled { result ≢ Err CallFault.Failed → (told_of self.new).settled }
+        ensures doubt { result ≡ Err CallFault.Failed → (told_of self.new).settled → ⊥ }
+        ensures same { (k : ℕ) → IsErrOf result (CallFault.Refused k) ⊎ IsErrOf result CallFault.OutOfMemory → (Unit {0} → (told_of self.new).state ≡ (told_of self.old).state) × Steps Stays (told_of self.old).stops (told_of self.new).stops }
+        ensures fresh { (told_of self.new).fresh ≡ None }
+        ensures counts { (k : ℕ) → IsErrOf result (CallFault.Refused k) → (told_of self.new).kernel ≡ refused k (told_of self.old).kernel }
+        ensures counted { ((k : ℕ) → IsErrOf result (CallFault.Refused k) → ⊥) → (told_of self.new).kernel ≡ counted (told_of self.old).kernel }
+        ensures cause { HasFault (told_of self.old).faults (told_of self.new).faults CallFault.Failed result }
+        ensures unfused { IsUnfused self.old → IsUnfused self.new }
+        ensures quiet { IsUnfused self.old → (told_of self.new).faults ≡ (told_of self.old).faults }
+    {
+        self.calls = raised(self.calls);
+        self.fresh = false;
+        let fuse = self.fuses.next();
+        if !is_carried_out(fuse) {
+            self.settled = false;
+            self.faults = raised(self.faults);
+            return Err(CallFault::Failed);
+        }
+        let answer = called(&mut self.net, &mut self.events, call);
+        if fuse.is_some() {
+            self.settled = false;
+            self.faults = raised(self.faults);
+            return Err(CallFault::Failed);
+        }
+        match answer {
+            Ok(()) => Ok(()),
+            Err(StepFault::Refused(number)) => {
+                self.refusals = raised(self.refusals);
+                self.last_number = number;
+                self.last_call = self.calls;
+                Err(CallFault::Refused(number))
+            }
+            Err(StepFault::OutOfMemory) => Err(CallFault::OutOfMemory),
+        }
+    }
+
+    fn cell_read(&mut self, at: u64, buf: &mut [u8]) -> Result<u64, Failed>
+        requires { at + length buf.old < 2 ^ 63 }
+        ensures filled { IfOk result (λ n. Filled at (told_of self.old).state.cell buf.old buf.new n) }
+        ensures untouched { Untouched (Unit {0}) (told_of self.old) (told_of self.new) }
+        ensures cause { HasCause (told_of self.old).faults (told_of self.new).faults result }
+        ensures unfused { IsUnfused self.old → IsUnfused self.new }
+        ensures quiet { IsUnfused self.old → (told_of self.new).faults ≡ (told_of self.old).faults }
+    {
+        let is_done = self.fuses.next().is_none();
+        counted(&mut self.faults, is_done)?;
+        Ok(fill(&self.cell, at, buf))
+    }
+
+    fn cell_write(&mut self, at: u64, bytes: &[u8]) -> Result<(), Failed>
+        requires { at + length bytes.now < 2 ^ 63 }
+        ensures written { OnOk result (Written at bytes.now (told_of self.old).state.cell (told_of self.new).state.cell) }
+        ensures torn { Torn at (length bytes.now) (told_of self.old).state.cell (told_of self.new).state.cell }
+        ensures kernel { SameKernel (Unit {0}) (told_of self.old) (told_of self.new) }
+        ensures stops { Steps (CellTorn at (length bytes.now)) (told_of self.old).stops (told_of self.new).stops }
+        ensures cause { HasCause (told_of self.old).faults (told_of self.new).faults result }
+        ensures unfused { IsUnfused self.old → IsUnfused self.new }
+        ensures quiet { IsUnfused self.old → OnOk result ((told_of self.new).faults ≡ (told_of self.old).faults) }
+    {
+        let fuse = self.fuses.next();
+        let is_done = write(
+            self.alloc,
+            &mut self.cell,
+            &mut self.events,
+            at,
+            bytes,
+            fuse,
+        );
+        counted(&mut self.faults, is_done)
+    }
+
+    fn cell_sync(&mut self) -> Result<(), Failed>
+        ensures durable { OnOk result (HasCell (told_of self.old).state.cell (told_of self.new)) }
+        ensures untouched { Untouched (Unit {0}) (told_of self.old) (told_of self.new) }
+        ensures cause { HasCause (told_of self.old).faults (told_of self.new).faults result }
+        ensures unfused { IsUnfused self.old → IsUnfused self.new }
+        ensures quiet { IsUnfused self.old → OnOk result ((told_of self.new).faults ≡ (told_of self.old).faults) }
+    {
+        let fuse = self.fuses.next();
+        let is_done = sync(&mut self.events, fuse);
+        counted(&mut self.faults, is_done)
+    }
+}
