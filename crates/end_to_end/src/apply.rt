@@ -1,8 +1,11 @@
 //! `apply -`: answers, texts and what stands after them.
 
-use crate::trial::{Faults, NONE, device, fuses, network, run_words, two_devices, vlan};
+use crate::trial::{
+    Faults, NONE, device, fuses, has_links, memory_host, network, run_words, two_devices, vlan,
+};
 use document_model::{Place, Refused};
-use host_core::{Fuse, LyingHost, MemoryHost};
+use host_core::Host;
+use host_memory::{Fuse, LyingHost, MemoryHost};
 use net_model::Name;
 use nmstate_top::{Cause, Left};
 use std::test::Fail;
@@ -104,7 +107,7 @@ fn answers_by_the_words_and_the_document(rt: HostRuntime) -> Result<(), Fail> {
         unknown(&["frobnicate"]),
     ];
     for case in cases {
-        let mut host = MemoryHost::new(two_devices(&rt, rt.alloc(), 1500)?, Vec::new(rt.alloc()));
+        let mut host = memory_host(rt.alloc(), two_devices(&rt, rt.alloc(), 1500)?, Vec::new(rt.alloc()));
         let input = Vec::from_slice(rt.alloc(), case.input.as_bytes())?;
         let seen = run_words(rt.alloc(), case.words, &mut host, Some(input), NONE)?;
         let name = case.input;
@@ -112,7 +115,7 @@ fn answers_by_the_words_and_the_document(rt: HostRuntime) -> Result<(), Fail> {
         assert_eq!(&rt; seen.out.as_slice(), case.out.as_bytes(), "at {name}");
         assert_eq!(&rt; seen.err.as_slice(), case.err.as_bytes(), "at {name}");
         let after = two_devices(&rt, rt.alloc(), case.mtu)?;
-        assert!(&rt; host.net().links() == after.links(), "at {name}");
+        assert!(&rt; has_links(&host, after.links()), "at {name}");
     }
     Ok(())
 }
@@ -122,7 +125,7 @@ fn limits_a_document(rt: HostRuntime) -> Result<(), Fail> {
     for (size, status) in [(4_194_304, 0), (4_194_305, 1)] {
         let mut input = Vec::from_slice(rt.alloc(), MTU.as_bytes())?;
         input.resize(size, b' ')?;
-        let mut host = MemoryHost::new(two_devices(&rt, rt.alloc(), 1500)?, Vec::new(rt.alloc()));
+        let mut host = memory_host(rt.alloc(), two_devices(&rt, rt.alloc(), 1500)?, Vec::new(rt.alloc()));
         let seen = run_words(rt.alloc(), APPLY, &mut host, Some(input), NONE)?;
         assert_eq!(&rt; seen.report.status, status);
     }
@@ -210,7 +213,7 @@ fn answers_by_the_fault(rt: HostRuntime) -> Result<(), Fail> {
     ];
     for (faults, status, cause, out, err, mtu) in table {
         let fuses = fuses(rt.alloc(), faults.host)?;
-        let mut host = MemoryHost::new(two_devices(&rt, rt.alloc(), 1500)?, fuses);
+        let mut host = memory_host(rt.alloc(), two_devices(&rt, rt.alloc(), 1500)?, fuses);
         let input = Vec::from_slice(rt.alloc(), MTU.as_bytes())?;
         let seen = run_words(rt.alloc(), APPLY, &mut host, Some(input), faults)?;
         assert!(&rt; seen.report.cause == cause);
@@ -218,14 +221,14 @@ fn answers_by_the_fault(rt: HostRuntime) -> Result<(), Fail> {
         assert_eq!(&rt; seen.out.as_slice(), out.as_bytes());
         assert_eq!(&rt; seen.err.as_slice(), err.as_bytes());
         let after = two_devices(&rt, rt.alloc(), mtu)?;
-        assert!(&rt; host.net().links() == after.links());
+        assert!(&rt; has_links(&host, after.links()));
     }
     Ok(())
 }
 
 #[test]
 fn tells_a_refusal_that_is_not_written(rt: HostRuntime) -> Result<(), Fail> {
-    let mut host = MemoryHost::new(two_devices(&rt, rt.alloc(), 1500)?, Vec::new(rt.alloc()));
+    let mut host = memory_host(rt.alloc(), two_devices(&rt, rt.alloc(), 1500)?, Vec::new(rt.alloc()));
     let faults = Faults {
         err: blown(1, false),
         ..NONE
@@ -249,27 +252,42 @@ fn tells_a_refusal_that_is_not_written(rt: HostRuntime) -> Result<(), Fail> {
 }
 
 #[test]
+fn tells_that_there_is_no_network(rt: HostRuntime) -> Result<(), Fail> {
+    let alloc = rt.alloc();
+    let mut host = MemoryHost::new(alloc, None, Vec::new(alloc), Vec::new(alloc));
+    let input = Vec::from_slice(alloc, MTU.as_bytes())?;
+    let seen = run_words(alloc, APPLY, &mut host, Some(input), NONE)?;
+    assert!(&rt; seen.report.cause == Cause::Damaged(0));
+    assert_eq!(&rt; seen.report.status, 11);
+    assert_eq!(&rt; seen.err.as_slice(), b"error: kernel area damaged\n".as_slice());
+    Ok(())
+}
+
+#[test]
 fn is_not_built_for_a_network_with_a_vlan(rt: HostRuntime) -> Result<(), Fail> {
     let alloc = rt.alloc();
     let mut links = Vec::new(alloc);
     links.push(device(alloc, "eth1", 1500).expect(&rt, "a name"))?;
     links.push(vlan(alloc).expect(&rt, "a VLAN"))?;
-    let mut host = MemoryHost::new(network(&rt, alloc, links), Vec::new(alloc));
+    let mut host = memory_host(alloc, network(&rt, alloc, links), Vec::new(alloc));
     let input = Vec::from_slice(alloc, MTU.as_bytes())?;
     let seen = run_words(alloc, APPLY, &mut host, Some(input), NONE)?;
     assert!(&rt; seen.report.cause == Cause::NotYet);
-    assert!(&rt; host.net().links().iter().all(|link| link.mtu == 1500));
+    assert!(&rt; host.net().is_some_and(|net| net.links().iter().all(|link| link.mtu == 1500)));
     Ok(())
 }
 
 #[test]
 fn believes_a_host_that_lies(rt: HostRuntime) -> Result<(), Fail> {
-    let mut host = LyingHost::new(two_devices(&rt, rt.alloc(), 1500)?);
+    let mut host = LyingHost::new(rt.alloc(), two_devices(&rt, rt.alloc(), 1500)?, Vec::new(rt.alloc()));
     let input = Vec::from_slice(rt.alloc(), MTU.as_bytes())?;
     let seen = run_words(rt.alloc(), APPLY, &mut host, Some(input), NONE)?;
     assert_eq!(&rt; seen.report.status, 0);
     assert_eq!(&rt; seen.out.as_slice(), b"applied\n".as_slice());
     let before = two_devices(&rt, rt.alloc(), 1500)?;
-    assert!(&rt; host.net().links() == before.links());
+    let Ok(after) = host.dump(rt.alloc()) else {
+        return Err(Fail);
+    };
+    assert!(&rt; after.links() == before.links());
     Ok(())
 }

@@ -1,6 +1,7 @@
 //! One run, and what is seen of it.
 
-use host_core::{FixedClock, Fuse, Host, MemorySink, MemorySource};
+use host_core::Host;
+use host_memory::{FixedClock, Fuse, MemoryHost, MemorySink, MemorySource};
 use net_model::{
     BondOpts, BridgeOpts, Dns, Items, Kind, Link, Mac, Name, Net, PortOpts, Proto, VlanId,
 };
@@ -94,6 +95,16 @@ pub fn two_devices(rt: &impl Abort, alloc: Global, mtu: u32) -> Result<Net, Fail
         links.push(device(alloc, name, mtu).expect(rt, "a name"))?;
     }
     Ok(network(rt, alloc, links))
+}
+
+/// A host with this network and an empty checkpoint area.
+pub fn memory_host(alloc: Global, net: Net, fuses: Vec<Fuse>) -> MemoryHost {
+    MemoryHost::new(alloc, Some(net), Vec::new(alloc), fuses)
+}
+
+/// Whether a host has a network of these links.
+pub fn has_links(host: &MemoryHost, links: &[Link]) -> bool {
+    host.net().is_some_and(|net| net.links() == links)
 }
 
 /// Runs the words on a host, with standard input where there is one.

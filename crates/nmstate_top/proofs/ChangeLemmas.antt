@@ -13,7 +13,7 @@ use Rattle.nmstate_top.specs.Changes.{OnKnown, SameState, HasMerged, IsApplied, 
 use Rattle.nmstate_top.specs.declared.document.LinkEntry.{LinkEntry}
 use Rattle.nmstate_top.specs.declared.report.Left.TheVariants as left
 use Rattle.nmstate_top.specs.declared.report.Cause.{Cause}
-use Rattle.nmstate_top.specs.declared.report.Cause.TheVariants.{Done, NotYet, MergeRefused, Usage, NoSuchName, ReadFault, WriteFault, HostFault, KernelRefused, OutOfMemory}
+use Rattle.nmstate_top.specs.declared.report.Cause.TheVariants.{Done, NotYet, MergeRefused, Usage, NoSuchName, ReadFault, WriteFault, HostFault, KernelRefused, Damaged, OutOfMemory}
 
 same_some : (x y : NetData) → Some x ≡ Some y → x ≡ y
 same_some x y e = cc
@@ -46,7 +46,7 @@ module _ (honest tells : Type 0) (tells_if : honest → tells) (entry : LinkEntr
   is_merged h done = accepted mid.state.net new.state.net (has_net h) done
 
   known : (P : NetData → Type 0) → (honest → P net) → OnKnown honest old P
-  known P holds h other is = subst P (same_some net other (sym (dump h) ∙ is)) (holds h)
+  known P holds h = record { net = net; net_is = dump h; holds = holds h }
 
   not_refused : (k : ℕ) (before : Option NetData) → before ≡ Some net → Refuses call before k → ⊥
   not_refused k (Some n) is r = ok_err (merged net entry) k (sym leads.0 ∙ ap (step call) (sym (same_some n net is)) ∙ r)
@@ -57,8 +57,10 @@ module _ (honest tells : Type 0) (tells_if : honest → tells) (entry : LinkEntr
   one is = ap (λ (k : Kernel). k.calls) (is ∙ ap counted kernel)
 
   either : honest → MaybeCalled call mid.state new.state → (new.state.net ≡ Some net) ⊎ HasMerged entry net new
-  either h (inl same) = inl (same ∙ has_net h)
-  either h (inr done) = inr (is_merged h done)
+  either h maybe = elim maybe.net [
+    | inl same ↦ inl (same ∙ has_net h)
+    | inr done ↦ inr (is_merged h done)
+  ]
 
   after_call : (c : Cause) → CallLeaves honest tells call mid new c → Leaves honest tells entry old new c
   after_call Done m = known (λ n. IsApplied entry n new) (λ h. record { built = built; rules = rules; is_merged = is_merged h (m.1 h); no_call = λ same. absurd (leads.1 same); one_call = λ differs. one m.0 })
@@ -68,13 +70,14 @@ module _ (honest tells : Type 0) (tells_if : honest → tells) (entry : LinkEntr
   after_call (KernelRefused k n left.Pending) m =
       let is : new.kernel ≡ refused k (dumped old.kernel) = m.1 ∙ ap (refused k) kernel in
       record {
-        refused = record { rose = rw is (omega arith); last = rw (is, m.0) refl };
+        refused = record { rose = rw is (omega arith); last = rw (is, m.0) refl; counted = omega (arith, m.0) };
         first = m.0;
         state = λ t. m.3 t ∙ state t;
         never = λ h. not_refused k mid.state.net (has_net h) (m.2 h);
       }
   after_call (KernelRefused k n left.NotBegun) m = absurd m
   after_call (KernelRefused k n left.RolledBack) m = absurd m
+  after_call (Damaged area) m = absurd m
   after_call OutOfMemory m = λ t. m t ∙ state t
   after_call NotYet m = absurd m
   after_call (MergeRefused r) m = absurd m

@@ -10,13 +10,13 @@ use Rattle.nmstate_top.specs.Documents.{document}
 use Rattle.nmstate_top.specs.Inputs.{read_limit}
 use Rattle.nmstate_top.specs.Merge.{broken_rule}
 use Rattle.nmstate_top.specs.Answers.{Asking, HasDocument, Changed, Means}
-use Rattle.nmstate_top.specs.Expected.{by_rule, by_document, by_input, expected}
+use Rattle.nmstate_top.specs.Expected.{by_rule, by_network, by_document, by_input, expected}
 use Rattle.nmstate_top.specs.Runs.{Run, Told, Answered}
 use Rattle.nmstate_top.specs.Promises.{QuietHost, QuietSource, ToldUnlessMemory}
 use Rattle.nmstate_top.specs.declared.document.LinkEntry.{LinkEntry}
 use Rattle.nmstate_top.specs.declared.report.Left.TheVariants as left
 use Rattle.nmstate_top.specs.declared.report.Cause.{Cause}
-use Rattle.nmstate_top.specs.declared.report.Cause.TheVariants.{Done, NotYet, MergeRefused, Usage, NoSuchName, ReadFault, WriteFault, HostFault, KernelRefused, OutOfMemory}
+use Rattle.nmstate_top.specs.declared.report.Cause.TheVariants.{Done, NotYet, MergeRefused, Usage, NoSuchName, ReadFault, WriteFault, HostFault, KernelRefused, Damaged, OutOfMemory}
 
 same_some : {A : Type 0} (x y : A) → Some x ≡ Some y → x ≡ y
 same_some x y e = cc
@@ -39,6 +39,7 @@ usage_answered a ReadFault means other = absurd (true_false (sym means.0 ∙ oth
 usage_answered a (WriteFault s) means other = absurd (true_false (sym means.0 ∙ other))
 usage_answered a (HostFault l) means other = absurd (true_false (sym means.0 ∙ other))
 usage_answered a (KernelRefused k n l) means other = absurd (true_false (sym means.0 ∙ other))
+usage_answered a (Damaged area) means other = absurd (true_false (sym means.0 ∙ other))
 usage_answered a OutOfMemory means other = absurd (true_false (sym means.0 ∙ other))
 
 -- ---- the document of a source that tells its inputs
@@ -56,6 +57,7 @@ pub not_yet_answered : (a : Asking) (all : Text) (c : Cause) → Means a c → i
     → document (take read_limit all) ≡ None → (Rose a.source.faults a.source_after.faults → ⊥) → (c ≡ NotYet) ⊎ (c ≡ OutOfMemory)
 not_yet_answered a all NotYet means command tells named none quiet = inl refl
 not_yet_answered a all OutOfMemory means command tells named none quiet = inr refl
+not_yet_answered a all (Damaged area) means command tells named none quiet = absurd (none_some means.1.entry (sym none ∙ document_is a all (Some means.1.entry) tells named means.1.document))
 not_yet_answered a all Usage means command tells named none quiet = absurd (true_false (sym command ∙ means.0))
 not_yet_answered a all NoSuchName means command tells named none quiet = absurd (none_some all (sym (means.1.0 tells) ∙ named))
 not_yet_answered a all ReadFault means command tells named none quiet = absurd (quiet means.1.0)
@@ -67,22 +69,27 @@ not_yet_answered a all (KernelRefused k n l) means command tells named none quie
 
 -- ---- where neither the host nor the source fails
 
-module _ (a : Asking) (net : NetData) (honest : a.honest) (net_is : a.host.state.net ≡ Some net) (tells : a.source_tells)
+module _ (a : Asking) (honest : a.honest) (tells : a.source_tells)
     (quiet_host : Rose a.host.faults a.host_after.faults → ⊥) (quiet_source : Rose a.source.faults a.source_after.faults → ⊥) where
+  abbrev net : Option NetData
+  net = a.host.state.net
+
   -- the input that is there
   has_input : (form : Option LinkEntry) → HasDocument a.source_tells a.source form → (c : Cause) → by_document form net ≡ c → by_input (a.source.inputs stdin) net ≡ c
   has_input form found c is =
       let read = found.read tells in
       ap (λ i. by_input i net) read.1 ∙ ap (λ d. by_document d net) (ap document (sym read.2) ∙ found.form_is) ∙ is
 
-  of_devices : (entry : LinkEntry) → all_ethernet net.links ≡ true → by_document (Some entry) net ≡ by_rule (broken_rule net entry)
-  of_devices entry built = ap (λ b. if b then by_rule (broken_rule net entry) else NotYet) built
+  -- the network that is there
+  on_network : (entry : LinkEntry) (on : NetData) (built : Bool) → net ≡ Some on → all_ethernet on.links ≡ built → by_document (Some entry) net ≡ (if built then by_rule (broken_rule on entry) else NotYet)
+  on_network entry on built is of = ap (by_network entry) is ∙ ap (λ b. if b then by_rule (broken_rule on entry) else NotYet) of
 
   -- another document, or another network
   not_built : (HasDocument a.source_tells a.source None × a.untouched) ⊎ Changed a NotYet → by_input (a.source.inputs stdin) net ≡ NotYet
   not_built (inl other) = has_input None other.0 NotYet refl
   not_built (inr found) =
-      has_input (Some found.entry) found.document NotYet (ap (λ b. if b then by_rule (broken_rule net found.entry) else NotYet) (found.leaves.1 honest net net_is))
+      let known = found.leaves.1 honest in
+      has_input (Some found.entry) found.document NotYet (on_network found.entry known.net false known.net_is known.holds)
 
   expects : (c : Cause) → is_apply a.words ≡ true → by_input (a.source.inputs stdin) net ≡ c → expected a.words (a.source.inputs stdin) net ≡ c
   expects c command is = ap (λ b. if b then by_input (a.source.inputs stdin) net else Usage) command ∙ is
@@ -94,11 +101,16 @@ module _ (a : Asking) (net : NetData) (honest : a.honest) (net_is : a.host.state
   expected_answered ReadFault means = absurd (quiet_source means.1.0)
   expected_answered NotYet means = inl (expects NotYet means.0 (not_built means.1))
   expected_answered Done means =
-      let is = means.1.leaves honest net net_is in
-      inl (expects Done means.0 (has_input (Some means.1.entry) means.1.document Done (of_devices means.1.entry is.built ∙ ap by_rule is.rules)))
+      let known = means.1.leaves honest in
+      inl (expects Done means.0 (has_input (Some means.1.entry) means.1.document Done
+        (on_network means.1.entry known.net true known.net_is known.holds.built ∙ ap by_rule known.holds.rules)))
   expected_answered (MergeRefused x) means =
-      let is = means.1.leaves.1 honest net net_is in
-      inl (expects (MergeRefused x) means.0 (has_input (Some means.1.entry) means.1.document (MergeRefused x) (of_devices means.1.entry is.0 ∙ ap by_rule is.1)))
+      let known = means.1.leaves.1 honest in
+      inl (expects (MergeRefused x) means.0 (has_input (Some means.1.entry) means.1.document (MergeRefused x)
+        (on_network means.1.entry known.net true known.net_is known.holds.0 ∙ ap by_rule known.holds.1)))
+  expected_answered (Damaged area) means =
+      inl (expects (Damaged area) means.0 (has_input (Some means.1.entry) means.1.document (Damaged area)
+        (ap (by_network means.1.entry) (means.1.leaves.none honest) ∙ ap (λ n. Damaged n) (sym means.1.leaves.kernel))))
   expected_answered (WriteFault s) means = absurd means.1.leaves
   expected_answered (HostFault left.NotBegun) means = absurd (quiet_host means.1.leaves.rose)
   expected_answered (HostFault left.RolledBack) means = absurd means.1.leaves

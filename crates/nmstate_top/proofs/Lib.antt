@@ -1,5 +1,6 @@
 mod DocumentLemmas
 mod InputLemmas
+mod DeviceMtu
 mod MergeLemmas
 mod ChangeLemmas
 mod Telling

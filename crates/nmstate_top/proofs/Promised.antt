@@ -10,17 +10,17 @@ use Rattle.nmstate_top.specs.Documents.{document}
 use Rattle.nmstate_top.specs.Inputs.{read_limit}
 use Rattle.nmstate_top.specs.Merge.{broken_rule}
 use Rattle.nmstate_top.specs.Reports.{IsWritten, Tells}
-use Rattle.nmstate_top.specs.Changes.{HasMerged}
+use Rattle.nmstate_top.specs.Changes.{HasMerged, kernel_area}
 use Rattle.nmstate_top.specs.Answers.{Means}
-use Rattle.nmstate_top.specs.Expected.{by_rule, by_document, by_input, expected}
+use Rattle.nmstate_top.specs.Expected.{by_rule, by_network, by_document, by_input, expected}
 use Rattle.nmstate_top.specs.Runs.{Run, Told, Answered}
-use Rattle.nmstate_top.specs.Promises.{IsGiven, HasEntry, HasHonest, HasDevices, QuietHost, QuietSource, QuietSinks, ToldUnlessMemory, IsDone, Applied, Complete, UsageExactly, NoSuchNames, ReadFaults, NotYetExactly, MergeRefusedExactly, MayBeMerged, HostFaults, KernelRefusals, WantsOfMemory, WriteFaultExactly, Texts, Statuses}
+use Rattle.nmstate_top.specs.Promises.{IsGiven, HasEntry, HasHonest, HasDevices, QuietHost, QuietSource, QuietSinks, ToldUnlessMemory, IsDone, Applied, Complete, UsageExactly, NoSuchNames, ReadFaults, NotYetExactly, MergeRefusedExactly, MayBeMerged, HostFaults, KernelRefusals, DamagedExactly, WantsOfMemory, WriteFaultExactly, Texts, Statuses}
 use Rattle.nmstate_top.specs.declared.document.LinkEntry.{LinkEntry}
 use Rattle.nmstate_top.specs.declared.report.Left.{Left}
 use Rattle.nmstate_top.specs.declared.report.Left.TheVariants as left
 use Rattle.nmstate_top.specs.declared.report.Report.{Report}
 use Rattle.nmstate_top.specs.declared.report.Cause.{Cause}
-use Rattle.nmstate_top.specs.declared.report.Cause.TheVariants.{Done, NotYet, MergeRefused, Usage, NoSuchName, ReadFault, WriteFault, HostFault, KernelRefused, OutOfMemory}
+use Rattle.nmstate_top.specs.declared.report.Cause.TheVariants.{Done, NotYet, MergeRefused, Usage, NoSuchName, ReadFault, WriteFault, HostFault, KernelRefused, Damaged, OutOfMemory}
 use Rattle.nmstate_top.proofs.Telling.{means_of, write_fault, no_write_fault, texts, statuses}
 use Rattle.nmstate_top.proofs.Exact.{usage_answered, not_yet_answered, expected_answered}
 
@@ -34,26 +34,28 @@ turned e c (inl is) = inl (sym is)
 turned e c (inr is) = inr is
 
 pub complete : (r : Run) → Answered r → Complete r
-complete r a net host tells quiet_host quiet_source =
-    told_either r (expected r.asking.words (r.asking.source.inputs stdin) net) a.answer a.told
-    (turned _ a.answer (expected_answered r.asking net host.honest host.net_is tells quiet_host quiet_source a.answer a.means))
+complete r a honest tells quiet_host quiet_source =
+    told_either r (expected r.asking.words (r.asking.source.inputs stdin) r.asking.host.state.net) a.answer a.told
+    (turned _ a.answer (expected_answered r.asking honest tells quiet_host quiet_source a.answer a.means))
 
 -- what is expected of a document of the first form
-entry_expected : (r : Run) (entry : LinkEntry) (net : NetData) → HasEntry r entry → (c : Cause) → by_document (Some entry) net ≡ c → expected r.asking.words (r.asking.source.inputs stdin) net ≡ c
-entry_expected r entry net has c is =
-    ap (λ b. if b then by_input (r.asking.source.inputs stdin) net else Usage) has.given.command
+entry_expected : (r : Run) (entry : LinkEntry) (net : Option NetData) → r.asking.host.state.net ≡ net → HasEntry r entry → (c : Cause) → by_network entry net ≡ c
+    → expected r.asking.words (r.asking.source.inputs stdin) r.asking.host.state.net ≡ c
+entry_expected r entry net on has c is =
+    ap (λ n. expected r.asking.words (r.asking.source.inputs stdin) n) on
+    ∙ ap (λ b. if b then by_input (r.asking.source.inputs stdin) net else Usage) has.given.command
     ∙ ap (λ i. by_input i net) has.given.input ∙ ap (λ d. by_document d net) has.form ∙ is
 
 -- and on a network of devices
-by_rules : (entry : LinkEntry) (net : NetData) (c : Cause) → all_ethernet net.links ≡ true → by_rule (broken_rule net entry) ≡ c → by_document (Some entry) net ≡ c
+by_rules : (entry : LinkEntry) (net : NetData) (c : Cause) → all_ethernet net.links ≡ true → by_rule (broken_rule net entry) ≡ c → by_network entry (Some net) ≡ c
 by_rules entry net c built is = ap (λ b. if b then by_rule (broken_rule net entry) else NotYet) built ∙ is
 
 pub merge_refused : (r : Run) → Answered r → MergeRefusedExactly r
 merge_refused r a = record {
   only = λ refused is. (means_of r (MergeRefused refused) a is refl).1;
   always = λ refused entry net has known broken quiet_host quiet_source.
-      subst (ToldUnlessMemory r) (entry_expected r entry net has (MergeRefused refused) (by_rules entry net (MergeRefused refused) known.devices (ap by_rule broken)))
-      (complete r a net known.host has.given.tells quiet_host quiet_source);
+      subst (ToldUnlessMemory r) (entry_expected r entry (Some net) known.host.net_is has (MergeRefused refused) (by_rules entry net (MergeRefused refused) known.devices (ap by_rule broken)))
+      (complete r a known.host.honest has.given.tells quiet_host quiet_source);
 }
 
 -- the merged network that stands where the answer is Done
@@ -62,8 +64,13 @@ merged_done r entry net has host means =
     let read = means.1.document.read has.given.tells in
     let input : read.0 ≡ has.all = same_text read.0 has.all (sym read.1 ∙ has.given.input) in
     let found : Some means.1.entry ≡ Some entry = sym means.1.document.form_is ∙ ap document read.2 ∙ ap (λ xs. document (take read_limit xs)) input ∙ has.form in
-    subst (λ e. HasMerged e net r.asking.host_after) (same_entry means.1.entry entry found) (means.1.leaves host.honest net host.net_is).is_merged
+    let known = means.1.leaves host.honest in
+    subst (λ e. HasMerged e net r.asking.host_after) (same_entry means.1.entry entry found)
+    (subst (λ n. HasMerged means.1.entry n r.asking.host_after) (same_net known.net net (sym known.net_is ∙ host.net_is)) known.holds.is_merged)
   where
+    same_net : (x y : NetData) → Some x ≡ Some y → x ≡ y
+    same_net x y e = cc
+
     same_text : (x y : Text) → Some x ≡ Some y → x ≡ y
     same_text x y e = cc
 
@@ -91,10 +98,10 @@ applied_by r entry net has host quiet answer means told (inr is) =
 
 pub applied : (r : Run) → Answered r → Applied r
 applied r a entry net has known rules quiet_host quiet_source quiet =
-    let is : (expected r.asking.words (r.asking.source.inputs stdin) net ≡ a.answer) ⊎ (a.answer ≡ OutOfMemory) =
-    expected_answered r.asking net known.host.honest known.host.net_is has.given.tells quiet_host quiet_source a.answer a.means in
+    let is : (expected r.asking.words (r.asking.source.inputs stdin) r.asking.host.state.net ≡ a.answer) ⊎ (a.answer ≡ OutOfMemory) =
+    expected_answered r.asking known.host.honest has.given.tells quiet_host quiet_source a.answer a.means in
     applied_by r entry net has known.host quiet a.answer a.means a.told
-    (subst (λ e. (e ≡ a.answer) ⊎ (a.answer ≡ OutOfMemory)) (entry_expected r entry net has Done (by_rules entry net Done known.devices (ap by_rule rules))) is)
+    (subst (λ e. (e ≡ a.answer) ⊎ (a.answer ≡ OutOfMemory)) (entry_expected r entry (Some net) known.host.net_is has Done (by_rules entry net Done known.devices (ap by_rule rules))) is)
 
 pub usage : (r : Run) → Answered r → UsageExactly r
 usage r a = record {
@@ -113,8 +120,8 @@ not_yet r a = record {
   only = λ is. (means_of r NotYet a is refl).1;
   by_document = λ all given none quiet. told_either r NotYet a.answer a.told (not_yet_answered r.asking all a.answer a.means given.command given.tells given.input none quiet);
   by_network = λ entry net has host other quiet_host quiet_source.
-      subst (ToldUnlessMemory r) (entry_expected r entry net has NotYet (ap (λ b. if b then by_rule (broken_rule net entry) else NotYet) other))
-      (complete r a net host has.given.tells quiet_host quiet_source);
+      subst (ToldUnlessMemory r) (entry_expected r entry (Some net) host.net_is has NotYet (ap (λ b. if b then by_rule (broken_rule net entry) else NotYet) other))
+      (complete r a host.honest has.given.tells quiet_host quiet_source);
 }
 
 pub host_fault : (r : Run) → Answered r → HostFaults r
@@ -128,6 +135,14 @@ pub kernel_refused : (r : Run) → Answered r → KernelRefusals r
 kernel_refused r a k n left.Pending is = (refl, (means_of r (KernelRefused k n left.Pending) a is refl).1.leaves)
 kernel_refused r a k n left.NotBegun is = absurd (means_of r (KernelRefused k n left.NotBegun) a is refl).1.leaves
 kernel_refused r a k n left.RolledBack is = absurd (means_of r (KernelRefused k n left.RolledBack) a is refl).1.leaves
+
+pub damaged : (r : Run) → Answered r → DamagedExactly r
+damaged r a = record {
+  only = λ area is. (means_of r (Damaged area) a is refl).1.leaves;
+  always = λ entry has honest none quiet_host quiet_source.
+      subst (ToldUnlessMemory r) (entry_expected r entry None none has (Damaged kernel_area) refl)
+      (complete r a honest has.given.tells quiet_host quiet_source);
+}
 
 pub out_of_memory : (r : Run) → Answered r → WantsOfMemory r
 out_of_memory r a is = means_of r OutOfMemory a is refl

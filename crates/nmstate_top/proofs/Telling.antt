@@ -10,7 +10,7 @@ use Rattle.nmstate_top.specs.Runs.{Run, Told, Answered}
 use Rattle.nmstate_top.specs.Promises.{QuietSinks, HasAnswer, PrintsSome, PrintsCut, Prints}
 use Rattle.nmstate_top.specs.declared.report.Report.{Report}
 use Rattle.nmstate_top.specs.declared.report.Cause.{Cause}
-use Rattle.nmstate_top.specs.declared.report.Cause.TheVariants.{Done, NotYet, MergeRefused, Usage, NoSuchName, ReadFault, WriteFault, HostFault, KernelRefused, OutOfMemory}
+use Rattle.nmstate_top.specs.declared.report.Cause.TheVariants.{Done, NotYet, MergeRefused, Usage, NoSuchName, ReadFault, WriteFault, HostFault, KernelRefused, Damaged, OutOfMemory}
 
 abbrev pub is_write_fault : Cause → Bool
 is_write_fault (WriteFault s) = true
@@ -43,6 +43,7 @@ rose_of r ReadFault (Err _) written e is = inr written.0.cause.failed
 rose_of r (WriteFault s) (Err _) written e is = inr written.0.cause.failed
 rose_of r (HostFault l) (Err _) written e is = inr written.0.cause.failed
 rose_of r (KernelRefused k n l) (Err _) written e is = inr written.0.cause.failed
+rose_of r (Damaged area) (Err _) written e is = inr written.0.cause.failed
 rose_of r OutOfMemory (Err _) written e is = inr written.0.cause.failed
 rose_of r c (Ok _) written e is = absurd (cc)
 
@@ -59,6 +60,7 @@ never_answered r NoSuchName s means is = cc
 never_answered r ReadFault s means is = cc
 never_answered r (HostFault l) s means is = cc
 never_answered r (KernelRefused k n l) s means is = cc
+never_answered r (Damaged area) s means is = cc
 never_answered r OutOfMemory s means is = cc
 
 fault_only : (r : Run) (answer : Cause) → Means r.asking answer → (told : Result ⊤ Failed) → IsWritten r.sinks_tell answer r.out r.err r.out_after r.err_after told
@@ -78,6 +80,7 @@ steady r ReadFault (Ok _) written told never = (ap (λ v. v.faults) written.1, w
 steady r (WriteFault s) (Ok _) written told never = (ap (λ v. v.faults) written.1, written.0.steady)
 steady r (HostFault l) (Ok _) written told never = (ap (λ v. v.faults) written.1, written.0.steady)
 steady r (KernelRefused k n l) (Ok _) written told never = (ap (λ v. v.faults) written.1, written.0.steady)
+steady r (Damaged area) (Ok _) written told never = (ap (λ v. v.faults) written.1, written.0.steady)
 steady r OutOfMemory (Ok _) written told never = (ap (λ v. v.faults) written.1, written.0.steady)
 steady r c (Err _) written told never = absurd (never (status_of c) (ap cause_of told))
 
@@ -99,6 +102,7 @@ cut r ReadFault told written = (written.0.some, written.1)
 cut r (WriteFault s) told written = (written.0.some, written.1)
 cut r (HostFault l) told written = (written.0.some, written.1)
 cut r (KernelRefused k n l) told written = (written.0.some, written.1)
+cut r (Damaged area) told written = (written.0.some, written.1)
 cut r OutOfMemory told written = (written.0.some, written.1)
 
 whole : (r : Run) (c : Cause) → Means r.asking c → (told : Result ⊤ Failed) → IsWritten r.sinks_tell c r.out r.err r.out_after r.err_after told → Tells told c r.report → Prints r r.report.cause
@@ -114,6 +118,7 @@ whole r c means (Ok x) written told = subst (Prints r) (sym (ap cause_of told)) 
   of (WriteFault s) means w = absurd means.1.leaves
   of (HostFault l) means w = (w.0.all, w.1)
   of (KernelRefused k n l) means w = (w.0.all, w.1)
+  of (Damaged area) means w = (w.0.all, w.1)
   of OutOfMemory means w = (w.0.all, w.1)
 
 pub texts : (r : Run) → Answered r → Prints r r.report.cause

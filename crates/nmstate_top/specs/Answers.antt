@@ -8,7 +8,7 @@ use Rattle.nmstate_top.specs.Inputs.{HasRead, FailsToRead}
 use Rattle.nmstate_top.specs.Changes.{SameState, Leaves, ended}
 use Rattle.nmstate_top.specs.declared.document.LinkEntry.{LinkEntry}
 use Rattle.nmstate_top.specs.declared.report.Cause.{Cause}
-use Rattle.nmstate_top.specs.declared.report.Cause.TheVariants.{Done, NotYet, MergeRefused, Usage, NoSuchName, ReadFault, WriteFault, HostFault, KernelRefused, OutOfMemory}
+use Rattle.nmstate_top.specs.declared.report.Cause.TheVariants.{Done, NotYet, MergeRefused, Usage, NoSuchName, ReadFault, WriteFault, HostFault, KernelRefused, Damaged, OutOfMemory}
 
 -- a command's words, and what it reaches: the host and the source, before it and after it
 pub record Asking : Type 1 where

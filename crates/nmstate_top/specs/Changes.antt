@@ -9,11 +9,17 @@ use Rattle.nmstate_top.specs.Merge.{broken_rule, merged}
 use Rattle.nmstate_top.specs.declared.document.LinkEntry.{LinkEntry}
 use Rattle.nmstate_top.specs.declared.report.Left.TheVariants as left
 use Rattle.nmstate_top.specs.declared.report.Cause.{Cause}
-use Rattle.nmstate_top.specs.declared.report.Cause.TheVariants.{Done, NotYet, MergeRefused, Usage, NoSuchName, ReadFault, WriteFault, HostFault, KernelRefused, OutOfMemory}
+use Rattle.nmstate_top.specs.declared.report.Cause.TheVariants.{Done, NotYet, MergeRefused, Usage, NoSuchName, ReadFault, WriteFault, HostFault, KernelRefused, Damaged, OutOfMemory}
+
+-- the host has a network, of which this holds
+pub record HasNetwork (host : HostView) (P : NetData → Type 0) : Type 0 where
+  pub net : NetData
+  pub net_is : host.state.net ≡ Some net
+  pub holds : P net
 
 -- what is said of the network that an honest host has
 abbrev pub OnKnown : Type 0 → HostView → (NetData → Type 0) → Type 0
-OnKnown honest host P = honest → (net : NetData) → host.state.net ≡ Some net → P net
+OnKnown honest host P = honest → HasNetwork host P
 
 abbrev pub SameState : HostView → HostView → Type 0
 SameState old new = new.state ≡ old.state
@@ -46,6 +52,18 @@ pub record HasNotBegun (tells : Type 0) (old new : HostView) : Type 0 where
   pub state : tells → SameState old new
   pub no_call : new.kernel ≡ old.kernel
 
+-- the number of the area that is no image: the kernel area
+abbrev pub kernel_area : ℕ
+kernel_area = 0
+
+-- the host has no network, and no call was made
+pub record HasNone (honest tells : Type 0) (old new : HostView) (area : ℕ) : Type 0 where
+  pub kernel : area ≡ kernel_area
+  pub none : honest → old.state.net ≡ None
+  pub none_told : tells → old.state.net ≡ None
+  pub state : tells → SameState old new
+  pub no_call : new.kernel ≡ old.kernel
+
 -- the one call was refused, which no honest host does
 pub record HasRefused (honest tells : Type 0) (old new : HostView) (k n : ℕ) : Type 0 where
   pub refused : WasRefused k n old.kernel new.kernel
@@ -60,6 +78,7 @@ Leaves honest tells entry old new NotYet = IsLeftAlone tells old new × OnKnown 
 Leaves honest tells entry old new (HostFault left.NotBegun) = HasNotBegun tells old new
 Leaves honest tells entry old new (HostFault left.Pending) = IsPending honest entry old new
 Leaves honest tells entry old new (KernelRefused k n left.Pending) = HasRefused honest tells old new k n
+Leaves honest tells entry old new (Damaged area) = HasNone honest tells old new area
 Leaves honest tells entry old new OutOfMemory = tells → SameState old new
 Leaves honest tells entry old new _ = ⊥
 

@@ -10,7 +10,7 @@ use Rattle.nmstate_top.specs.Documents.{document}
 use Rattle.nmstate_top.specs.Inputs.{read_limit}
 use Rattle.nmstate_top.specs.Merge.{broken_rule}
 use Rattle.nmstate_top.specs.Texts.{status_of, text_of}
-use Rattle.nmstate_top.specs.Changes.{SameState, HasMerged, IsPending, HasNotBegun, HasRefused}
+use Rattle.nmstate_top.specs.Changes.{SameState, HasMerged, IsPending, HasNotBegun, HasRefused, HasNone, kernel_area}
 use Rattle.nmstate_top.specs.Answers.{HasDocument, Changed, Means}
 use Rattle.nmstate_top.specs.Expected.{expected}
 use Rattle.nmstate_top.specs.Runs.{Run, Told}
@@ -18,7 +18,7 @@ use Rattle.nmstate_top.specs.declared.document.LinkEntry.{LinkEntry}
 use Rattle.nmstate_top.specs.declared.report.Left.{Left}
 use Rattle.nmstate_top.specs.declared.report.Left.TheVariants as left
 use Rattle.nmstate_top.specs.declared.report.Cause.{Cause}
-use Rattle.nmstate_top.specs.declared.report.Cause.TheVariants.{Done, NotYet, MergeRefused, Usage, NoSuchName, ReadFault, WriteFault, HostFault, KernelRefused, OutOfMemory}
+use Rattle.nmstate_top.specs.declared.report.Cause.TheVariants.{Done, NotYet, MergeRefused, Usage, NoSuchName, ReadFault, WriteFault, HostFault, KernelRefused, Damaged, OutOfMemory}
 
 -- ---- premises
 
@@ -75,8 +75,8 @@ Applied r = (entry : LinkEntry) (net : NetData) → HasEntry r entry → HasDevi
 
 -- where neither the host nor the source fails, the answer is the expected one, or want of memory
 abbrev pub Complete : Run → Type 0
-Complete r = (net : NetData) → HasHonest r net → r.asking.source_tells → QuietHost r → QuietSource r
-    → ToldUnlessMemory r (expected r.asking.words (r.asking.source.inputs stdin) net)
+Complete r = r.asking.honest → r.asking.source_tells → QuietHost r → QuietSource r
+    → ToldUnlessMemory r (expected r.asking.words (r.asking.source.inputs stdin) r.asking.host.state.net)
 
 -- ---- each answer
 
@@ -123,6 +123,12 @@ pub record HostFaults (r : Run) : Type 0 where
 abbrev pub KernelRefusals : Run → Type 0
 KernelRefusals r = (k n : ℕ) (l : Left) → r.report.cause ≡ KernelRefused k n l
     → (l ≡ left.Pending) × HasRefused r.asking.honest r.asking.host_tells r.asking.host r.asking.host_after k n
+
+-- `Damaged` exactly where the host has no network; nothing changes
+pub record DamagedExactly (r : Run) : Type 0 where
+  pub only : (area : ℕ) → r.report.cause ≡ Damaged area → HasNone r.asking.honest r.asking.host_tells r.asking.host r.asking.host_after area
+  pub always : (entry : LinkEntry) → HasEntry r entry → r.asking.honest → r.asking.host.state.net ≡ None
+      → QuietHost r → QuietSource r → ToldUnlessMemory r (Damaged kernel_area)
 
 -- want of memory leaves the network as it was, and never comes for other words
 abbrev pub WantsOfMemory : Run → Type 0

@@ -7,7 +7,7 @@ use Rattle.nmstate_top.specs.Words.{Text}
 use Rattle.nmstate_top.specs.declared.report.Left.{Left}
 use Rattle.nmstate_top.specs.declared.report.Left.TheVariants as left
 use Rattle.nmstate_top.specs.declared.report.Cause.{Cause}
-use Rattle.nmstate_top.specs.declared.report.Cause.TheVariants.{Done, NotYet, MergeRefused, Usage, NoSuchName, ReadFault, WriteFault, HostFault, KernelRefused, OutOfMemory}
+use Rattle.nmstate_top.specs.declared.report.Cause.TheVariants.{Done, NotYet, MergeRefused, Usage, NoSuchName, ReadFault, WriteFault, HostFault, KernelRefused, Damaged, OutOfMemory}
 
 abbrev pub status_left : Left → ℕ
 status_left left.RolledBack = 4
@@ -23,6 +23,7 @@ status_of (KernelRefused k n l) = status_left l
 status_of NoSuchName = 6
 status_of ReadFault = 6
 status_of (WriteFault s) = 7
+status_of (Damaged area) = 11
 status_of OutOfMemory = 8
 
 abbrev pub left_text : Left → Text
@@ -58,4 +59,5 @@ text_of ReadFault = codes "error: input not read\n"
 text_of (WriteFault s) = []
 text_of (HostFault l) = codes "error: host fault, " ++ left_text l ++ codes "\n"
 text_of (KernelRefused k n l) = kernel_text k n l
+text_of (Damaged area) = codes "error: kernel area damaged\n"
 text_of OutOfMemory = codes "error: out of memory\n"

@@ -22,7 +22,7 @@ pub enum Left {
 pub enum Cause {
     /// What was asked is done.
     Done,
-    /// The document is none of the form that is built.
+    /// The document is of another form than the first, or the network has a link that is no Ethernet device.
     NotYet,
     /// The document can't be merged with the running state.
     MergeRefused(Refused),
@@ -38,6 +38,8 @@ pub enum Cause {
     HostFault(Left),
     /// The kernel refused a call: the number of the refusal, and the number of the call from 1.
     KernelRefused(u8, u64, Left),
+    /// There is no network: the area of this number is no image.
+    Damaged(u8),
     /// Memory was refused.
     OutOfMemory,
 }
@@ -66,6 +68,7 @@ impl Cause {
             Cause::NoSuchName | Cause::ReadFault => 6,
             Cause::WriteFault(_) => 7,
             Cause::OutOfMemory => 8,
+            Cause::Damaged(_) => 11,
         }
     }
 }

@@ -5,7 +5,7 @@ ghost use Rattle.nmstate_top.specs.Documents.{mtu_fits};
 ghost use Rattle.nmstate_top.specs.Changes.{MakesCall, ChangesHost};
 ghost use Rattle.nmstate_top.specs.Answers.{asking, ReadsDocument, Applies, Means};
 ghost use Rattle.nmstate_top.specs.Runs.{run_of, Answered};
-ghost use Rattle.nmstate_top.specs.Promises.{Applied, Complete, UsageExactly, NoSuchNames, ReadFaults, NotYetExactly, MergeRefusedExactly, HostFaults, KernelRefusals, WriteFaultExactly, WantsOfMemory, Texts, Statuses};
+ghost use Rattle.nmstate_top.specs.Promises.{Applied, Complete, UsageExactly, NoSuchNames, ReadFaults, NotYetExactly, MergeRefusedExactly, HostFaults, KernelRefusals, WriteFaultExactly, DamagedExactly, WantsOfMemory, Texts, Statuses};
 
 use crate::document::{LinkEntry, read_form};
 use crate::input::read_input;
@@ -16,6 +16,9 @@ use host_core::{CallFault, Clock, DumpFault, Host, Sink, Source};
 use kernel_model::is_of_devices;
 use net_model::Call;
 use std::alloc::Global;
+
+/// The number by which an answer names the kernel area.
+const KERNEL_AREA: u8 = 0;
 
 /// Whether the words are the one command that is built.
 fn is_apply(words: &[String]) -> bool
@@ -57,6 +60,7 @@ fn change_host<H: Host>(alloc: Global, entry: &LinkEntry, host: &mut H) -> Resul
     let net = match host.dump(alloc) {
         Ok(net) => net,
         Err(DumpFault::Failed) => return Err(Cause::HostFault(Left::NotBegun)),
+        Err(DumpFault::Damaged) => return Err(Cause::Damaged(KERNEL_AREA)),
         Err(DumpFault::OutOfMemory) => return Err(Cause::OutOfMemory),
     };
     if !is_of_devices(&net) {
@@ -140,6 +144,8 @@ pub fn run_command<H: Host, S: Source, W: Sink, C: Clock>(
     ensures kernel_refused { KernelRefusals (run_of words.now.items H.honest H.tells H.told host.old host.new S.tells S.told src.old src.new
         W.tells W.told out.old out.new err.old err.new result) }
     ensures write_fault { WriteFaultExactly (run_of words.now.items H.honest H.tells H.told host.old host.new S.tells S.told src.old src.new
+        W.tells W.told out.old out.new err.old err.new result) }
+    ensures damaged { DamagedExactly (run_of words.now.items H.honest H.tells H.told host.old host.new S.tells S.told src.old src.new
         W.tells W.told out.old out.new err.old err.new result) }
     ensures out_of_memory { WantsOfMemory (run_of words.now.items H.honest H.tells H.told host.old host.new S.tells S.told src.old src.new
         W.tells W.told out.old out.new err.old err.new result) }

@@ -115,6 +115,7 @@ pub fn line_of(cause: &Cause) -> Line
         Cause::WriteFault(_) => fixed_line(b""),
         Cause::HostFault(left) => host_line(*left),
         Cause::KernelRefused(number, call, left) => kernel_line(*number, *call, *left),
+        Cause::Damaged(_) => fixed_line(b"error: kernel area damaged\n"),
         Cause::OutOfMemory => fixed_line(b"error: out of memory\n"),
     }
 }

@@ -7,7 +7,7 @@ mod streams;
 
 use crate::start::first_net;
 use crate::streams::{Stream, StreamSink, StreamSource, SystemClock};
-use host_core::MemoryHost;
+use host_memory::MemoryHost;
 use nmstate_top::run_command;
 use std::process::ExitCode;
 use std::{env, io};
@@ -24,7 +24,8 @@ fn words(rt: &HostRuntime) -> io::Result<Vec<String>> {
 fn main(rt: HostRuntime) -> io::Result<ExitCode> {
     let alloc = rt.alloc();
     let words = words(&rt)?;
-    let mut host = MemoryHost::new(first_net(alloc)?, Vec::new(alloc));
+    let first = Some(first_net(alloc)?);
+    let mut host = MemoryHost::new(alloc, first, Vec::new(alloc), Vec::new(alloc));
     let mut source = StreamSource::new(rt.stdin());
     let mut out = StreamSink::new(Stream::Out(rt.stdout()));
     let mut err = StreamSink::new(Stream::Err(rt.stderr()));

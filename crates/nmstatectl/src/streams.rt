@@ -2,7 +2,7 @@
 ghost use Rattle.std.specs.Prelude.{◌≡◌, []};
 ghost use Rattle.nmstatectl.specs.Silent.{silent_source, silent_sink};
 
-use host_core::{Clock, Failed, Sink, Source, StartFault};
+use host_core::{Clock, Failed, Sink, Source, StartFault, raised};
 use std::io::{Read, Stderr, Stdin, Stdout, Write};
 use std::rt::Clock as Ticks;
 use std::time::{SystemTime, UNIX_EPOCH};
@@ -41,7 +41,7 @@ impl Source for StreamSource {
         match self.stdin.read(buf) {
             Ok(count) => Ok(count as u64),
             Err(_) => {
-                self.faults = self.faults.saturating_add(1);
+                self.faults = raised(self.faults);
                 Err(Failed)
             }
         }
@@ -56,7 +56,7 @@ pub enum Stream {
 }
 
 impl Stream {
-    /// Writes all bytes, and hands them on at once.
+    /// Writes all bytes, and flushes them.
     fn write_out(&mut self, bytes: &[u8]) -> bool {
         match self {
             Stream::Out(out) => out.write_all(bytes).is_ok() && out.flush().is_ok(),
@@ -91,7 +91,7 @@ impl Sink for StreamSink {
         if self.stream.write_out(bytes) {
             return Ok(());
         }
-        self.faults = self.faults.saturating_add(1);
+        self.faults = raised(self.faults);
         Err(Failed)
     }
 }

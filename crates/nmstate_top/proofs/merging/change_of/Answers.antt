@@ -6,7 +6,7 @@ use Rattle.net_model.specs.declared.Link.{Link}
 use Rattle.nmstate_top.specs.Documents.{mtu_fits}
 use Rattle.nmstate_top.specs.Merge.{merged, with_mtu_of}
 use Rattle.nmstate_top.proofs.MergeLemmas.{set_mtu-same, has_mtu-same, not_both}
-use Rattle.kernel_step.proofs.MtuLaw.{mtu_stepped}
+use Rattle.nmstate_top.proofs.DeviceMtu.{mtu_stepped}
 use Rattle.nmstate_top.proofs.merging.change_of.Goals as goal
 
 pub returns-then-has_mtu : goal.returns-then-has_mtu

@@ -1,6 +1,6 @@
 use Rattle.nmstate_top.specs.Runs.{run_of}
 use Rattle.nmstate_top.proofs.Telling.{texts, statuses}
-use Rattle.nmstate_top.proofs.Promised.{applied, complete, usage, no_such_name, read_fault, not_yet, merge_refused, host_fault, kernel_refused, write_fault_exactly, out_of_memory}
+use Rattle.nmstate_top.proofs.Promised.{applied, complete, usage, no_such_name, read_fault, not_yet, merge_refused, host_fault, kernel_refused, write_fault_exactly, damaged, out_of_memory}
 use Rattle.nmstate_top.proofs.run.run_command.Goals as goal
 
 pub returns-clause-applied : goal.returns-clause-applied
@@ -41,6 +41,10 @@ returns-clause-kernel_refused g c = kernel_refused (run_of c.args.words.now.item
 
 pub returns-clause-write_fault : goal.returns-clause-write_fault
 returns-clause-write_fault g c = write_fault_exactly (run_of c.args.words.now.items g.H.Host.honest g.H.Host.tells g.H.Host.told c.args.host.now c.run.new.host g.S.Source.tells g.S.Source.told c.args.src.now c.run.new.src
+    g.W.Sink.tells g.W.Sink.told c.args.out.now c.run.new.out c.args.err.now c.run.new.err c.run.result) c.run.ensures
+
+pub returns-clause-damaged : goal.returns-clause-damaged
+returns-clause-damaged g c = damaged (run_of c.args.words.now.items g.H.Host.honest g.H.Host.tells g.H.Host.told c.args.host.now c.run.new.host g.S.Source.tells g.S.Source.told c.args.src.now c.run.new.src
     g.W.Sink.tells g.W.Sink.told c.args.out.now c.run.new.out c.args.err.now c.run.new.err c.run.result) c.run.ensures
 
 pub returns-clause-out_of_memory : goal.returns-clause-out_of_memory
