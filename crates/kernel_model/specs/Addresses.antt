@@ -11,6 +11,7 @@ use Rattle.net_model.specs.Lists.{NetData}
 use Rattle.net_model.specs.declared.Link.{Link}
 use Rattle.net_model.specs.declared.Route.{Route}
 use Rattle.kernel_model.specs.Words.{has_link, is_full, edit_link}
+use Rattle.kernel_model.specs.declared.refusal.TheConstants.{NO_LINK, PORT_ADDRESS, ADDRESS_EXISTS, LINK_DOWN, LIMIT, NO_ADDRESS}
 
 -- the address stands among these, with any length
 abbrev pub has_address : Block → List Block → Bool
@@ -20,14 +21,14 @@ has_address block addrs = list_any (λ b. same_address block.addr b.addr) addrs
 abbrev pub has_block : Block → List Block → Bool
 has_block block addrs = list_any (same_block block) addrs
 
--- 1: the named link isn't there; 12: it is a port of a bond or a bridge; 15: it has the address, with any length; 17: the
--- address is IPv6 and the link is down; 23: the link, or all together, have as many addresses as there may be
+-- the named link isn't there; it is a port of a bond or a bridge; it has the address, with any length; the
+-- address is IPv6 and the link is down; the link, or all together, have as many addresses as there may be
 abbrev pub add_address_refusals : List ℕ → Block → NetData → List (ℕ × Bool)
 add_address_refusals name block net =
-    (1, not (has_link name net.links)) ∷ (12, named_passes (is_bond_or_bridge_port net.links) net.links name)
-    ∷ (15, named_passes (λ l. has_address block l.addrs) net.links name)
-    ∷ (17, block.addr.v6 && named_passes (λ l. not l.up) net.links name)
-    ∷ (23, named_passes (λ l. is_full 64 l.addrs) net.links name || nat_le 4096 (address_count net.links)) ∷ []
+    (NO_LINK, not (has_link name net.links)) ∷ (PORT_ADDRESS, named_passes (is_bond_or_bridge_port net.links) net.links name)
+    ∷ (ADDRESS_EXISTS, named_passes (λ l. has_address block l.addrs) net.links name)
+    ∷ (LINK_DOWN, block.addr.v6 && named_passes (λ l. not l.up) net.links name)
+    ∷ (LIMIT, named_passes (λ l. is_full 64 l.addrs) net.links name || nat_le 4096 (address_count net.links)) ∷ []
 
 abbrev pub with_address : Block → Link → Link
 with_address block l = record l { addrs = put block_cmp block l.addrs }
@@ -35,9 +36,9 @@ with_address block l = record l { addrs = put block_cmp block l.addrs }
 abbrev pub after_add_address : List ℕ → Block → NetData → NetData
 after_add_address name block net = record net { links = edit_link name (with_address block) net.links }
 
--- 1: the named link isn't there; 16: it hasn't the address with that length
+-- the named link isn't there; it hasn't the address with that length
 abbrev pub del_address_refusals : List ℕ → Block → NetData → List (ℕ × Bool)
-del_address_refusals name block net = (1, not (has_link name net.links)) ∷ (16, not (named_passes (λ l. has_block block l.addrs) net.links name)) ∷ []
+del_address_refusals name block net = (NO_LINK, not (has_link name net.links)) ∷ (NO_ADDRESS, not (named_passes (λ l. has_block block l.addrs) net.links name)) ∷ []
 
 abbrev pub without_address : Block → Link → Link
 without_address block l = record l { addrs = filter (λ b. not (same_block block b)) l.addrs }
