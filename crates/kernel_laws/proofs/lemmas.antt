@@ -5,3 +5,5 @@ pub mod Deleting
 pub mod StepKeeps
 pub mod Leading
 pub mod Taking
+pub mod InPlace
+pub mod Carried

@@ -1,4 +1,3 @@
 pub mod MtuLaw
-pub mod InPlace
 pub mod OneLink
 pub mod RuleGap

@@ -12,7 +12,7 @@ use Rattle.kernel_model.specs.Words.{has_link}
 use Rattle.kernel_model.specs.Settings.{after_set_mac}
 use Rattle.kernel_model.specs.Kernel.{step}
 use Rattle.kernel_step.specs.Place.{IsAt}
-use Rattle.kernel_step.proofs.InPlace.{some_at}
+use Rattle.kernel_laws.proofs.lemmas.InPlace.{some_at}
 use Rattle.kernel_step.proofs.MtuLaw.{has_link-any}
 
 -- a link that has a place is there

@@ -97,3 +97,11 @@ passes_as p xs n b differ found =
 
 pub some_same : (a b : Link) → Some a ≡ Some b → a ≡ b
 some_same a b e = cc
+
+-- what is the same of each link found is the same of all
+pub map_by_name : (f g : Link → Link) (xs : List Link) → names_differ xs ≡ true → ((n : List ℕ) (l : Link) → find_link n xs ≡ Some l → f l ≡ g l) → map f xs ≡ map g xs
+map_by_name f g [] differ each = refl
+map_by_name f g (x ∷ xs) differ each =
+    let none : list_any (same_name x) xs ≡ false = not_true (list_any (same_name x) xs) (and_left (not (list_any (same_name x) xs)) (names_differ xs) differ) in
+    ap (λ (l : Link). l ∷ map f xs) (each x.name x (found_first x xs))
+    ∙ ap (λ (ls : List Link). g x ∷ ls) (map_by_name f g xs (and_right (not (list_any (same_name x) xs)) (names_differ xs) differ) (λ n l found. each n l (found_later x xs n l (none_named x xs none n l found) found)))

@@ -5,7 +5,7 @@ use Rattle.net_model.specs.Rule.{RuleParts}
 use Rattle.net_model.specs.Order.{rule_cmp}
 use Rattle.net_model.specs.OrderLaws.{rule_cmp_total}
 use Rattle.net_model.proofs.lemmas.Rises.{sorted-rises}
-use Rattle.kernel_step.proofs.InPlace.{insert_is_put}
+use Rattle.kernel_laws.proofs.lemmas.InPlace.{insert_is_put}
 use Rattle.kernel_step.proofs.RuleGap.{met, missed}
 use Rattle.kernel_step.proofs.rules.gap.Goals as goal
 

@@ -1,11 +1,11 @@
 -- Edits in place are the edits of the definitions.
-use Rattle.std.proofs.Common.{◌≡◌, ℕ, ◌<◌, ◌≤◌, zero, suc, Bool, true, false, not, ◌&&◌, ◌||◌, cond, List, [], ◌∷◌, map, filter, length, get_or, set, Ordering, Less, Greater, refl, sym, ap, ◌∙◌, arith}
+use Rattle.std.proofs.Common.{◌≡◌, ℕ, ◌<◌, ◌≤◌, zero, suc, Bool, true, false, not, ◌&&◌, ◌||◌, cond, List, [], ◌∷◌, map, filter, length, get_or, set, Option, Some, None, Ordering, Less, Greater, refl, sym, ap, ◌∙◌, arith}
 use Rattle.std.specs.Prelude.{if◌then◌else◌}
 use Rattle.std.specs.List.{list_any, insert}
 use Rattle.std.specs.Ordering.{is_lt}
 use Rattle.net_model.specs.Name.{same_bytes}
 use Rattle.net_model.specs.Words.{put, is_among}
-use Rattle.net_model.specs.Links.{is_named, same_name, named_passes}
+use Rattle.net_model.specs.Links.{is_named, find_link, same_name, named_passes}
 use Rattle.net_model.specs.Valid.{names_differ}
 use Rattle.net_model.specs.declared.link.Link.{Link}
 use Rattle.net_model.proofs.lemmas.Truth.{and_left, and_right, not_true, or_left_false, or_right_false}
@@ -70,3 +70,12 @@ among_passes p (x ∷ xs) name =
     and_no : (b : Bool) → (b && false) ≡ false
     and_no true = refl
     and_no false = refl
+
+-- where no link has the name, nothing is changed
+pub edit_none : (name : List ℕ) (g : Link → Link) (xs : List Link) → find_link name xs ≡ None → edit_link name g xs ≡ xs
+edit_none name g [] none = refl
+edit_none name g (x ∷ xs) none =
+    elim (is_named name x) as (λ v. is_named name x ≡ v → cond v (Some x) (find_link name xs) ≡ None → edit_link name g (x ∷ xs) ≡ x ∷ xs) [
+      | true ↦ λ e k. absurd cc
+      | false ↦ λ e k. ap (λ (l : Link). l ∷ edit_link name g xs) (changed_off name g x e) ∙ ap (λ (ls : List Link). x ∷ ls) (edit_none name g xs k)
+    ] refl none
