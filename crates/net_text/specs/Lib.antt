@@ -1,2 +1,3 @@
 pub mod AddrText
 pub mod Line
+pub mod Words

@@ -51,8 +51,8 @@ abbrev pub proto_word : Proto → List ℕ
 proto_word Dot1q = codes "802.1q"
 proto_word Dot1ad = codes "802.1ad"
 
-abbrev pub truth_word : Bool → List ℕ
-truth_word b = if b then codes "true" else codes "false"
+abbrev pub bool_word : Bool → List ℕ
+bool_word b = if b then codes "true" else codes "false"
 
 abbrev pub family_word : Bool → List ℕ
 family_word v6 = if v6 then codes "ipv6" else codes "ipv4"
@@ -92,10 +92,10 @@ abbrev pub timer_words : BridgeOpts → List ℕ
 timer_words o = codes " forward-delay=" ++ decimal o.forward_delay ++ codes " hello-time=" ++ decimal o.hello_time ++ codes " max-age=" ++ decimal o.max_age ++ codes " mac-ageing-time=" ++ decimal o.mac_ageing
 
 abbrev pub bridge_words : BridgeOpts → List ℕ
-bridge_words o = codes " stp=" ++ truth_word o.stp ++ codes " priority=" ++ decimal o.priority ++ timer_words o
+bridge_words o = codes " stp=" ++ bool_word o.stp ++ codes " priority=" ++ decimal o.priority ++ timer_words o
 
 abbrev pub port_words : PortOpts → List ℕ
-port_words o = codes " cost=" ++ decimal o.cost ++ codes " priority=" ++ decimal o.priority ++ codes " hairpin=" ++ truth_word o.hairpin
+port_words o = codes " cost=" ++ decimal o.cost ++ codes " priority=" ++ decimal o.priority ++ codes " hairpin=" ++ bool_word o.hairpin
 
 -- nothing where the route has no gateway
 abbrev pub gateway_words : Option Address → List ℕ

@@ -4,7 +4,7 @@ ghost use Rattle.std.specs.Fmt.{decimal};
 ghost use Rattle.net_text.specs.Line.{kind_words, monitor_words, bond_words, timer_words, bridge_words, port_words};
 
 use crate::pieces::{push_decimal, push_name, push_name_or_dash};
-use crate::words::{mode_word, policy_word, proto_word, rate_word, truth_word};
+use crate::words::{mode_word, policy_word, proto_word, rate_word, bool_word};
 use net_model::{BondOpts, BridgeOpts, Kind, Name, OutOfMemory, PortOpts, Proto, VlanId};
 
 // A key and a number.
@@ -16,11 +16,11 @@ fn push_number(key: &[u8], number: u32, line: &mut Vec<u8>) -> Result<(), OutOfM
 }
 
 // A key and a word.
-fn push_word(key: &[u8], word: &[u8], line: &mut Vec<u8>) -> Result<(), OutOfMemory>
+fn push_word(key: &[u8], word: &str, line: &mut Vec<u8>) -> Result<(), OutOfMemory>
     ensures { OnOk result (line.new.items ≡ line.old.items ++ key.now ++ word.now) }
 {
     line.extend_from_slice(key)?;
-    line.extend_from_slice(word)?;
+    line.extend_from_slice(word.as_bytes())?;
     Ok(())
 }
 
@@ -78,7 +78,7 @@ fn push_timers(opts: &BridgeOpts, line: &mut Vec<u8>) -> Result<(), OutOfMemory>
 pub(crate) fn push_bridge(opts: &BridgeOpts, line: &mut Vec<u8>) -> Result<(), OutOfMemory>
     ensures { OnOk result (line.new.items ≡ line.old.items ++ bridge_words opts.now) }
 {
-    push_word(b" stp=", truth_word(opts.stp), line)?;
+    push_word(b" stp=", bool_word(opts.stp), line)?;
     push_number(b" priority=", opts.priority as u32, line)?;
     push_timers(opts, line)
 }
@@ -88,5 +88,5 @@ pub(crate) fn push_port(opts: &PortOpts, line: &mut Vec<u8>) -> Result<(), OutOf
 {
     push_number(b" cost=", opts.cost as u32, line)?;
     push_number(b" priority=", opts.priority as u32, line)?;
-    push_word(b" hairpin=", truth_word(opts.hairpin), line)
+    push_word(b" hairpin=", bool_word(opts.hairpin), line)
 }

@@ -47,16 +47,16 @@ fn push_target(target: Target, line: &mut Vec<u8>) -> Result<(), OutOfMemory>
 {
     match target {
         Target::Table(table) => push_decimal(table.id(), line),
-        Target::Blackhole => push_action(b"blackhole", line),
-        Target::Unreachable => push_action(b"unreachable", line),
-        Target::Prohibit => push_action(b"prohibit", line),
+        Target::Blackhole => push_bytes(b"blackhole", line),
+        Target::Unreachable => push_bytes(b"unreachable", line),
+        Target::Prohibit => push_bytes(b"prohibit", line),
     }
 }
 
-fn push_action(word: &[u8], line: &mut Vec<u8>) -> Result<(), OutOfMemory>
-    ensures { OnOk result (line.new.items ≡ line.old.items ++ word.now) }
+fn push_bytes(bytes: &[u8], line: &mut Vec<u8>) -> Result<(), OutOfMemory>
+    ensures { OnOk result (line.new.items ≡ line.old.items ++ bytes.now) }
 {
-    line.extend_from_slice(word)?;
+    line.extend_from_slice(bytes)?;
     Ok(())
 }
 
@@ -66,7 +66,7 @@ fn push_selector(rule: &Rule, line: &mut Vec<u8>) -> Result<(), OutOfMemory>
 {
     push_decimal(rule.priority, line)?;
     line.extend_from_slice(b" ")?;
-    line.extend_from_slice(family_word(rule.v6))?;
+    line.extend_from_slice(family_word(rule.v6).as_bytes())?;
     line.extend_from_slice(b" from=")?;
     push_prefix_or_dash(rule.src, line)?;
     line.extend_from_slice(b" to=")?;
@@ -87,7 +87,7 @@ pub(crate) fn push_rule(rule: &Rule, line: &mut Vec<u8>) -> Result<(), OutOfMemo
     push_target(rule.target, line)
 }
 
-fn push_servers(servers: &[Addr], line: &mut Vec<u8>) -> Result<(), OutOfMemory>
+fn append_servers(servers: &[Addr], line: &mut Vec<u8>) -> Result<(), OutOfMemory>
     ensures { OnOk result (line.new.items ≡ line.old.items ++ joined 44 (map addr_text servers.now)) }
 {
     match servers {
@@ -96,21 +96,21 @@ fn push_servers(servers: &[Addr], line: &mut Vec<u8>) -> Result<(), OutOfMemory>
         [first, rest @ ..] => {
             push_addr(*first, line)?;
             line.push(b',')?;
-            push_servers(rest, line)
+            append_servers(rest, line)
         }
     }
 }
 
-fn push_search(search: &[Domain], line: &mut Vec<u8>) -> Result<(), OutOfMemory>
+fn append_search(search: &[Domain], line: &mut Vec<u8>) -> Result<(), OutOfMemory>
     ensures { OnOk result (line.new.items ≡ line.old.items ++ joined 44 search.now) }
 {
     match search {
         [] => Ok(()),
-        [only] => push_action(only.as_bytes(), line),
+        [only] => push_bytes(only.as_bytes(), line),
         [first, rest @ ..] => {
             line.extend_from_slice(first.as_bytes())?;
             line.push(b',')?;
-            push_search(rest, line)
+            append_search(rest, line)
         }
     }
 }
@@ -119,7 +119,7 @@ pub(crate) fn push_dns(dns: &Dns, line: &mut Vec<u8>) -> Result<(), OutOfMemory>
     ensures { OnOk result (line.new.items ≡ line.old.items ++ dns_words dns.now) }
 {
     line.extend_from_slice(b" servers=")?;
-    push_servers(dns.servers.items(), line)?;
+    append_servers(dns.servers.items(), line)?;
     line.extend_from_slice(b" search=")?;
-    push_search(dns.search.items(), line)
+    append_search(dns.search.items(), line)
 }
