@@ -32,8 +32,7 @@ pub word_in-exact : {X : Type 0} (word : X → List ℕ) (xs : List X) (t : List
     → (word_in (with_words word xs) t ≡ Some x) ↔ (t ≡ word x)
 word_in-exact word xs t x own = (word_in-word word xs t x, λ is. subst (λ s. word_in (with_words word xs) s ≡ Some x) (sym is) own)
 
--- a bond's mode is read from its word
-pub read_mode : (x : BondMode) → word_in modes (mode_word x) ≡ Some x
+read_mode : (x : BondMode) → word_in modes (mode_word x) ≡ Some x
 read_mode BalanceRr = refl
 read_mode ActiveBackup = refl
 read_mode BalanceXor = refl
@@ -42,13 +41,19 @@ read_mode Ieee8023ad = refl
 read_mode BalanceTlb = refl
 read_mode BalanceAlb = refl
 
--- an LACP rate is read from its word
-pub read_rate : (x : LacpRate) → word_in rates (rate_word x) ≡ Some x
+-- a text is read as a bond's mode exactly where it is its word
+pub modes_exact : (t : List ℕ) (x : BondMode) → (word_in modes t ≡ Some x) ↔ (t ≡ mode_word x)
+modes_exact t x = word_in-exact mode_word (BalanceRr ∷ ActiveBackup ∷ BalanceXor ∷ Broadcast ∷ Ieee8023ad ∷ BalanceTlb ∷ BalanceAlb ∷ []) t x (read_mode x)
+
+read_rate : (x : LacpRate) → word_in rates (rate_word x) ≡ Some x
 read_rate Slow = refl
 read_rate Fast = refl
 
--- a transmit hash policy is read from its word
-pub read_policy : (x : HashPolicy) → word_in policies (policy_word x) ≡ Some x
+-- a text is read as an LACP rate exactly where it is its word
+pub rates_exact : (t : List ℕ) (x : LacpRate) → (word_in rates t ≡ Some x) ↔ (t ≡ rate_word x)
+rates_exact t x = word_in-exact rate_word (Slow ∷ Fast ∷ []) t x (read_rate x)
+
+read_policy : (x : HashPolicy) → word_in policies (policy_word x) ≡ Some x
 read_policy Layer2 = refl
 read_policy Layer23 = refl
 read_policy Layer34 = refl
@@ -56,17 +61,30 @@ read_policy Encap23 = refl
 read_policy Encap34 = refl
 read_policy VlanSrcmac = refl
 
--- a VLAN protocol is read from its word
-pub read_proto : (x : Proto) → word_in protocols (proto_word x) ≡ Some x
+-- a text is read as a transmit hash policy exactly where it is its word
+pub policies_exact : (t : List ℕ) (x : HashPolicy) → (word_in policies t ≡ Some x) ↔ (t ≡ policy_word x)
+policies_exact t x = word_in-exact policy_word (Layer2 ∷ Layer23 ∷ Layer34 ∷ Encap23 ∷ Encap34 ∷ VlanSrcmac ∷ []) t x (read_policy x)
+
+read_proto : (x : Proto) → word_in protocols (proto_word x) ≡ Some x
 read_proto Dot1q = refl
 read_proto Dot1ad = refl
 
--- a boolean is read from its word
-pub read_bool : (x : Bool) → word_in booleans (bool_word x) ≡ Some x
+-- a text is read as a VLAN protocol exactly where it is its word
+pub protocols_exact : (t : List ℕ) (x : Proto) → (word_in protocols t ≡ Some x) ↔ (t ≡ proto_word x)
+protocols_exact t x = word_in-exact proto_word (Dot1q ∷ Dot1ad ∷ []) t x (read_proto x)
+
+read_bool : (x : Bool) → word_in booleans (bool_word x) ≡ Some x
 read_bool true = refl
 read_bool false = refl
 
--- a family is read from its word
-pub read_family : (x : Bool) → word_in families (family_word x) ≡ Some x
+-- a text is read as a boolean exactly where it is its word
+pub booleans_exact : (t : List ℕ) (x : Bool) → (word_in booleans t ≡ Some x) ↔ (t ≡ bool_word x)
+booleans_exact t x = word_in-exact bool_word (true ∷ false ∷ []) t x (read_bool x)
+
+read_family : (x : Bool) → word_in families (family_word x) ≡ Some x
 read_family true = refl
 read_family false = refl
+
+-- a text is read as a family exactly where it is its word
+pub families_exact : (t : List ℕ) (x : Bool) → (word_in families t ≡ Some x) ↔ (t ≡ family_word x)
+families_exact t x = word_in-exact family_word (false ∷ true ∷ []) t x (read_family x)
