@@ -1,0 +1,8 @@
+use Rattle.std.proofs.Common.{◌≡◌, true, sym, subst, ap, ◌∙◌}
+use Rattle.net_model.specs.declared.link.Link.{Link}
+use Rattle.net_image.specs.Links.{is_writable}
+use Rattle.net_image.proofs.Fitting.{each_passes}
+use Rattle.net_image.proofs.write_link.push_links.Goals as goal
+
+pub push_link-requires : goal.push_link-requires
+push_link-requires c = ap is_writable c.of-item.is ∙ each_passes is_writable c.args.links.now c.loop-of.of-index c.of-item.result c.loop-of-test.true c.requires

@@ -1,0 +1,152 @@
+//! Routes, rules, settings of DNS and whole lists as bytes, appended to others. Where memory is refused, a part of them
+//! may stand behind the old bytes.
+ghost use Rattle.std.specs.Prelude.{◌≡◌, ◌<◌, ◌≤◌, ◌++◌, length, true, codes, OnOk};
+ghost use Rattle.std.specs.List.{list_all};
+ghost use Rattle.net_image.specs.Form.{number, counted, byte};
+ghost use Rattle.net_image.specs.Fields.{address_form, domain};
+ghost use Rattle.net_image.specs.Links.{link, is_writable};
+ghost use Rattle.net_image.specs.Image.{route, rule, target, dns, mark, lists};
+
+use crate::stored::push_all;
+use crate::write::{
+    push_byte, push_family, push_gateway, push_maybe_name, push_maybe_subnet, push_name,
+    push_subnet, push_table, push_u16, push_u32,
+};
+use crate::write_link::push_links;
+use net_model::{Addr, Dns, Domain, Link, Net, OutOfMemory, Route, Rule, Target};
+
+#[tactic(auto, unfolding(crate::specs::Image::route))]
+pub(crate) fn push_route(of: &Route, out: &mut Vec<u8>) -> Result<(), OutOfMemory>
+    ensures bytes { OnOk result (out.new.items ≡ out.old.items ++ route.write of.now) }
+    ensures fits { OnOk result (route.fits of.now ≡ true) }
+{
+    push_subnet(of.dest, out)?;
+    push_table(of.table, out)?;
+    push_u32(of.metric, out)?;
+    push_gateway(&of.gateway, out)?;
+    push_name(&of.dev, out)?;
+    Ok(())
+}
+
+#[tactic(auto, unfolding(crate::specs::Image::target))]
+fn push_target(of: Target, out: &mut Vec<u8>) -> Result<(), OutOfMemory>
+    ensures bytes { OnOk result (out.new.items ≡ out.old.items ++ target.write of) }
+    ensures fits { OnOk result (target.fits of ≡ true) }
+{
+    match of {
+        Target::Table(table) => {
+            push_byte(0, out)?;
+            push_table(table, out)
+        }
+        Target::Blackhole => push_byte(1, out),
+        Target::Unreachable => push_byte(2, out),
+        Target::Prohibit => push_byte(3, out),
+    }
+}
+
+#[tactic(auto, unfolding(crate::specs::Image::rule))]
+pub(crate) fn push_rule(of: Rule, out: &mut Vec<u8>) -> Result<(), OutOfMemory>
+    ensures bytes { OnOk result (out.new.items ≡ out.old.items ++ rule.write of) }
+    ensures fits { OnOk result (rule.fits of ≡ true) }
+{
+    push_u32(of.priority, out)?;
+    push_family(of.v6, out)?;
+    push_maybe_subnet(of.src, out)?;
+    push_maybe_subnet(of.dst, out)?;
+    push_maybe_name(&of.iif, out)?;
+    push_u32(of.mark, out)?;
+    push_u32(of.mask, out)?;
+    push_target(of.target, out)?;
+    Ok(())
+}
+
+fn push_servers(of: &[Addr], out: &mut Vec<u8>) -> Result<(), OutOfMemory>
+    requires { length of.now < 256 }
+    ensures bytes { OnOk result (out.new.items ≡ out.old.items ++ (counted byte address_form).write of.now) }
+    ensures fits { OnOk result ((counted byte address_form).fits of.now ≡ true) }
+{
+    push_byte(of.len() as u8, out)?;
+    push_all(of, out)?;
+    Ok(())
+}
+
+fn push_search(of: &[Domain], out: &mut Vec<u8>) -> Result<(), OutOfMemory>
+    requires { length of.now < 256 }
+    ensures bytes { OnOk result (out.new.items ≡ out.old.items ++ (counted byte domain).write of.now) }
+    ensures fits { OnOk result ((counted byte domain).fits of.now ≡ true) }
+{
+    push_byte(of.len() as u8, out)?;
+    push_all(of, out)?;
+    Ok(())
+}
+
+#[tactic(auto, unfolding(crate::specs::Image::dns))]
+fn push_dns(of: &Dns, out: &mut Vec<u8>) -> Result<(), OutOfMemory>
+    requires servers { length of.now.servers < 256 }
+    requires search { length of.now.search < 256 }
+    ensures bytes { OnOk result (out.new.items ≡ out.old.items ++ dns.write of.now) }
+    ensures fits { OnOk result (dns.fits of.now ≡ true) }
+{
+    push_servers(of.servers.items(), out)?;
+    push_search(of.search.items(), out)?;
+    Ok(())
+}
+
+fn push_mark(out: &mut Vec<u8>) -> Result<(), OutOfMemory>
+    ensures bytes { OnOk result (out.new.items ≡ out.old.items ++ codes "NMS1") }
+{
+    out.extend_from_slice(b"NMS1")?;
+    Ok(())
+}
+
+// A count in two bytes, and the links.
+fn push_links_counted(links: &[Link], out: &mut Vec<u8>) -> Result<(), OutOfMemory>
+    requires few { length links.now < 65536 }
+    requires writable { list_all is_writable links.now ≡ true }
+    ensures bytes { OnOk result (out.new.items ≡ out.old.items ++ (counted (number 2) link).write links.now) }
+    ensures fits { OnOk result ((counted (number 2) link).fits links.now ≡ true) }
+{
+    push_u16(links.len() as u16, out)?;
+    push_links(links, out)?;
+    Ok(())
+}
+
+fn push_routes(routes: &[Route], out: &mut Vec<u8>) -> Result<(), OutOfMemory>
+    requires { length routes.now < 65536 }
+    ensures bytes { OnOk result (out.new.items ≡ out.old.items ++ (counted (number 2) route).write routes.now) }
+    ensures fits { OnOk result ((counted (number 2) route).fits routes.now ≡ true) }
+{
+    push_u16(routes.len() as u16, out)?;
+    push_all(routes, out)?;
+    Ok(())
+}
+
+fn push_rules(rules: &[Rule], out: &mut Vec<u8>) -> Result<(), OutOfMemory>
+    requires { length rules.now < 65536 }
+    ensures bytes { OnOk result (out.new.items ≡ out.old.items ++ (counted (number 2) rule).write rules.now) }
+    ensures fits { OnOk result ((counted (number 2) rule).fits rules.now ≡ true) }
+{
+    push_u16(rules.len() as u16, out)?;
+    push_all(rules, out)?;
+    Ok(())
+}
+
+/// Appends the lists of a network.
+#[tactic(auto, unfolding(crate::specs::Image::lists))]
+pub(crate) fn push_lists(net: &Net, out: &mut Vec<u8>) -> Result<(), OutOfMemory>
+    requires links { length net.now.links < 65536 }
+    requires routes { length net.now.routes < 65536 }
+    requires rules { length net.now.rules < 65536 }
+    requires servers { length net.now.dns.servers < 256 }
+    requires search { length net.now.dns.search < 256 }
+    requires writable { list_all is_writable net.now.links ≡ true }
+    ensures bytes { OnOk result (out.new.items ≡ out.old.items ++ lists.write net.now) }
+    ensures fits { OnOk result (lists.fits net.now ≡ true) }
+{
+    push_mark(out)?;
+    push_links_counted(net.links(), out)?;
+    push_routes(net.routes(), out)?;
+    push_rules(net.rules(), out)?;
+    push_dns(net.dns(), out)?;
+    Ok(())
+}
