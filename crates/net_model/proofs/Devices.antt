@@ -1,13 +1,11 @@
 -- Lists of devices.
-use Rattle.std.proofs.Common.{◌≡◌, ℕ, Bool, true, false, ◌&&◌, List, [], ◌∷◌, Option, Some, None, IsTrue, ◌↔◌, refl, sym, ap, subst, ◌∙◌}
-use Rattle.std.specs.List.{list_all, filter_map}
+use Rattle.std.proofs.Common.{◌≡◌, ℕ, true, ◌&&◌, List, [], ◌∷◌, Option, Some, None, IsTrue, ◌↔◌, refl, ap, subst, ◌∙◌}
+use Rattle.std.specs.List.{list_all}
 use Rattle.std.specs.Option.{is_none}
 use Rattle.net_model.specs.Name.{same_bytes}
 use Rattle.net_model.specs.Hardware.{device_of, hardware, same_device, same_devices}
 use Rattle.net_model.specs.declared.mac.Mac.{Mac}
 use Rattle.net_model.specs.declared.link.Link.{Link}
-use Rattle.net_model.specs.declared.link.Kind.{Kind}
-use Rattle.net_model.specs.declared.link.Kind.TheVariants.{Ethernet, Bond, Bridge, Vlan, Vrf}
 use Rattle.net_model.proofs.lemmas.Truth.{and_left, and_right}
 use Rattle.net_model.proofs.lemmas.Found.{one_name, itself}
 

@@ -1,19 +1,18 @@
 -- What the sorted lists are, where no part is broken.
-use Rattle.std.proofs.Common.{◌≡◌, Bool, true, false, not, ◌&&◌, ◌||◌, List, [], ◌∷◌, map, None, refl, sym, ap, ◌∙◌, IsPermutation}
+use Rattle.std.proofs.Common.{◌≡◌, Bool, true, false, not, ◌&&◌, ◌||◌, List, [], ◌∷◌, map, None, refl, sym, ap, ◌∙◌}
 use Rattle.std.specs.List.{list_any, list_all}
-use Rattle.std.specs.Cmp.{IsTotalOrder}
 use Rattle.net_model.specs.Words.{apart, rises, sorted}
 use Rattle.net_model.specs.Address.{Block}
 use Rattle.net_model.specs.Rule.{RuleParts}
 use Rattle.net_model.specs.Order.{block_cmp, link_cmp, route_cmp, rule_cmp}
 use Rattle.net_model.specs.OrderLaws.{block_cmp_total, rule_cmp_total}
 use Rattle.net_model.specs.Links.{same_name}
-use Rattle.net_model.specs.Valid.{HasAllParts, all_v4, same_address, same_block, addresses_differ, addresses_fit, route_stands, keys_differ, same_key, same_rule, least_broken}
-use Rattle.net_model.specs.NetData.{NetData, IsNet, IsInOrder, IsSorting, arranged, ordered}
+use Rattle.net_model.specs.Valid.{all_v4, same_address, same_block, addresses_differ, addresses_fit, route_stands, keys_differ, same_key, same_rule, least_broken}
+use Rattle.net_model.specs.NetData.{NetData, IsNet, IsSorting, arranged, ordered}
 use Rattle.net_model.specs.declared.link.Link.{Link}
 use Rattle.net_model.specs.declared.route.Route.{Route}
 use Rattle.net_model.specs.declared.dns.Dns.{Dns}
-use Rattle.net_model.proofs.lemmas.Truth.{and_left, and_right, not_true, not_false, or_left_false, or_right_false}
+use Rattle.net_model.proofs.lemmas.Truth.{and_left, and_right, not_true, or_left_false, or_right_false}
 use Rattle.net_model.proofs.lemmas.Orders.{link_cmp_total, route_cmp_total}
 use Rattle.net_model.proofs.lemmas.Rises.{Climbs, Climbs-sorted, apart-sorted}
 use Rattle.net_model.proofs.lemmas.Permute.{list_all-IsPermutation, apart-IsPermutation}

@@ -19,3 +19,7 @@ pub mod Changes
 pub mod Parts
 pub mod Puts
 pub mod Ranks
+pub mod Places
+pub mod Same
+pub mod SameLists
+pub mod InOrder

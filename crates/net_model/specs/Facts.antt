@@ -1,13 +1,14 @@
--- What is known of a valid network, by the names of its links.
-use Rattle.std.specs.Prelude.{◌≡◌, ℕ, ◌<◌, ◌≤◌, Bool, true, false, List, [], length, Option, Some, None, slice_index_or}
-use Rattle.net_model.specs.Address.{Block}
+-- What is known of a valid network, by the names of its links and by index.
+use Rattle.std.specs.Prelude.{◌≡◌, ℕ, ◌<◌, ◌≤◌, true, false, List, [], length, Some, None, find, slice_index_or}
+use Rattle.net_model.specs.Rule.{RuleParts}
+use Rattle.net_model.specs.Words.{rises}
+use Rattle.net_model.specs.Order.{block_cmp}
 use Rattle.net_model.specs.Links.{find_link, is_twin, can_be_base, takes, is_bond, is_bridge, is_bond_or_bridge, ports_of}
 use Rattle.net_model.specs.Standing.{on_cycle, ends}
-use Rattle.net_model.specs.Options.{default_bond, default_bridge, default_port, bond_ok, bridge_in_range, port_in_range, is_default_bond, is_default_bridge, is_default_port}
-use Rattle.net_model.specs.Valid.{HasAllParts, all_v4, addresses_differ, keys_differ, rules_differ, address_count, route_on_link}
+use Rattle.net_model.specs.Options.{bond_ok, bridge_in_range, port_in_range, is_default_bond, is_default_bridge, is_default_port}
+use Rattle.net_model.specs.Valid.{HasAllParts, all_v4, addresses_differ, same_key, same_rule, keys_differ, rules_differ, address_count, route_on_link}
 use Rattle.net_model.specs.NetData.{NetData}
 use Rattle.net_model.specs.declared.link.Link.{Link}
-use Rattle.net_model.specs.declared.link.Kind.{Kind}
 use Rattle.net_model.specs.declared.link.Kind.TheVariants.{Bond, Vlan}
 use Rattle.net_model.specs.declared.options.BondMode.{BondMode}
 use Rattle.net_model.specs.declared.options.Proto.{Proto}
@@ -20,6 +21,7 @@ pub record LinkFacts (links : List Link) (l : Link) : Type 0 where
   pub off_cycle : on_cycle links l ≡ false
   pub grounded : ends links (length links) l.kind ≡ true
   pub down_without_v6 : l.up ≡ false → all_v4 l.addrs ≡ true
+  pub addresses_rise : rises block_cmp l.addrs ≡ true
   pub address_once : addresses_differ l.addrs ≡ true
   pub few_addresses : length l.addrs ≤ 64
   pub bond_right : (mode : BondMode) → l.kind ≡ Bond mode → bond_ok mode l.bond (ports_of links l.name) ≡ true
@@ -60,6 +62,13 @@ pub record Facts (net : NetData) : Type 0 where
   pub controller : (name : List ℕ) (l : Link) (controller : List ℕ) → find_link name net.links ≡ Some l → l.controller ≡ Some controller → ControllerFacts net.links l controller
   pub twins : (m n : List ℕ) (a b : Link) → find_link m net.links ≡ Some a → find_link n net.links ≡ Some b → is_twin a.kind b.kind ≡ true → m ≡ n
   pub route : (i : ℕ) (d : Route) → i < length net.routes → RouteFacts net.links (slice_index_or net.routes i d)
+  pub link_at : (i : ℕ) (d : Link) → i < length net.links → find_link (slice_index_or net.links i d).name net.links ≡ Some (slice_index_or net.links i d)
+  pub route_at : (i : ℕ) (d : Route) → i < length net.routes → find (same_key (slice_index_or net.routes i d)) net.routes ≡ Some (slice_index_or net.routes i d)
+  pub one_route : (i j : ℕ) (d : Route) → i < length net.routes → j < length net.routes → same_key (slice_index_or net.routes i d) (slice_index_or net.routes j d) ≡ true → i ≡ j
+  pub rule_at : (i : ℕ) (d : RuleParts) → i < length net.rules → find (same_rule (slice_index_or net.rules i d)) net.rules ≡ Some (slice_index_or net.rules i d)
+  pub one_rule : (i j : ℕ) (d : RuleParts) → i < length net.rules → j < length net.rules → same_rule (slice_index_or net.rules i d) (slice_index_or net.rules j d) ≡ true → i ≡ j
+  pub keys : keys_differ net.routes ≡ true
+  pub rules : rules_differ net.rules ≡ true
   pub few_links : length net.links ≤ 512
   pub few_addresses : address_count net.links ≤ 4096
   pub few_routes : length net.routes ≤ 4096

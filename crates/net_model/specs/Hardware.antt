@@ -6,7 +6,7 @@ use Rattle.net_model.specs.Name.{same_bytes}
 use Rattle.net_model.specs.declared.mac.Mac.{Mac}
 use Rattle.net_model.specs.declared.link.Link.{Link}
 use Rattle.net_model.specs.declared.link.Kind.{Kind}
-use Rattle.net_model.specs.declared.link.Kind.TheVariants.{Ethernet, Bond, Bridge, Vlan, Vrf}
+use Rattle.net_model.specs.declared.link.Kind.TheVariants.{Ethernet}
 
 -- an Ethernet link's name and permanent MAC
 abbrev pub device_of : List ℕ → Kind → Option (List ℕ × Mac)

@@ -15,3 +15,5 @@ pub mod Valid
 pub mod NetData
 pub mod Hardware
 pub mod Facts
+pub mod Places
+pub mod SameLists

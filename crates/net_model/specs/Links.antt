@@ -1,5 +1,5 @@
 -- Lists of links, and what is looked for in them.
-use Rattle.std.specs.Prelude.{ℕ, Bool, true, false, not, ◌&&◌, ◌||◌, ◌==◌, List, [], ◌∷◌, map, filter, Option, Some, None, find}
+use Rattle.std.specs.Prelude.{ℕ, Bool, true, false, ◌&&◌, ◌||◌, ◌==◌, List, map, filter, Option, find}
 use Rattle.std.specs.List.{list_any}
 use Rattle.std.specs.Option.{option_map_or}
 use Rattle.net_model.specs.Name.{same_bytes}
@@ -71,6 +71,10 @@ is_bond _ = false
 abbrev pub is_bridge : Kind → Bool
 is_bridge Bridge = true
 is_bridge _ = false
+
+abbrev pub is_ethernet : Kind → Bool
+is_ethernet (Ethernet permanent) = true
+is_ethernet _ = false
 
 abbrev pub is_bond_or_bridge : Kind → Bool
 is_bond_or_bridge kind = is_bond kind || is_bridge kind

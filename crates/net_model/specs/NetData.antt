@@ -1,5 +1,5 @@
 -- A network: valid, with its lists in order.
-use Rattle.std.specs.Prelude.{◌≡◌, ℕ, Bool, true, List, map, Option, Some, None, Result, Ok, Err, IsPermutation, IsSorted}
+use Rattle.std.specs.Prelude.{◌≡◌, Bool, true, ◌&&◌, map, Some, None, is_none, Result, Ok, Err, IsPermutation, IsSorted}
 use Rattle.std.specs.List.{list_all}
 use Rattle.net_model.specs.Words.{rises, sorted}
 use Rattle.net_model.specs.Order.{block_cmp, link_cmp, route_cmp, rule_cmp}
@@ -15,6 +15,13 @@ pub record IsInOrder (net : NetData) : Type 0 where
   pub addrs : list_all (λ l. rises block_cmp l.addrs) net.links ≡ true
   pub routes : rises route_cmp net.routes ≡ true
   pub rules : rises rule_cmp net.rules ≡ true
+
+abbrev pub is_in_order : NetData → Bool
+is_in_order net = rises link_cmp net.links && list_all (λ l. rises block_cmp l.addrs) net.links && rises route_cmp net.routes && rises rule_cmp net.rules
+
+-- valid, with its lists in order
+abbrev pub is_net : NetData → Bool
+is_net net = is_none (least_broken net) && is_in_order net
 
 pub record IsNet (net : NetData) : Type 0 where
   pub valid : least_broken net ≡ None

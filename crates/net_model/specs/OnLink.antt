@@ -1,5 +1,5 @@
 -- Which gateways are on-link.
-use Rattle.std.specs.Prelude.{ℕ, Bool, ◌&&◌, ◌||◌, ◌==◌, ◌/◌, ◌^◌, List}
+use Rattle.std.specs.Prelude.{Bool, ◌&&◌, ◌||◌, ◌==◌, ◌/◌, ◌^◌, List}
 use Rattle.std.specs.List.{list_any}
 use Rattle.net_model.specs.Words.{bool_eq}
 use Rattle.net_model.specs.Address.{Address, Block, block_size}

@@ -1,20 +1,20 @@
 -- Options of bonds, bridges and ports: defaults, and what they may be.
-use Rattle.std.specs.Prelude.{ℕ, Bool, true, false, not, ◌&&◌, ◌||◌, ◌==◌, ◌%◌, nat_le, List, Option, Some, None, is_none}
+use Rattle.std.specs.Prelude.{ℕ, Bool, true, false, not, ◌&&◌, ◌||◌, ◌==◌, ◌%◌, nat_le, List, Option, None, is_none}
 use Rattle.std.specs.Option.{option_map_or}
 use Rattle.net_model.specs.Words.{is_among}
 use Rattle.net_model.specs.Links.{ports_of}
 use Rattle.net_model.specs.declared.link.Link.{Link}
 use Rattle.net_model.specs.declared.link.Kind.{Kind}
-use Rattle.net_model.specs.declared.link.Kind.TheVariants.{Ethernet, Bond, Bridge, Vlan, Vrf}
+use Rattle.net_model.specs.declared.link.Kind.TheVariants.{Bond}
 use Rattle.net_model.specs.declared.options.BondMode.{BondMode}
-use Rattle.net_model.specs.declared.options.BondMode.TheVariants.{BalanceRr, ActiveBackup, BalanceXor, Broadcast, Ieee8023ad, BalanceTlb, BalanceAlb}
+use Rattle.net_model.specs.declared.options.BondMode.TheVariants.{ActiveBackup, Ieee8023ad, BalanceTlb, BalanceAlb}
 use Rattle.net_model.specs.declared.options.BondOpts.{BondOpts}
 use Rattle.net_model.specs.declared.options.BridgeOpts.{BridgeOpts}
 use Rattle.net_model.specs.declared.options.PortOpts.{PortOpts}
 use Rattle.net_model.specs.declared.options.LacpRate.{LacpRate}
 use Rattle.net_model.specs.declared.options.LacpRate.TheVariants.{Slow, Fast}
 use Rattle.net_model.specs.declared.options.HashPolicy.{HashPolicy}
-use Rattle.net_model.specs.declared.options.HashPolicy.TheVariants.{Layer2, Layer23, Layer34, Encap23, Encap34, VlanSrcmac}
+use Rattle.net_model.specs.declared.options.HashPolicy.TheVariants.{Layer2}
 
 abbrev pub default_bond : BondOpts
 default_bond = record { primary = None; lacp_rate = Slow; hash_policy = Layer2; miimon = 0; updelay = 0; downdelay = 0 }

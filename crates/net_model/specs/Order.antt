@@ -1,5 +1,5 @@
 -- The orders of what a network consists of.
-use Rattle.std.specs.Prelude.{ℕ, Bool, List, Option}
+use Rattle.std.specs.Prelude.{ℕ, List}
 use Rattle.std.specs.declared.cmp.Ordering.{Ordering}
 use Rattle.std.specs.Ordering.{nat_cmp, bool_cmp, then_cmp, on}
 use Rattle.std.specs.Option.{option_cmp}

@@ -4,10 +4,8 @@ use Rattle.std.specs.Ordering.{as_partial_cmp, eq_by_cmp}
 use Rattle.std.specs.Cmp.{IsTotalOrder, IsPartialOrder, IsPartialEquivalence, IsEquivalence, Agrees, partial_order_from_agreeing_total}
 use Rattle.std.specs.Cmp.Rules.{comparing}
 use Rattle.std.proofs.Common.{rules}
-use Rattle.net_model.specs.Address.{Address, Block}
 use Rattle.net_model.specs.Rule.{RuleParts}
-use Rattle.net_model.specs.Order.{address_cmp, block_cmp, link_cmp, route_cmp, target_cmp, rule_cmp}
-use Rattle.net_model.specs.declared.rule.Target.{Target}
+use Rattle.net_model.specs.Order.{block_cmp, target_cmp, rule_cmp}
 
 pub block_cmp_total : IsTotalOrder block_cmp
 block_cmp_total = search (comparing, rules)

@@ -1,5 +1,5 @@
 -- Which link stands on which.
-use Rattle.std.specs.Prelude.{ℕ, Bool, true, false, not, ◌||◌, List, [], ◌∷◌, length, Option, Some, None, zero, suc}
+use Rattle.std.specs.Prelude.{ℕ, Bool, true, false, not, ◌||◌, List, [], ◌∷◌, length, zero, suc}
 use Rattle.std.specs.List.{list_all}
 use Rattle.std.specs.Option.{option_map_or}
 use Rattle.reach.specs.Reach.{is_reached}
@@ -7,7 +7,7 @@ use Rattle.net_model.specs.Name.{same_bytes}
 use Rattle.net_model.specs.Links.{is_named, find_link, is_port_of}
 use Rattle.net_model.specs.declared.link.Link.{Link}
 use Rattle.net_model.specs.declared.link.Kind.{Kind}
-use Rattle.net_model.specs.declared.link.Kind.TheVariants.{Ethernet, Bond, Bridge, Vlan, Vrf}
+use Rattle.net_model.specs.declared.link.Kind.TheVariants.{Vlan}
 
 -- the kind is a VLAN over the named link
 abbrev pub has_base : Kind → List ℕ → Bool

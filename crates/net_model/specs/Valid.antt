@@ -1,6 +1,6 @@
 -- The twelve parts of validity. The kernel is a simulated one, and what is valid is this project's own.
-use Rattle.std.specs.Prelude.{◌≡◌, ℕ, Bool, true, false, not, ◌&&◌, ◌||◌, ◌==◌, nat_le, List, [], ◌∷◌, length, Option, Some, None}
-use Rattle.std.specs.List.{list_any, list_all, sum_by}
+use Rattle.std.specs.Prelude.{◌≡◌, ℕ, Bool, true, false, not, ◌&&◌, ◌||◌, ◌==◌, nat_le, List, [], ◌∷◌, length, Option}
+use Rattle.std.specs.List.{list_all, sum_by}
 use Rattle.std.specs.Option.{option_eq, option_map_or}
 use Rattle.net_model.specs.Words.{apart, bool_eq, is_empty, first_false}
 use Rattle.net_model.specs.Name.{same_bytes}

@@ -13,7 +13,9 @@ mod mac;
 mod name;
 mod net;
 mod options;
+mod order;
 mod parts;
+mod place;
 mod route;
 mod rule;
 #[cfg(test)]
@@ -32,14 +34,19 @@ pub use dns::Dns;
 pub use domain::Domain;
 pub use id::{TableId, VlanId};
 pub use link::{Kind, Link};
+pub use lookup::{can_be_base, is_bond, is_bridge, is_ethernet, takes};
 pub use mac::Mac;
 pub use name::Name;
 pub use net::{Net, NetFault};
 pub use options::{BondMode, BondOpts, BridgeOpts, HashPolicy, LacpRate, PortOpts, Proto};
 pub use parts::Parts;
+pub use place::{Place, address_place, link_place, route_place, rule_place};
 pub use route::Route;
 pub use rule::{Rule, Target};
 pub use valid_limits::{
     MAX_ADDRESSES, MAX_LINK_ADDRESSES, MAX_LINKS, MAX_ROUTES, MAX_RULES, MAX_SEARCH, MAX_SERVERS,
+    is_default_bond, is_default_bridge, is_default_port,
 };
-pub use valid_options::bond_ok;
+pub use valid_links::mtu_in_range;
+pub use valid_options::{bond_ok, bridge_in_range, port_in_range};
+pub use valid_routes::{is_on_link, route_on_link};

@@ -1,13 +1,13 @@
-//! Finding links by name, in lists that rise by name.
+//! Finding links by name in lists that are sorted by name, and what kinds of links go together.
 ghost use Rattle.std.specs.Prelude.{◌≡◌, true, option_copied};
 ghost use Rattle.net_model.specs.Words.{rises};
 ghost use Rattle.net_model.specs.Order.{link_cmp};
-ghost use Rattle.net_model.specs.Links.{find_link, can_be_base, takes, is_bond, is_bridge, is_port_of};
+ghost use Rattle.net_model.specs.Links.{find_link, can_be_base, takes, is_bond, is_bridge, is_ethernet, is_port_of};
 
 use crate::link::{Kind, Link};
 use crate::name::Name;
 
-/// The link of this name, by halving.
+// The link of a name, by binary search.
 pub(crate) fn find_link<'a>(links: &'a [Link], name: &Name) -> Option<&'a Link>
     requires { rises link_cmp links.now ≡ true }
     ensures { option_copied result ≡ find_link name.now links.now }
@@ -18,7 +18,8 @@ pub(crate) fn find_link<'a>(links: &'a [Link], name: &Name) -> Option<&'a Link>
     }
 }
 
-pub(crate) fn can_be_base(kind: &Kind) -> bool
+/// Whether a VLAN may have a link of this kind as base: an Ethernet link, a bond, a bridge or a VLAN.
+pub fn can_be_base(kind: &Kind) -> bool
     ensures { result ≡ can_be_base kind.now }
 {
     match kind {
@@ -27,20 +28,27 @@ pub(crate) fn can_be_base(kind: &Kind) -> bool
     }
 }
 
-pub(crate) fn is_bond(kind: &Kind) -> bool
+pub fn is_bond(kind: &Kind) -> bool
     ensures { result ≡ is_bond kind.now }
 {
     matches!(kind, Kind::Bond { .. })
 }
 
-pub(crate) fn is_bridge(kind: &Kind) -> bool
+pub fn is_bridge(kind: &Kind) -> bool
     ensures { result ≡ is_bridge kind.now }
 {
     matches!(kind, Kind::Bridge)
 }
 
-/// Whether a controller of the first kind takes a port of the second.
-pub(crate) fn takes(controller: &Kind, port: &Kind) -> bool
+pub fn is_ethernet(kind: &Kind) -> bool
+    ensures { result ≡ is_ethernet kind.now }
+{
+    matches!(kind, Kind::Ethernet { .. })
+}
+
+/// Whether a controller of the first kind may have a port of the second: a bond Ethernet links; a bridge Ethernet
+/// links, bonds and VLANs; a VRF all but VRFs.
+pub fn takes(controller: &Kind, port: &Kind) -> bool
     ensures { result ≡ takes controller.now port.now }
 {
     match controller {
@@ -54,7 +62,7 @@ pub(crate) fn takes(controller: &Kind, port: &Kind) -> bool
     }
 }
 
-/// Whether the link is a port of this controller.
+// Whether the link is a port of this controller.
 pub(crate) fn is_port_of(link: &Link, controller: &Name) -> bool
     ensures { result ≡ is_port_of controller.now link.now }
 {

@@ -1,10 +1,15 @@
 //! A network.
-ghost use Rattle.std.specs.Prelude.{◌≡◌, ◌↔◌, [], None, IfOk, IsTrue, option_copied};
+ghost use Rattle.std.specs.Prelude.{◌≡◌, ◌↔◌, [], Some, None, if◌then◌else◌, is_some, IfOk, IsTrue, option_copied};
+ghost use Rattle.net_model.specs.Address.{Address, Block};
 ghost use Rattle.net_model.specs.Facts.{Facts};
 ghost use Rattle.net_model.specs.Hardware.{hardware};
 ghost use Rattle.net_model.specs.Links.{find_link};
-ghost use Rattle.net_model.specs.NetData.{NetData, IsNet, IsRearranged, net_of, no_dns, ordered, Makes};
-ghost use Rattle.net_model.specs.Valid.{least_broken};
+ghost use Rattle.net_model.specs.NetData.{NetData, IsNet, IsRearranged, net_of, no_dns, ordered, is_net, Makes};
+ghost use Rattle.net_model.specs.Order.{route_cmp, rule_cmp};
+ghost use Rattle.net_model.specs.Places.{LinkPlace, Located};
+ghost use Rattle.net_model.specs.Rule.{RuleParts};
+ghost use Rattle.net_model.specs.SameLists.{SameLinks, SameAddresses, SameRoutes, SameRules};
+ghost use Rattle.net_model.specs.Valid.{least_broken, same_address, same_block, same_key, same_rule};
 
 use crate::dns::Dns;
 use crate::hardware::same_devices;
@@ -12,6 +17,7 @@ use crate::link::Link;
 use crate::lookup::find_link;
 use crate::name::Name;
 use crate::parts::{Parts, sorted_parts};
+use crate::place::Place;
 use crate::route::Route;
 use crate::rule::Rule;
 use crate::valid::least_broken;
@@ -71,6 +77,20 @@ impl Net {
         match least_broken(alloc, &parts)? {
             Some(part) => Err(NetFault::Broken(part)),
             None => Ok(Net { parts }),
+        }
+    }
+
+    /// The network of lists that are in order already, as stored ones are, or `None` exactly where they break a part of
+    /// validity or a list isn't in order. It sorts nothing.
+    pub fn of_parts(alloc: Global, parts: Parts) -> Result<Option<Net>, OutOfMemory>
+        ensures { IfOk result (λ net. net ≡ (if is_net parts then Some parts else None)) }
+    {
+        if !parts.is_in_order() {
+            return Ok(None);
+        }
+        match least_broken(alloc, &parts)? {
+            Some(_) => Ok(None),
+            None => Ok(Some(Net { parts })),
         }
     }
 
@@ -163,6 +183,34 @@ impl Net {
         find_link(&self.parts.links, name)
     }
 
+    /// Whether a link has the name.
+    pub fn has_link(&self, name: &Name) -> bool
+        ensures { result ≡ is_some (find_link name.now self.now.links) }
+    {
+        self.link(name).is_some()
+    }
+
+    /// The place of the link of a name among the links.
+    pub fn link_place(&self, name: &Name) -> Place
+        ensures { LinkPlace result name.now self.now.links }
+    {
+        self.parts.link_place(name)
+    }
+
+    /// The place among the routes of the one with this one's destination, table and metric.
+    pub fn route_place(&self, route: &Route) -> Place
+        ensures { Located same_key route_cmp result route.now self.now.routes }
+    {
+        self.parts.route_place(route)
+    }
+
+    /// The place of a rule among the rules.
+    pub fn rule_place(&self, rule: &Rule) -> Place
+        ensures { Located same_rule rule_cmp result rule.now self.now.rules }
+    {
+        self.parts.rule_place(rule)
+    }
+
     /// Whether both have the same Ethernet links, by name, with the same permanent MACs.
     #[tactic(auto, using(crate::proofs::Devices::same_devices_exact))]
     pub fn same_hardware(&self, other: &Net) -> bool
@@ -171,7 +219,8 @@ impl Net {
         same_devices(self.links(), other.links())
     }
 
-    /// What is known of every network: its parts by their names, so that callers can rest on them. It does nothing.
+    /// What is known of every network, by the names of its links and by index. It supplies laws, and has no effect at run
+    /// time.
     pub fn laws(&self)
         ensures net { IsNet self.now }
         ensures facts { Facts self.now }
@@ -179,10 +228,28 @@ impl Net {
         let _ = &self.parts;
     }
 
-    /// What putting in order means for every network: the order in which valid lists are given makes no difference, and
-    /// the lists of a network are in order already. It does nothing.
+    /// What putting in order means for every network: the order in which valid lists are given makes no difference, also
+    /// not for the part of validity that they break; the lists of a network are in order already; and which lists are a
+    /// network. It supplies laws, and has no effect at run time.
     pub fn order_laws()
         ensures any_order { (a b : NetData) → IsRearranged a b → least_broken a ≡ None → ordered a ≡ ordered b }
         ensures in_order { (net : NetData) → IsNet net → ordered net ≡ net }
+        ensures rearranged { (a b : NetData) → IsRearranged a b → least_broken a ≡ least_broken b }
+        ensures tested { (net : NetData) → IsTrue (is_net net) ↔ IsNet net }
+    {}
+
+    /// Lists in order in which the same is found are equal. It supplies laws, and has no effect at run time.
+    pub fn list_laws()
+        ensures links { SameLinks }
+        ensures addresses { SameAddresses }
+        ensures routes { SameRoutes }
+        ensures rules { SameRules }
+    {}
+
+    /// The tests of sameness are equality. It supplies laws, and has no effect at run time.
+    pub fn equality_laws()
+        ensures addresses { (a b : Address) → IsTrue (same_address a b) ↔ (a ≡ b) }
+        ensures blocks { (a b : Block) → IsTrue (same_block a b) ↔ (a ≡ b) }
+        ensures rules { (a b : RuleParts) → IsTrue (same_rule a b) ↔ (a ≡ b) }
     {}
 }

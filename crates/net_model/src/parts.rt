@@ -1,12 +1,17 @@
 //! The lists of a network that is taken apart, or not yet closed.
-ghost use Rattle.std.specs.Prelude.{◌≡◌, IfOk, OnOk, map, IsPermutation, IsSorted};
-ghost use Rattle.net_model.specs.Words.{sorted};
+ghost use Rattle.std.specs.Prelude.{◌≡◌, true, IfOk, OnOk, map, IsPermutation, IsSorted};
+ghost use Rattle.net_model.specs.Words.{rises, sorted};
 ghost use Rattle.net_model.specs.Order.{block_cmp, link_cmp, route_cmp, rule_cmp};
-ghost use Rattle.net_model.specs.NetData.{net_of, arranged, IsSorting};
+ghost use Rattle.net_model.specs.NetData.{net_of, arranged, is_in_order, IsSorting};
+ghost use Rattle.net_model.specs.Places.{LinkPlace, Located};
+ghost use Rattle.net_model.specs.Valid.{same_key, same_rule};
 
 use crate::address::Prefix;
 use crate::dns::Dns;
 use crate::link::Link;
+use crate::name::Name;
+use crate::order::{each_in_order, links_in_order, routes_in_order, rules_in_order};
+use crate::place::{Place, link_place, route_place, rule_place};
 use crate::route::Route;
 use crate::rule::Rule;
 use base_model::{Items, OutOfMemory};
@@ -31,6 +36,41 @@ impl Model for Parts {
 }
 
 impl Parts {
+    /// Whether the lists are in order, as those of a network are: links by name, addresses, routes by destination, table
+    /// and metric, and rules by all their fields.
+    pub fn is_in_order(&self) -> bool
+        ensures { result ≡ is_in_order self.now }
+    {
+        links_in_order(&self.links)
+            && each_in_order(&self.links)
+            && routes_in_order(&self.routes)
+            && rules_in_order(&self.rules)
+    }
+
+    /// The place of the link of a name.
+    pub fn link_place(&self, name: &Name) -> Place
+        requires { rises link_cmp self.now.links ≡ true }
+        ensures { LinkPlace result name.now self.now.links }
+    {
+        link_place(&self.links, name)
+    }
+
+    /// The place of the route with this one's destination, table and metric.
+    pub fn route_place(&self, route: &Route) -> Place
+        requires { rises route_cmp self.now.routes ≡ true }
+        ensures { Located same_key route_cmp result route.now self.now.routes }
+    {
+        route_place(&self.routes, route)
+    }
+
+    /// The place of a rule.
+    pub fn rule_place(&self, rule: &Rule) -> Place
+        requires { rises rule_cmp self.now.rules ≡ true }
+        ensures { Located same_rule rule_cmp result rule.now self.now.rules }
+    {
+        rule_place(&self.rules, rule)
+    }
+
     pub(crate) fn copy(&self) -> Result<Parts, OutOfMemory>
         ensures { IfOk result (λ parts. parts ≡ self.now) }
     {
@@ -144,7 +184,7 @@ fn sort_rules(rules: &mut Vec<Rule>) -> Result<(), AllocError>
     rules.sort()
 }
 
-/// The lists, each sorted, but for those of DNS.
+// The lists, each sorted, but for those of DNS.
 pub(crate) fn sorted_parts(
     alloc: Global,
     links: Vec<Link>,

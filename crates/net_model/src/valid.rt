@@ -10,7 +10,8 @@ use crate::valid_limits::{
     MAX_ROUTES, MAX_RULES, MAX_SEARCH, MAX_SERVERS, links_fit, unused_default,
 };
 use crate::valid_links::{
-    addresses_fit, bases_stand, bases_up, controllers_take, mtus_fit, names_differ, ports_without_addresses,
+    addresses_fit, bases_stand, bases_up, controllers_take, mtus_fit, names_differ,
+    ports_without_addresses,
 };
 use crate::valid_options::options_fit;
 use crate::valid_routes::{routes_stand, rules_differ};

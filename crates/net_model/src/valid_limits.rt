@@ -1,10 +1,10 @@
 //! The part of validity that looks at counts and at fields that aren't used.
-ghost use Rattle.std.specs.Prelude.{◌≡◌, ◌&&◌, ◌||◌, nat_le, true, length};
+ghost use Rattle.std.specs.Prelude.{◌≡◌, ◌↔◌, ◌&&◌, ◌||◌, nat_le, true, length, IsTrue};
 ghost use Rattle.std.specs.List.{list_all};
 ghost use Rattle.net_model.specs.Words.{rises};
 ghost use Rattle.net_model.specs.Order.{link_cmp};
 ghost use Rattle.net_model.specs.Links.{named_passes, is_bond, is_bridge};
-ghost use Rattle.net_model.specs.Options.{is_layer2, is_default_bond, is_default_bridge, is_default_port};
+ghost use Rattle.net_model.specs.Options.{default_bond, default_bridge, default_port, is_layer2, is_default_bond, is_default_bridge, is_default_port};
 ghost use Rattle.net_model.specs.Valid.{address_count, links_fit, is_bridge_port, unused_default};
 
 use crate::link::Link;
@@ -53,7 +53,7 @@ fn each_within(links: &[Link]) -> bool
         .all(|link| link.addrs.items().len() <= MAX_LINK_ADDRESSES)
 }
 
-/// Whether there are few enough links and addresses.
+// Whether there are few enough links and addresses.
 pub(crate) fn links_fit(links: &[Link]) -> bool
     ensures { result ≡ links_fit links.now }
 {
@@ -66,8 +66,11 @@ fn is_layer2(policy: HashPolicy) -> bool
     matches!(policy, HashPolicy::Layer2)
 }
 
-fn is_default_bond(opts: &BondOpts) -> bool
-    ensures { result ≡ is_default_bond opts.now }
+/// Whether these are the options of a new bond.
+#[tactic(auto, using(crate::proofs::lemmas::Same::default_bond_exact))]
+pub fn is_default_bond(opts: &BondOpts) -> bool
+    ensures test { result ≡ is_default_bond opts.now }
+    ensures exact { IsTrue result ↔ (opts.now ≡ default_bond) }
 {
     opts.primary.is_none()
         && !is_fast(opts.lacp_rate)
@@ -77,8 +80,11 @@ fn is_default_bond(opts: &BondOpts) -> bool
         && opts.downdelay == 0
 }
 
-fn is_default_bridge(opts: &BridgeOpts) -> bool
-    ensures { result ≡ is_default_bridge opts.now }
+/// Whether these are the options of a new bridge.
+#[tactic(auto, using(crate::proofs::lemmas::Same::default_bridge_exact))]
+pub fn is_default_bridge(opts: &BridgeOpts) -> bool
+    ensures test { result ≡ is_default_bridge opts.now }
+    ensures exact { IsTrue result ↔ (opts.now ≡ default_bridge) }
 {
     !opts.stp
         && opts.priority == 32768
@@ -88,8 +94,11 @@ fn is_default_bridge(opts: &BridgeOpts) -> bool
         && opts.mac_ageing == 300
 }
 
-fn is_default_port(opts: &PortOpts) -> bool
-    ensures { result ≡ is_default_port opts.now }
+/// Whether these are the options of a new port.
+#[tactic(auto, using(crate::proofs::lemmas::Same::default_port_exact))]
+pub fn is_default_port(opts: &PortOpts) -> bool
+    ensures test { result ≡ is_default_port opts.now }
+    ensures exact { IsTrue result ↔ (opts.now ≡ default_port) }
 {
     opts.cost == 100 && opts.priority == 32 && !opts.hairpin
 }
@@ -121,7 +130,7 @@ fn has_unused_defaults(links: &[Link], link: &Link) -> bool
         && (is_bridge_port(links, link) || is_default_port(&link.port))
 }
 
-/// Whether fields that the kind or the controller doesn't use have their defaults.
+// Whether fields that the kind or the controller doesn't use have their defaults.
 pub(crate) fn unused_default(links: &[Link]) -> bool
     requires { rises link_cmp links.now ≡ true }
     ensures { result ≡ unused_default links.now }

@@ -20,7 +20,7 @@ fn is_before_head(link: &Link, rest: &[Link]) -> bool
     }
 }
 
-fn names_step_up(links: &[Link]) -> bool
+pub(crate) fn names_step_up(links: &[Link]) -> bool
     ensures { result ≡ steps_up link_cmp links.now }
 {
     let mut left = links;
@@ -33,7 +33,7 @@ fn names_step_up(links: &[Link]) -> bool
     true
 }
 
-/// Part 1, on links that are sorted by name: whether names differ. Where they do, the list rises.
+// Part 1, on links that are sorted by name: whether names differ. Where they do, the list rises.
 pub(crate) fn names_differ(links: &[Link]) -> bool
     requires { IsSorted link_cmp links.now }
     ensures differ { result ≡ names_differ links.now }
@@ -92,7 +92,7 @@ fn vlans_differ(links: &[Link]) -> bool
     true
 }
 
-/// Part 2: whether each base is there and can be one, and VLANs differ.
+// Part 2: whether each base is there and can be one, and VLANs differ.
 pub(crate) fn bases_stand(links: &[Link]) -> bool
     requires { rises link_cmp links.now ≡ true }
     ensures { result ≡ bases_stand links.now }
@@ -118,7 +118,7 @@ fn controller_takes(links: &[Link], link: &Link) -> bool
     }
 }
 
-/// Part 3: whether each controller is there and takes its port's kind.
+// Part 3: whether each controller is there and takes its port's kind.
 pub(crate) fn controllers_take(links: &[Link]) -> bool
     requires { rises link_cmp links.now ≡ true }
     ensures { result ≡ controllers_take links.now }
@@ -144,7 +144,7 @@ fn base_is_up(links: &[Link], kind: &Kind) -> bool
     }
 }
 
-/// Part 5: whether each VLAN that is up has a base that is up.
+// Part 5: whether each VLAN that is up has a base that is up.
 pub(crate) fn bases_up(links: &[Link]) -> bool
     requires { rises link_cmp links.now ≡ true }
     ensures { result ≡ bases_up links.now }
@@ -172,13 +172,14 @@ fn base_allows(links: &[Link], kind: &Kind, mtu: u32) -> bool
     }
 }
 
-fn mtu_in_range(mtu: u32) -> bool
+/// Whether an MTU in bytes is from 68 to 65535.
+pub fn mtu_in_range(mtu: u32) -> bool
     ensures { result ≡ mtu_in_range mtu }
 {
     mtu >= 68 && mtu <= 65535
 }
 
-/// Part 6: whether each MTU is in range and at most the base's.
+// Part 6: whether each MTU is in range and at most the base's.
 pub(crate) fn mtus_fit(links: &[Link]) -> bool
     requires { rises link_cmp links.now ≡ true }
     ensures { result ≡ mtus_fit links.now }
@@ -216,14 +217,12 @@ fn is_bare(link: &Link) -> bool
     link.addrs.items().is_empty()
 }
 
-/// Part 7: whether no port of a bond or bridge has an address.
+// Part 7: whether no port of a bond or bridge has an address.
 pub(crate) fn ports_without_addresses(links: &[Link]) -> bool
     requires { rises link_cmp links.now ≡ true }
     ensures { result ≡ ports_without_addresses links.now }
 {
-    links
-        .iter()
-        .all(|link| !is_bond_or_bridge_port(links, link) || is_bare(link))
+    links.iter().all(|link| !is_bond_or_bridge_port(links, link) || is_bare(link))
 }
 
 fn all_v4(addrs: &[Prefix]) -> bool
@@ -258,7 +257,7 @@ fn has_fit_addresses(link: &Link) -> bool
     (link.up || all_v4(addrs)) && addresses_differ(addrs)
 }
 
-/// Part 8: whether IPv6 addresses stand only on links that are up, and no address stands twice on a link.
+// Part 8: whether IPv6 addresses stand only on links that are up, and no address stands twice on a link.
 pub(crate) fn addresses_fit(links: &[Link]) -> bool
     ensures { result ≡ addresses_fit links.now }
 {

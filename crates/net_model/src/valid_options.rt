@@ -109,8 +109,9 @@ fn bond_fits(links: &[Link], link: &Link) -> bool
     }
 }
 
-/// Whether the times of a bridge are in range.
-pub(crate) fn bridge_in_range(opts: &BridgeOpts) -> bool
+/// Whether the times of a bridge are in range: a forward delay of 2 to 30 seconds, a hello time of 1 to 10 and a maximum
+/// age of 6 to 40.
+pub fn bridge_in_range(opts: &BridgeOpts) -> bool
     ensures { result ≡ bridge_in_range opts.now }
 {
     let forward = opts.forward_delay;
@@ -119,14 +120,14 @@ pub(crate) fn bridge_in_range(opts: &BridgeOpts) -> bool
     forward >= 2 && forward <= 30 && hello >= 1 && hello <= 10 && age >= 6 && age <= 40
 }
 
-/// Whether the cost and the priority of a port are in range.
-pub(crate) fn port_in_range(opts: &PortOpts) -> bool
+/// Whether the cost of a port is at least 1 and its priority at most 63.
+pub fn port_in_range(opts: &PortOpts) -> bool
     ensures { result ≡ port_in_range opts.now }
 {
     opts.cost >= 1 && opts.priority <= 63
 }
 
-/// Part 11: whether bond options are right for the mode and the ports, and bridge and port options in range.
+// Part 11: whether bond options are right for the mode and the ports, and bridge and port options in range.
 pub(crate) fn options_fit(links: &[Link]) -> bool
     requires { rises link_cmp links.now ≡ true }
     ensures { result ≡ options_fit links.now }

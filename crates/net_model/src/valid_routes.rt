@@ -20,14 +20,15 @@ fn one_holds(addrs: &[Prefix], gateway: Addr) -> bool
     addrs.iter().any(|prefix| prefix.holds(gateway))
 }
 
-/// Whether a gateway to a destination of this family is on-link where these addresses stand.
-pub(crate) fn is_on_link(addrs: &[Prefix], v6: bool, gateway: Addr) -> bool
+/// Whether a gateway to a destination of this family is on-link at a link with these addresses.
+pub fn is_on_link(addrs: &[Prefix], v6: bool, gateway: Addr) -> bool
     ensures { result ≡ is_on_link addrs.now v6 gateway }
 {
     gateway.is_v6() == v6 && (gateway.is_link_local() || one_holds(addrs, gateway))
 }
 
-fn route_on_link(link: &Link, route: &Route) -> bool
+/// Whether a route over this link has no gateway, or one that is on-link there.
+pub fn route_on_link(link: &Link, route: &Route) -> bool
     ensures { result ≡ route_on_link link.now route.now }
 {
     match route.gateway {
@@ -51,7 +52,7 @@ fn each_route_stands(links: &[Link], routes: &[Route]) -> bool
     routes.iter().all(|route| route_stands(links, route))
 }
 
-/// How routes are ordered: by destination, table and metric.
+// How routes are ordered: by destination, table and metric.
 pub(crate) fn order_routes(a: &Route, b: &Route) -> Ordering
     ensures { result ≡ route_cmp a.now b.now }
 {
@@ -70,7 +71,7 @@ fn is_route_before(route: &Route, rest: &[Route]) -> bool
     }
 }
 
-fn routes_step_up(routes: &[Route]) -> bool
+pub(crate) fn routes_step_up(routes: &[Route]) -> bool
     ensures { result ≡ steps_up route_cmp routes.now }
 {
     let mut left = routes;
@@ -90,7 +91,7 @@ fn keys_differ(routes: &[Route]) -> bool
     routes_step_up(routes)
 }
 
-/// Part 9, on sorted routes: whether each device is up and each gateway on-link, and keys differ.
+// Part 9, on sorted routes: whether each device is up and each gateway on-link, and keys differ.
 pub(crate) fn routes_stand(links: &[Link], routes: &[Route]) -> bool
     requires links { rises link_cmp links.now ≡ true }
     requires routes { IsSorted route_cmp routes.now }
@@ -108,7 +109,7 @@ fn is_rule_before(rule: &Rule, rest: &[Rule]) -> bool
     }
 }
 
-fn rules_step_up(rules: &[Rule]) -> bool
+pub(crate) fn rules_step_up(rules: &[Rule]) -> bool
     ensures { result ≡ steps_up rule_cmp rules.now }
 {
     let mut left = rules;
@@ -121,7 +122,7 @@ fn rules_step_up(rules: &[Rule]) -> bool
     true
 }
 
-/// Part 10, on sorted rules: whether rules differ.
+// Part 10, on sorted rules: whether rules differ.
 pub(crate) fn rules_differ(rules: &[Rule]) -> bool
     requires { IsSorted rule_cmp rules.now }
     ensures { result ≡ rules_differ rules.now }

@@ -1,5 +1,5 @@
 -- Where no part is broken, each holds; and the other way round.
-use Rattle.std.proofs.Common.{◌≡◌, ℕ, Bool, true, false, List, [], ◌∷◌, Option, Some, None, refl, if◌then◌else◌}
+use Rattle.std.proofs.Common.{◌≡◌, ℕ, Bool, true, false, List, [], ◌∷◌, None, refl}
 use Rattle.net_model.specs.Words.{first_false}
 use Rattle.net_model.specs.Standing.{no_cycle}
 use Rattle.net_model.specs.Valid.{HasAllParts, least_broken, names_differ, bases_stand, controllers_take, bases_up, mtus_fit, ports_without_addresses, addresses_fit, routes_stand, rules_differ, options_fit, limits_hold}

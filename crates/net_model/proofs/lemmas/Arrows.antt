@@ -1,11 +1,10 @@
 -- The graph of a list of links and of what stands on what.
-use Rattle.std.proofs.Common.{◌≡◌, ℕ, ◌+◌, ◌-◌, ◌<◌, ◌≤◌, zero, suc, Bool, true, false, not, ◌&&◌, cond, List, [], ◌∷◌, ◌++◌, map, length, get_or, drop, refl, sym, ap, subst, ◌∙◌, arith, ◌⊎◌, inl, inr}
+use Rattle.std.proofs.Common.{◌≡◌, ℕ, ◌+◌, ◌<◌, zero, suc, Bool, true, false, not, ◌&&◌, cond, List, [], ◌∷◌, ◌++◌, map, length, get_or, drop, refl, sym, ap, subst, ◌∙◌, arith}
 use Rattle.std.specs.List.{list_all}
 use Rattle.std.proofs.lemmas.List.{at_drop_more, get_or-map, length-map, append_assoc}
-use Rattle.reach.specs.Reach.{is_marked, is_reached, IsGraph, IsLeast, Represents}
+use Rattle.reach.specs.Reach.{is_reached, IsGraph, IsLeast, Represents}
 use Rattle.reach.proofs.lemmas.Least.{least_is_reached}
 use Rattle.net_model.specs.Words.{positions}
-use Rattle.net_model.proofs.lemmas.Truth.{and_left, and_right}
 
 -- the place at k is one of the list's, and passes
 abbrev IsPlace : {X : Type 0} → (X → Bool) → ℕ → List X → X → List ℕ → ℕ → Type 0

@@ -1,5 +1,5 @@
 -- What the orders of blocks and rules tie is one.
-use Rattle.std.proofs.Common.{◌≡◌, ℕ, Bool, true, false, List, Option, Some, None, Ordering, Less, Equal, Greater, refl, sym, ap, ◌∙◌}
+use Rattle.std.proofs.Common.{◌≡◌, ℕ, Bool, true, false, List, Option, Some, None, Ordering, Less, Equal, Greater, refl, ap, ◌∙◌}
 use Rattle.std.specs.Ordering.{nat_cmp, bool_cmp, ordering_then}
 use Rattle.std.specs.Option.{option_cmp}
 use Rattle.std.proofs.lemmas.Map.Lookups.{exact_unsigned, exact_bytes}
@@ -31,12 +31,14 @@ exact_options R exact None (Some y) h = cc
 exact_options R exact (Some x) None h = cc
 exact_options R exact (Some x) (Some y) h = ap Some (exact x y h)
 
-exact_addresses : (a b : Address) → address_cmp a b ≡ Equal → a ≡ b
+-- tied addresses are equal
+pub exact_addresses : (a b : Address) → address_cmp a b ≡ Equal → a ≡ b
 exact_addresses a b h =
     let family = exact_bools a.v6 b.v6 (first_equal (bool_cmp a.v6 b.v6) (nat_cmp a.bits b.bits) h) in
     let bits = exact_unsigned a.bits b.bits (second_equal (bool_cmp a.v6 b.v6) (nat_cmp a.bits b.bits) h) in
     ap (λ (v : Bool). let x : Address = record { v6 = v; bits = a.bits } in x) family ∙ ap (λ (n : ℕ). let x : Address = record { v6 = b.v6; bits = n } in x) bits
 
+-- tied blocks are equal
 pub exact_blocks : (a b : Block) → block_cmp a b ≡ Equal → a ≡ b
 exact_blocks a b h =
     let addr = exact_addresses a.addr b.addr (first_equal (address_cmp a.addr b.addr) (nat_cmp a.len b.len) h) in
@@ -61,7 +63,8 @@ exact_ranks Prohibit Blackhole h k = absurd cc
 exact_ranks Prohibit Unreachable h k = absurd cc
 exact_ranks Prohibit Prohibit h k = refl
 
-exact_targets : (a b : Target) → target_cmp a b ≡ Equal → a ≡ b
+-- tied targets are equal
+pub exact_targets : (a b : Target) → target_cmp a b ≡ Equal → a ≡ b
 exact_targets a b h =
     exact_ranks a b (exact_unsigned (target_rank a) (target_rank b) (first_equal (nat_cmp (target_rank a) (target_rank b)) (nat_cmp (target_table a) (target_table b)) h))
     (exact_unsigned (target_table a) (target_table b) (second_equal (nat_cmp (target_rank a) (target_rank b)) (nat_cmp (target_table a) (target_table b)) h))
@@ -69,6 +72,7 @@ exact_targets a b h =
 abbrev rule_of : ℕ → Bool → Option Block → Option Block → Option (List ℕ) → ℕ → ℕ → Target → RuleParts
 rule_of p v s d i m k t = record { priority = p; v6 = v; src = s; dst = d; iif = i; mark = m; mask = k; target = t }
 
+-- tied rules are equal
 pub exact_rules : (a b : RuleParts) → rule_cmp a b ≡ Equal → a ≡ b
 exact_rules a b h7 =
     let t = second_equal _ (target_cmp a.target b.target) h7 in

@@ -1,25 +1,29 @@
 -- A valid network has the facts by name.
-use Rattle.std.proofs.Common.{◌≡◌, ℕ, ◌+◌, ◌<◌, ◌≤◌, zero, suc, Bool, true, false, not, ◌&&◌, ◌||◌, ◌==◌, nat_le, cond, List, [], ◌∷◌, length, get_or, Option, Some, None, refl, sym, ap, subst, ◌∙◌, arith}
-use Rattle.std.specs.List.{list_any, list_all, find}
+use Rattle.std.proofs.Common.{◌≡◌, ℕ, ◌<◌, ◌≤◌, zero, suc, Bool, true, false, not, ◌&&◌, ◌||◌, nat_le, cond, List, [], ◌∷◌, length, get_or, Option, Some, None, refl, sym, ap, ◌∙◌, arith}
+use Rattle.std.specs.List.{list_any, list_all}
 use Rattle.std.specs.Option.{option_map_or}
 use Rattle.std.proofs.lemmas.Bool.Decides.{nat_tests}
 use Rattle.net_model.specs.Name.{same_bytes}
 use Rattle.net_model.specs.Words.{apart, rises, is_empty}
-use Rattle.net_model.specs.Order.{link_cmp}
-use Rattle.net_model.specs.Links.{find_link, is_named, same_name, named_passes, is_twin, can_be_base, takes, base_passes, controller_passes, has_controller, is_bond, is_bridge, is_bond_or_bridge, ports_of}
-use Rattle.net_model.specs.Standing.{on_cycle, no_cycle}
+use Rattle.net_model.specs.Order.{block_cmp, link_cmp, route_cmp, rule_cmp}
+use Rattle.net_model.specs.OrderLaws.{rule_cmp_total}
+use Rattle.net_model.specs.Links.{find_link, is_named, named_passes, is_twin, can_be_base, takes, base_passes, controller_passes, is_bond, is_bridge, is_bond_or_bridge, ports_of}
+use Rattle.net_model.specs.Standing.{on_cycle}
 use Rattle.net_model.specs.Options.{bond_fits, bond_ok, bridge_in_range, port_in_range, is_default_bond, is_default_bridge, is_default_port}
-use Rattle.net_model.specs.Valid.{HasAllParts, each_base_stands, vlans_differ, mtu_in_range, is_bond_or_bridge_port, all_v4, addresses_differ, route_on_link, route_stands, keys_differ, is_bridge_port, counts_fit, links_fit, address_count, unused_default}
+use Rattle.net_model.specs.Valid.{HasAllParts, each_base_stands, vlans_differ, mtu_in_range, is_bond_or_bridge_port, all_v4, addresses_differ, same_key, same_rule, route_on_link, route_stands, keys_differ, is_bridge_port, counts_fit, links_fit, address_count, unused_default}
 use Rattle.net_model.specs.NetData.{NetData, IsNet}
 use Rattle.net_model.specs.Facts.{LinkFacts, BaseFacts, ControllerFacts, RouteFacts, Facts}
 use Rattle.net_model.specs.declared.link.Link.{Link}
 use Rattle.net_model.specs.declared.link.Kind.{Kind}
-use Rattle.net_model.specs.declared.link.Kind.TheVariants.{Ethernet, Bond, Bridge, Vlan, Vrf}
+use Rattle.net_model.specs.declared.link.Kind.TheVariants.{Bond, Vlan}
 use Rattle.net_model.specs.declared.options.BondMode.{BondMode}
 use Rattle.net_model.specs.declared.options.Proto.{Proto}
 use Rattle.net_model.specs.declared.route.Route.{Route}
-use Rattle.net_model.proofs.lemmas.Truth.{and_left, and_right, not_true, or_left_false, or_right_false}
-use Rattle.net_model.proofs.lemmas.Found.{named_passes_found, one_name, itself}
+use Rattle.net_model.proofs.lemmas.Truth.{and_left, and_right, not_true}
+use Rattle.net_model.proofs.lemmas.Found.{named_passes_found, one_name, itself, found_at}
+use Rattle.net_model.proofs.lemmas.Orders.{route_cmp_total}
+use Rattle.net_model.proofs.lemmas.Ties.{keys_tie, rules_tie}
+use Rattle.net_model.proofs.lemmas.Places.{found_itself, only_itself}
 use Rattle.net_model.proofs.lemmas.Grounded.{found_named, any_found, HasGround, grounded}
 use Rattle.net_model.proofs.lemmas.ValidMoved.{is_twin-comm}
 use Rattle.net_model.proofs.lemmas.AllParts.{all_parts}
@@ -175,6 +179,7 @@ module _ (net : NetData) (is : IsNet net) where
         off_cycle = off_cycle n l found;
         grounded = grounded net.links ground n l found;
         down_without_v6 = λ h. or_right_of l.up (all_v4 l.addrs) (and_left (l.up || all_v4 l.addrs) (addresses_differ l.addrs) addresses) h;
+        addresses_rise = all_found (λ k. rises block_cmp k.addrs) net.links n l is.in_order.addrs found;
         address_once = and_right (l.up || all_v4 l.addrs) (addresses_differ l.addrs) addresses;
         few_addresses = le_of (length l.addrs) 64 (all_found (λ k. nat_le (length k.addrs) 64) net.links n l (and_right (nat_le (length net.links) 512) (list_all (λ k. nat_le (length k.addrs) 64) net.links) few) found);
         bond_right = λ mode h. bond_of net.links l l.kind mode (and_left (bond_fits net.links l l.kind) (bridge_in_range l.bridge) two) h;
@@ -233,6 +238,9 @@ module _ (net : NetData) (is : IsNet net) where
         on_link = and_right found.0.up (route_on_link found.0 (get_or net.routes i d)) found.2;
       }
 
+  keys : keys_differ net.routes ≡ true
+  keys = and_right (list_all (route_stands net.links) net.routes) (keys_differ net.routes) p.routes
+
   pub facts : Facts net
   facts = record {
     parts = p;
@@ -242,6 +250,13 @@ module _ (net : NetData) (is : IsNet net) where
     controller = controller_facts;
     twins = one_twin;
     route = route_facts;
+    link_at = λ i d lt. found_at net.links (get_or net.links i d).name i d p.names lt (itself (get_or net.links i d).name);
+    route_at = λ i d lt. found_itself same_key route_cmp route_cmp_total keys_tie net.routes keys i d lt;
+    one_route = λ i j d lt below h. sym (only_itself same_key route_cmp route_cmp_total keys_tie net.routes keys i j d lt below h);
+    rule_at = λ i d lt. found_itself same_rule rule_cmp rule_cmp_total rules_tie net.rules p.rules i d lt;
+    one_rule = λ i j d lt below h. sym (only_itself same_rule rule_cmp rule_cmp_total rules_tie net.rules p.rules i j d lt below h);
+    keys = keys;
+    rules = p.rules;
     few_links = le_of (length net.links) 512 (and_left (nat_le (length net.links) 512) (list_all (λ l. nat_le (length l.addrs) 64) net.links) few);
     few_addresses = le_of (address_count net.links) 4096 (and_right (nat_le (length net.links) 512 && list_all (λ l. nat_le (length l.addrs) 64) net.links) (nat_le (address_count net.links) 4096) count1);
     few_routes = le_of (length net.routes) 4096 (and_right (links_fit net.links) (nat_le (length net.routes) 4096) count2);

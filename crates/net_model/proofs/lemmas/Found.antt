@@ -1,14 +1,14 @@
 -- What is found by name in a list of links that rises.
-use Rattle.std.proofs.Common.{◌≡◌, ℕ, ◌+◌, ◌≤◌, ◌<◌, ◌⊎◌, inl, inr, zero, suc, get_or, Bool, true, false, not, ◌&&◌, ◌||◌, List, [], ◌∷◌, length, cond, Option, Some, None, Ordering, Less, Equal, Greater, refl, sym, ap, subst, ◌∙◌, arith, nat_cmp}
-use Rattle.std.specs.List.{list_any, list_all, find}
+use Rattle.std.proofs.Common.{◌≡◌, ℕ, ◌≤◌, ◌<◌, ◌⊎◌, inl, inr, zero, suc, get_or, Bool, true, false, not, ◌&&◌, ◌||◌, List, [], ◌∷◌, length, cond, Some, None, Less, Equal, Greater, refl, sym, ap, ◌∙◌, arith, nat_cmp}
+use Rattle.std.specs.List.{list_any}
 use Rattle.std.specs.Option.{option_map_or}
-use Rattle.std.specs.Ordering.{is_lt, is_eq}
+use Rattle.std.specs.Ordering.{is_eq}
 use Rattle.std.specs.List.Sorted.{IsPartitionPoint}
 use Rattle.std.specs.Cmp.Lexicographic.{slice_cmp, same_text, texts_ties}
 use Rattle.std.proofs.lemmas.Cmp.{nat_list_cmp_total, nat_list_eq_equiv, tied_itself}
 use Rattle.std.proofs.lemmas.Map.Lookups.{exact_bytes}
 use Rattle.net_model.specs.Name.{same_bytes}
-use Rattle.net_model.specs.Words.{apart, rises}
+use Rattle.net_model.specs.Words.{rises}
 use Rattle.net_model.specs.Order.{link_cmp}
 use Rattle.net_model.specs.Links.{find_link, is_named, same_name, named_passes}
 use Rattle.net_model.specs.Valid.{names_differ}
@@ -62,7 +62,8 @@ found_passes test name (x ∷ xs) differ =
 pub named_passes_found : (test : Link → Bool) (links : List Link) (name : List ℕ) → rises link_cmp links ≡ true → named_passes test links name ≡ option_map_or test (find_link name links) false
 named_passes_found test links name up = found_passes test name links (names_differ-rises links up)
 
-found_at : (xs : List Link) (name : List ℕ) (i : ℕ) (d : Link) → names_differ xs ≡ true → i < length xs → same_bytes (get_or xs i d).name name ≡ true → find_link name xs ≡ Some (get_or xs i d)
+-- the link at an index is what its name finds
+pub found_at : (xs : List Link) (name : List ℕ) (i : ℕ) (d : Link) → names_differ xs ≡ true → i < length xs → same_bytes (get_or xs i d).name name ≡ true → find_link name xs ≡ Some (get_or xs i d)
 found_at [] name i d differ lt e = absurd (omega arith)
 found_at (x ∷ xs) name zero d differ lt e = rw e refl
 found_at (x ∷ xs) name (suc i) d differ lt e =

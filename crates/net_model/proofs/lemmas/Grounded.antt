@@ -1,7 +1,6 @@
 -- Without a cycle each chain of bases ends within as many steps as there are links.
-use Rattle.std.proofs.Common.{◌≡◌, ℕ, ◌+◌, ◌<◌, ◌≤◌, zero, suc, Bool, true, false, ◌&&◌, ◌||◌, cond, List, [], ◌∷◌, length, Option, Some, None, refl, sym, ap, subst, ◌∙◌, arith}
-use Rattle.std.specs.List.{list_any, list_all, find}
-use Rattle.std.specs.Option.{option_map_or}
+use Rattle.std.proofs.Common.{◌≡◌, ℕ, ◌<◌, ◌≤◌, zero, suc, Bool, true, false, ◌&&◌, ◌||◌, cond, List, [], ◌∷◌, length, Some, refl, sym, ap, ◌∙◌, arith}
+use Rattle.std.specs.List.{list_any}
 use Rattle.reach.proofs.lemmas.Saturate.{tally, AgreeOn, tally_le, tally_length, any_mono, and_mono, reached_all}
 use Rattle.net_model.specs.Name.{same_bytes}
 use Rattle.net_model.specs.Links.{find_link, is_named, is_port_of}

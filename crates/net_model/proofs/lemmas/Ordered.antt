@@ -1,7 +1,7 @@
 -- What putting in order means.
-use Rattle.std.proofs.Common.{◌≡◌, Bool, true, false, not, ◌&&◌, List, [], ◌∷◌, map, None, Ordering, refl, sym, ap, ◌∙◌, IsPermutation}
-use Rattle.std.specs.List.{list_any, list_all}
-use Rattle.std.specs.Ordering.{is_lt, is_eq}
+use Rattle.std.proofs.Common.{◌≡◌, Bool, true, List, [], ◌∷◌, map, None, Ordering, refl, sym, ap, ◌∙◌, IsPermutation}
+use Rattle.std.specs.List.{list_all}
+use Rattle.std.specs.Ordering.{is_eq}
 use Rattle.std.specs.Cmp.{IsTotalOrder}
 use Rattle.std.proofs.lemmas.List.Sorted.{IsPermutation-refl, IsPermutation-trans, IsPermutation-sym}
 use Rattle.net_model.specs.Words.{apart, rises, sorted}
@@ -10,14 +10,14 @@ use Rattle.net_model.specs.Rule.{RuleParts}
 use Rattle.net_model.specs.Order.{block_cmp, link_cmp, route_cmp, rule_cmp}
 use Rattle.net_model.specs.OrderLaws.{block_cmp_total, rule_cmp_total}
 use Rattle.net_model.specs.Links.{same_name}
-use Rattle.net_model.specs.Valid.{names_differ, route_stands, keys_differ, same_key, same_rule, least_broken}
+use Rattle.net_model.specs.Valid.{route_stands, keys_differ, same_key, same_rule, least_broken}
 use Rattle.net_model.specs.NetData.{NetData, IsNet, IsRearranged, arranged, ordered}
 use Rattle.net_model.specs.declared.link.Link.{Link}
 use Rattle.net_model.specs.declared.route.Route.{Route}
 use Rattle.net_model.specs.declared.dns.Dns.{Dns}
 use Rattle.net_model.proofs.lemmas.Truth.{and_left, and_right}
 use Rattle.net_model.proofs.lemmas.Orders.{link_cmp_total, route_cmp_total}
-use Rattle.net_model.proofs.lemmas.Rises.{Climbs, Climbs-sorted, sorted-rises, apart-sorted}
+use Rattle.net_model.proofs.lemmas.Rises.{Climbs-sorted, sorted-rises, apart-sorted}
 use Rattle.net_model.proofs.lemmas.Permute.{apart-IsPermutation}
 use Rattle.net_model.proofs.lemmas.Sorting.{sorted_moves, sorted_climbs, rising_sorted}
 use Rattle.net_model.proofs.lemmas.Found.{names_tie}

@@ -6,8 +6,8 @@ use Rattle.std.specs.Ordering.{is_lt, is_eq, ordering_reverse}
 use Rattle.std.specs.Cmp.{IsTotalOrder}
 use Rattle.std.proofs.lemmas.List.Sorted.{sorted_far, ranks_by}
 use native.Mathlib.Numerals.{unary_clauses}
-use Rattle.net_model.specs.Words.{apart, rises, is_before_head, steps_up}
-use Rattle.net_model.proofs.lemmas.Truth.{and_left, and_right, and_both, not_true}
+use Rattle.net_model.specs.Words.{apart, rises, steps_up}
+use Rattle.net_model.proofs.lemmas.Truth.{and_left, and_right, and_both}
 
 lt_is_not_eq : (r : Ordering) → is_lt r ≡ true → is_eq r ≡ false
 lt_is_not_eq Less h = refl
@@ -83,17 +83,21 @@ all_at p [] i d h lt = absurd (omega arith)
 all_at p (x ∷ xs) zero d h lt = and_left (p x) (list_all p xs) h
 all_at p (x ∷ xs) (suc i) d h lt = all_at p xs i d (and_right (p x) (list_all p xs) h) (omega arith)
 
--- a list that rises is sorted
-sorted_at : {X : Type 0} (R : X → X → Ordering) → IsTotalOrder R → (xs : List X) → rises R xs ≡ true → (k : ℕ) (d : X) → k + 1 < length xs → is_lt (R (get_or xs (k + 1) d) (get_or xs k d)) ≡ false
-sorted_at R total [] h k d lt = absurd (omega arith)
-sorted_at R total (x ∷ xs) h zero d lt =
-    lt_turned (R x (get_or xs 0 d)) (R (get_or xs 0 d) x) (total.antisymm x (get_or xs 0 d)) (all_at (λ y. is_lt (R x y)) xs 0 d (and_left (list_all (λ y. is_lt (R x y)) xs) (rises R xs) h) (omega arith))
-sorted_at R total (x ∷ xs) h (suc k) d lt =
-    let rest = sorted_at R total xs (and_right (list_all (λ y. is_lt (R x y)) xs) (rises R xs) h) k d (omega arith) in
+sorted_at : {X : Type 0} (R S : X → X → Ordering) → ((x y : X) → is_lt (R x y) ≡ true → is_lt (S y x) ≡ false) → (xs : List X) → rises R xs ≡ true → (k : ℕ) (d : X) → k + 1 < length xs → is_lt (S (get_or xs (k + 1) d) (get_or xs k d)) ≡ false
+sorted_at R S back [] h k d lt = absurd (omega arith)
+sorted_at R S back (x ∷ xs) h zero d lt =
+    back x (get_or xs 0 d) (all_at (λ y. is_lt (R x y)) xs 0 d (and_left (list_all (λ y. is_lt (R x y)) xs) (rises R xs) h) (omega arith))
+sorted_at R S back (x ∷ xs) h (suc k) d lt =
+    let rest = sorted_at R S back xs (and_right (list_all (λ y. is_lt (R x y)) xs) (rises R xs) h) k d (omega arith) in
     simp unary_clauses (simp unary_clauses at rest)
 
+-- a list is sorted by a second order, where what the first puts before another the second doesn't put after it
+pub sorted_by-rises : {X : Type 0} (R S : X → X → Ordering) → ((x y : X) → is_lt (R x y) ≡ true → is_lt (S y x) ≡ false) → (xs : List X) → rises R xs ≡ true → IsSortedBy (λ x y. is_lt (S x y)) xs
+sorted_by-rises R S back xs h = λ k d low lt. sorted_at R S back xs h k d lt
+
+-- a list that rises is sorted
 pub sorted-rises : {X : Type 0} (R : X → X → Ordering) → IsTotalOrder R → (xs : List X) → rises R xs ≡ true → IsSortedBy (λ x y. is_lt (R x y)) xs
-sorted-rises R total xs h = λ k d low lt. sorted_at R total xs h k d lt
+sorted-rises R total = sorted_by-rises R R (λ x y. lt_turned (R x y) (R y x) (total.antisymm x y))
 
 lt_less : (r : Ordering) → is_lt r ≡ true → r ≡ Less
 lt_less Less h = refl

@@ -1,15 +1,14 @@
 -- Lists in order are settled by their members.
-use Rattle.std.proofs.Common.{◌≡◌, ℕ, ◌+◌, ◌<◌, ◌≤◌, zero, suc, Bool, true, false, not, ◌&&◌, ◌||◌, cond, if◌then◌else◌, List, [], ◌∷◌, ◌++◌, length, get_or, ◌⊎◌, inl, inr, refl, sym, ap, subst, ◌∙◌, arith, Ordering, Less, Equal, Greater, IsPermutation}
-use Rattle.std.specs.List.{list_any, list_all, sum_by, Contains}
-use Rattle.std.specs.List.Sorted.{IsSortedBy}
-use Rattle.std.specs.Ordering.{is_lt, is_eq, ordering_reverse, eq_by_cmp}
+use Rattle.std.proofs.Common.{◌≡◌, ℕ, ◌<◌, zero, suc, Bool, true, false, cond, if◌then◌else◌, List, [], ◌∷◌, length, get_or, ◌⊎◌, inl, inr, refl, sym, ap, subst, ◌∙◌, arith, Ordering, Less, Equal, Greater, IsPermutation}
+use Rattle.std.specs.List.{list_all, sum_by, Contains}
+use Rattle.std.specs.Ordering.{is_lt, is_eq, ordering_reverse}
 use Rattle.std.specs.Cmp.{IsTotalOrder, IsStrictWeakOrder}
 use Rattle.std.proofs.lemmas.Cmp.{tied_itself}
 use Rattle.std.proofs.lemmas.List.Sums.{sum_by-cons}
 use Rattle.std.proofs.lemmas.List.Sorted.{sum_by-IsPermutation, ranks_by, IsPermutation-refl, IsPermutation-cons, IsPermutation-trans, IsPermutation-sym, IsPermutation-middle, Contains-permutation}
 use Rattle.net_model.specs.Words.{apart, rises, put, sorted}
-use Rattle.net_model.proofs.lemmas.Truth.{and_left, and_right, and_both}
-use Rattle.net_model.proofs.lemmas.Rises.{Climbs, NoneBefore, Climbs-sorted, apart-sorted, lt_turned}
+use Rattle.net_model.proofs.lemmas.Truth.{and_left, and_right}
+use Rattle.net_model.proofs.lemmas.Rises.{Climbs, NoneBefore, apart-sorted}
 use Rattle.net_model.proofs.lemmas.Permute.{apart-IsPermutation}
 
 module _ {X : Type 0} (R : X → X → Ordering) (total : IsTotalOrder R) where

@@ -1,18 +1,20 @@
 -- The tests of validity that say which are one, and the orders that tie them.
-use Rattle.std.proofs.Common.{◌≡◌, ℕ, Bool, true, false, ◌&&◌, ◌==◌, nat_eq, cond, eqb, ltb, Option, Some, None, Ordering, Less, Equal, Greater, refl, sym, ap, ◌∙◌, arith}
-use Rattle.std.specs.Ordering.{is_eq, nat_cmp, bool_cmp, ordering_then, eq_by_cmp}
+use Rattle.std.proofs.Common.{rules, ◌≡◌, Bool, true, false, ◌&&◌, ◌==◌, Option, Some, None, Ordering, Less, Equal, Greater, refl, sym, ap, ◌∙◌}
+use Rattle.std.specs.Ordering.{is_lt, is_eq, nat_cmp, bool_cmp, on, ordering_then, ordering_reverse}
 use Rattle.std.specs.Option.{option_eq, option_cmp}
-use Rattle.std.specs.Cmp.{unsigned_ties, tied_then, both_tied}
+use Rattle.std.specs.Cmp.{IsTotalOrder, unsigned_ties, both_tied}
+use Rattle.std.specs.Cmp.Rules.{comparing}
 use Rattle.std.specs.Cmp.Lexicographic.{texts_ties}
 use Rattle.net_model.specs.Words.{bool_eq}
 use Rattle.net_model.specs.Name.{same_bytes}
 use Rattle.net_model.specs.Address.{Address, Block}
 use Rattle.net_model.specs.Rule.{RuleParts}
-use Rattle.net_model.specs.Order.{name_cmp, address_cmp, block_cmp, route_cmp, target_cmp, target_rank, target_table, rule_cmp}
-use Rattle.net_model.specs.Valid.{same_address, same_block, same_key, same_target, same_body, same_rule}
+use Rattle.net_model.specs.Order.{name_cmp, address_cmp, block_cmp, route_cmp, target_cmp, rule_cmp}
+use Rattle.net_model.specs.Valid.{same_address, same_block, same_key, same_target, same_rule}
 use Rattle.net_model.specs.declared.route.Route.{Route}
 use Rattle.net_model.specs.declared.rule.Target.{Target}
 use Rattle.net_model.specs.declared.rule.Target.TheVariants.{Table, Blackhole, Unreachable, Prohibit}
+use Rattle.net_model.proofs.lemmas.Orders.{address_cmp_total}
 
 bools_tie : (a b : Bool) → bool_eq a b ≡ is_eq (bool_cmp a b)
 bools_tie true true = refl
@@ -32,7 +34,8 @@ keys_tie a b =
     (both_tied (same_block a.dest b.dest) (a.table == b.table) (block_cmp a.dest b.dest) (nat_cmp a.table b.table) (blocks_tie a.dest b.dest) (unsigned_ties a.table b.table))
     (unsigned_ties a.metric b.metric)
 
-targets_tie : (a b : Target) → same_target a b ≡ is_eq (target_cmp a b)
+-- targets tie exactly where they are the same
+pub targets_tie : (a b : Target) → same_target a b ≡ is_eq (target_cmp a b)
 targets_tie (Table a) (Table b) = unsigned_ties a b
 targets_tie (Table a) Blackhole = refl
 targets_tie (Table a) Unreachable = refl
@@ -77,3 +80,19 @@ rules_tie a b =
     (unsigned_ties a.mark b.mark))
     (unsigned_ties a.mask b.mask))
     (targets_tie a.target b.target)
+
+-- blocks by their addresses alone
+abbrev pub by_address : Block → Block → Ordering
+by_address = on (λ (b : Block). b.addr) address_cmp
+
+pub by_address_total : IsTotalOrder by_address
+by_address_total = search (comparing, rules, address_cmp_total)
+
+first_turned : (r s t : Ordering) → r ≡ ordering_reverse s → is_lt (ordering_then r t) ≡ true → is_lt s ≡ false
+first_turned r Less t e h = let g : is_lt (ordering_then Greater t) ≡ true = ap (λ q. is_lt (ordering_then q t)) (sym e) ∙ h in cc
+first_turned r Equal t e h = refl
+first_turned r Greater t e h = refl
+
+-- the address of a later block isn't before that of an earlier one
+pub address_not_back : (x y : Block) → is_lt (block_cmp x y) ≡ true → is_lt (by_address y x) ≡ false
+address_not_back x y h = first_turned (by_address x y) (by_address y x) (nat_cmp x.len y.len) (by_address_total.antisymm x y) h

@@ -1,35 +1,32 @@
 -- Validity doesn't depend on the order of the lists.
-use Rattle.std.proofs.Common.{◌≡◌, ℕ, ◌+◌, zero, suc, Bool, true, false, not, ◌&&◌, ◌||◌, ◌==◌, nat_eq, nat_le, List, [], ◌∷◌, map, length, Option, Some, None, Ordering, refl, sym, ap, ◌∙◌, IsPermutation}
+use Rattle.std.proofs.Common.{◌≡◌, ℕ, ◌+◌, zero, suc, Bool, true, false, not, ◌&&◌, ◌||◌, ◌==◌, nat_le, List, [], ◌∷◌, map, length, Option, Some, None, Ordering, refl, sym, ap, ◌∙◌, IsPermutation}
 use Rattle.std.specs.List.{list_any, list_all, sum_by}
 use Rattle.std.specs.Option.{option_map_or}
-use Rattle.std.specs.Ordering.{is_eq, ordering_reverse}
+use Rattle.std.specs.Ordering.{is_eq}
 use Rattle.std.specs.Cmp.{IsTotalOrder}
 use Rattle.std.proofs.lemmas.Cmp.{nat_list_eq_equiv, nat_eq_equiv}
 use Rattle.std.proofs.lemmas.List.{length-map}
 use Rattle.std.proofs.lemmas.List.Sums.{sum_by-cons}
 use Rattle.std.proofs.lemmas.List.Sorted.{list_any-IsPermutation, sum_by-IsPermutation, length_permutation}
-use Rattle.reach.specs.Reach.{is_reached}
-use Rattle.net_model.specs.Name.{same_bytes}
-use Rattle.net_model.specs.Words.{apart, is_empty, is_among, sorted, first_false}
+use Rattle.net_model.specs.Words.{apart, is_empty, first_false}
 use Rattle.net_model.specs.Address.{Address, Block}
-use Rattle.net_model.specs.Rule.{RuleParts}
 use Rattle.net_model.specs.Order.{address_cmp, block_cmp, route_cmp, rule_cmp}
 use Rattle.net_model.specs.OrderLaws.{block_cmp_total, rule_cmp_total}
-use Rattle.net_model.specs.Links.{same_name, is_named, named_passes, is_twin, can_be_base, takes, base_passes, controller_passes, has_controller, is_bond, is_bridge, is_bond_or_bridge, is_port_of, ports_of, proto_eq}
+use Rattle.net_model.specs.Links.{same_name, is_named, named_passes, is_twin, can_be_base, takes, base_passes, controller_passes, is_bond, is_bridge, is_bond_or_bridge, is_port_of, ports_of, proto_eq}
 use Rattle.net_model.specs.Standing.{stands_on, reaches, on_cycle, no_cycle}
-use Rattle.net_model.specs.OnLink.{holds, is_on_link, is_link_local}
-use Rattle.net_model.specs.Options.{bond_fits, bond_ok, primary_ok, takes_primary, bridge_in_range, port_in_range, is_default_bond, is_default_bridge, is_default_port}
-use Rattle.net_model.specs.Valid.{names_differ, each_base_stands, vlans_differ, bases_stand, controllers_take, bases_up, mtu_in_range, mtus_fit, is_bond_or_bridge_port, ports_without_addresses, all_v4, same_address, addresses_differ, addresses_fit, route_on_link, route_stands, routes_stand, keys_differ, same_key, rules_differ, same_rule, options_fit, address_count, links_fit, counts_fit, is_bridge_port, unused_default, limits_hold, least_broken}
+use Rattle.net_model.specs.OnLink.{holds, is_on_link}
+use Rattle.net_model.specs.Options.{bond_fits, primary_ok, takes_primary, bridge_in_range, port_in_range, is_default_bond, is_default_bridge, is_default_port}
+use Rattle.net_model.specs.Valid.{names_differ, each_base_stands, vlans_differ, bases_stand, controllers_take, bases_up, mtu_in_range, mtus_fit, is_bond_or_bridge_port, ports_without_addresses, all_v4, same_address, addresses_differ, addresses_fit, route_on_link, route_stands, routes_stand, keys_differ, same_key, rules_differ, same_rule, options_fit, address_count, links_fit, is_bridge_port, unused_default, limits_hold, least_broken}
 use Rattle.net_model.specs.NetData.{NetData, arranged, IsSorting}
 use Rattle.net_model.specs.declared.link.Link.{Link}
 use Rattle.net_model.specs.declared.link.Kind.{Kind}
-use Rattle.net_model.specs.declared.link.Kind.TheVariants.{Ethernet, Bond, Bridge, Vlan, Vrf}
+use Rattle.net_model.specs.declared.link.Kind.TheVariants.{Bond, Vlan}
 use Rattle.net_model.specs.declared.options.Proto.{Proto}
 use Rattle.net_model.specs.declared.options.Proto.TheVariants.{Dot1q, Dot1ad}
 use Rattle.net_model.specs.declared.options.BondMode.{BondMode}
 use Rattle.net_model.specs.declared.route.Route.{Route}
 use Rattle.net_model.proofs.lemmas.Orders.{address_cmp_total, route_cmp_total}
-use Rattle.net_model.proofs.lemmas.Permute.{list_all-agree, list_all-not_any, list_all-IsPermutation, apart-IsPermutation}
+use Rattle.net_model.proofs.lemmas.Permute.{list_all-agree, list_all-IsPermutation, apart-IsPermutation}
 use Rattle.net_model.proofs.lemmas.Sorting.{sorted_moves, turned_eq}
 use Rattle.net_model.proofs.lemmas.Ports.{among_ports}
 use Rattle.net_model.proofs.lemmas.Ties.{addresses_tie, keys_tie, rules_tie}

@@ -1,4 +1,4 @@
-use Rattle.std.proofs.Common.{◌≡◌, sym, ap, ◌∙◌, subst, IsSorted}
+use Rattle.std.proofs.Common.{sym, ap, ◌∙◌, subst, IsSorted}
 use Rattle.net_model.specs.Lists.{NetData}
 use Rattle.net_model.specs.Order.{route_cmp, rule_cmp}
 use Rattle.net_model.proofs.valid.least_broken.Goals as goal

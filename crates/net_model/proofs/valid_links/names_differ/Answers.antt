@@ -1,4 +1,4 @@
-use Rattle.std.proofs.Common.{◌≡◌, sym, ◌∙◌}
+use Rattle.std.proofs.Common.{sym, ◌∙◌}
 use Rattle.net_model.specs.Order.{link_cmp}
 use Rattle.net_model.specs.Links.{same_name}
 use Rattle.net_model.proofs.lemmas.Orders.{link_cmp_total}

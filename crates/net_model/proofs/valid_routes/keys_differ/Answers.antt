@@ -1,4 +1,4 @@
-use Rattle.std.proofs.Common.{◌≡◌, sym, ◌∙◌}
+use Rattle.std.proofs.Common.{sym, ◌∙◌}
 use Rattle.net_model.specs.Order.{route_cmp}
 use Rattle.net_model.specs.Valid.{same_key}
 use Rattle.net_model.proofs.lemmas.Orders.{route_cmp_total}

@@ -1,4 +1,4 @@
-use Rattle.std.proofs.Common.{◌≡◌, sym, ◌∙◌}
+use Rattle.std.proofs.Common.{sym, ◌∙◌}
 use Rattle.net_model.specs.Order.{rule_cmp}
 use Rattle.net_model.specs.Valid.{same_rule}
 use Rattle.net_model.specs.OrderLaws.{rule_cmp_total}

@@ -1,6 +1,5 @@
-use Rattle.std.proofs.Common.{◌≡◌, ℕ, ◌<◌, length, get_or, sym, ◌∙◌, arith}
+use Rattle.std.proofs.Common.{sym, ◌∙◌, arith}
 use Rattle.net_model.specs.Standing.{on_cycle}
-use Rattle.net_model.specs.declared.link.Link.{Link}
 use Rattle.net_model.proofs.lemmas.Arrows.{all_places, one_place, at_some}
 use Rattle.net_model.proofs.valid_standing.no_cycle.Goals as goal
 

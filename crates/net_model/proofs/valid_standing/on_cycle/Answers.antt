@@ -1,9 +1,8 @@
-use Rattle.std.proofs.Common.{◌≡◌, ℕ, ◌<◌, map, length, get_or, sym, ap, ◌∙◌, subst, false, arith}
+use Rattle.std.proofs.Common.{length, sym, ap, ◌∙◌, subst, false, arith}
 use Rattle.reach.specs.Reach.{is_reached, IsGraph}
 use Rattle.reach.proofs.lemmas.Marks.{any_default}
 use Rattle.net_model.specs.Links.{is_named}
 use Rattle.net_model.specs.Standing.{stands_on, on_cycle}
-use Rattle.net_model.specs.declared.link.Link.{Link}
 use Rattle.net_model.proofs.lemmas.Arrows.{rows-IsGraph, marked_at}
 use Rattle.net_model.proofs.valid_standing.on_cycle.Goals as goal
 

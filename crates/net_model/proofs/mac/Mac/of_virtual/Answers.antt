@@ -1,5 +1,4 @@
-use Rattle.std.proofs.Common.{◌≡◌, ℕ, List, [], ◌∷◌, ◌++◌, get_or, take, replicate, refl, ap, rules}
-use Rattle.net_model.specs.declared.mac.Mac.{Mac}
+use Rattle.std.proofs.Common.{◌≡◌, ℕ, List, [], ◌∷◌, ◌++◌, get_or, take, replicate, refl, rules}
 use Rattle.net_model.proofs.mac.Mac.of_virtual.Goals as goal
 
 five : (bs : List ℕ) → get_or bs 0 0 ∷ get_or bs 1 0 ∷ get_or bs 2 0 ∷ get_or bs 3 0 ∷ get_or bs 4 0 ∷ [] ≡ take 5 (bs ++ replicate 5 0)

@@ -1,6 +1,5 @@
-use Rattle.std.proofs.Common.{◌≡◌, sym, ap, ◌∙◌, subst, Some, None}
-use Rattle.net_model.specs.Valid.{least_broken}
-use Rattle.net_model.specs.NetData.{NetData, net_of, IsSorting}
+use Rattle.std.proofs.Common.{sym, ◌∙◌}
+use Rattle.net_model.specs.NetData.{NetData, net_of}
 use Rattle.net_model.proofs.lemmas.ValidMoved.{least_broken-sorting}
 use Rattle.net_model.proofs.Made.{made}
 use Rattle.net_model.proofs.net.Net.new.Goals as goal

@@ -1,4 +1,4 @@
-use Rattle.std.proofs.Common.{◌≡◌, refl, rules}
+use Rattle.std.proofs.Common.{refl}
 use Rattle.net_model.proofs.rule.RuleOrd.cmp.Goals as goal
 
 pub returns : goal.returns
