@@ -1,3 +1,4 @@
+pub mod lemmas
 pub mod Levels
 pub mod Sorted
 pub mod Fair

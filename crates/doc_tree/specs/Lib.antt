@@ -4,3 +4,5 @@ pub mod JsonTree
 pub mod Reading
 pub mod JsonText
 pub mod Writing
+pub mod Lookup
+pub mod Integers

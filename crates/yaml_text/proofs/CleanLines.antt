@@ -10,7 +10,7 @@ use Rattle.std.proofs.lemmas.List.Splits.{slice_split-cons_yes, slice_split-cons
 use Rattle.doc_tree.specs.Shape.{Shape, nothing, truth, whole, text, list, mapping, Shapes, no_shapes, more, Pairs, no_pairs, pair}
 use Rattle.yaml_text.specs.Scalars.{is_plain, is_plain_byte, is_control, hex_digit, escaped, doubled, in_double_quotes, in_single_quotes, printed, on_line}
 use Rattle.yaml_text.specs.Layout.{spaces, has_pairs, stands_below, behind, below_key, pairs_lines, items_lines, item_lines, joined}
-use Rattle.yaml_text.specs.Fits.{has_128_bits, integers_fit, items_fit, pairs_fit}
+use Rattle.doc_tree.specs.Integers.{has_128_bits, integers_fit, items_fit, pairs_fit}
 use Rattle.yaml_text.proofs.ByteLaws.{apart}
 use Rattle.yaml_text.proofs.PlainReads.{plain_parts}
 use Rattle.yaml_text.proofs.QuoteReads.{control_low}

@@ -14,7 +14,7 @@ use Rattle.yaml_read.specs.Bytes.{is_same}
 use Rattle.yaml_read.specs.Plain.{is_digits, is_whole, is_integer, plain_value}
 use Rattle.yaml_read.specs.Keys.{key, scalar}
 use Rattle.yaml_text.specs.Scalars.{is_plain_byte, ends_with_colon}
-use Rattle.yaml_text.specs.Fits.{has_128_bits}
+use Rattle.doc_tree.specs.Integers.{has_128_bits}
 use Rattle.yaml_text.proofs.ByteLaws.{apart, begins_plainly, no_quote}
 use Rattle.yaml_text.proofs.PlainReads.{plain_scalar, plain_no_key}
 use Rattle.yaml_read.specs.declared.style.Style.TheVariants.{Block}

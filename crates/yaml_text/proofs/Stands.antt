@@ -14,7 +14,7 @@ use Rattle.yaml_read.specs.Reading.{is_own, own_key, own_dash, begins_deeper, be
 use Rattle.yaml_read.specs.Standing.{HasValue, IsNode, IsMapping, IsSequence}
 use Rattle.yaml_text.specs.Scalars.{printed, on_line}
 use Rattle.yaml_text.specs.Layout.{spaces, behind, below_key, pairs_lines, items_lines, item_lines}
-use Rattle.yaml_text.specs.Fits.{integers_fit, items_fit, pairs_fit}
+use Rattle.doc_tree.specs.Integers.{integers_fit, items_fit, pairs_fit}
 use Rattle.yaml_text.proofs.ByteLaws.{apart, starts_key}
 use Rattle.yaml_text.proofs.ScalarReads.{printed_key}
 use Rattle.yaml_text.proofs.NumberReads.{Shown, integer_shown}

@@ -7,7 +7,7 @@ use Rattle.yaml_read.specs.Bytes.{is_same, begins}
 use Rattle.yaml_read.specs.Rows.{Row, rows_from, rows_of, rows_of_lines, without_start}
 use Rattle.yaml_read.specs.Standing.{IsNode, StandsFor}
 use Rattle.yaml_text.specs.Layout.{spaces, pairs_lines, below_key, yaml_text_of, is_filled_map}
-use Rattle.yaml_text.specs.Fits.{integers_fit}
+use Rattle.doc_tree.specs.Integers.{integers_fit}
 use Rattle.yaml_text.proofs.Stands.{row_of_pair, map_stands}
 use Rattle.yaml_text.proofs.CleanLines.{clean_map, lines_of_text}
 use Rattle.doc_tree.specs.declared.limits.TheConstants.{MAX_LEVELS}

@@ -1,5 +1,4 @@
 pub mod Scalars
 pub mod Spelled
-pub mod Fits
 pub mod Layout
 pub mod Pieces

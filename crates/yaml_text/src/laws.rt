@@ -7,7 +7,7 @@ ghost use Rattle.yaml_read.specs.declared.style.Style.TheVariants.{Block};
 ghost use Rattle.yaml_read.specs.Bytes.{colon, at_gap};
 ghost use Rattle.yaml_read.specs.Keys.{key, scalar};
 ghost use Rattle.std.specs.Fmt.{signed_decimal};
-ghost use Rattle.yaml_text.specs.Fits.{has_128_bits, integers_fit};
+ghost use Rattle.doc_tree.specs.Integers.{has_128_bits, integers_fit};
 ghost use Rattle.yaml_read.specs.Standing.{StandsFor};
 ghost use Rattle.yaml_text.specs.Layout.{is_filled_map, yaml_text_of};
 ghost use Rattle.yaml_text.specs.Scalars.{printed};

@@ -1,7 +1,6 @@
 //! The text of a tree in our subset of YAML, beside the reader of that subset.
 #![tactic(auto)]
 
-mod integers;
 mod laws;
 mod layout;
 mod plain;

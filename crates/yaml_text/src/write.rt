@@ -8,10 +8,9 @@ ghost use Rattle.doc_tree.specs.declared.limits.TheConstants.{MAX_BYTES, MAX_LEV
 ghost use Rattle.yaml_read.specs.Reading.{reading};
 ghost use Rattle.yaml_read.specs.Standing.{StandsFor};
 
-use crate::integers::integers_fit;
 use crate::layout::{append_items, push_on_line, append_pairs};
 use base_model::OutOfMemory;
-use doc_tree::Tree;
+use doc_tree::{Tree, integer_laws};
 use std::alloc::{AllocError, Global};
 use yaml_read::reading_laws;
 
@@ -62,7 +61,7 @@ pub fn yaml_of_tree(alloc: Global, tree: &Tree) -> Result<Vec<u8>, OutOfMemory>
     ensures alone { IfOk result (λ text. is_filled_map (shape tree.now) ≡ true → (u : Shape) → StandsFor text.items u → u ≡ shape tree.now) }
     ensures reads { IfOk result (λ text. is_filled_map (shape tree.now) ≡ true → length text.items ≤ MAX_BYTES → reading text.items ≡ Ok (shape tree.now)) }
 {
-    integers_fit(tree);
+    integer_laws(tree);
     reading_laws();
     let text = text_of(alloc, tree)?;
     Ok(text.into_bytes())

@@ -11,7 +11,7 @@ use Rattle.yaml_text.proofs.write.yaml_of_tree.Goals as goal
 pub returns-clause-stands : goal.returns-clause-stands
 returns-clause-stands c = λ filled.
     let is : c.into_bytes.result.items ≡ yaml_text_of (shape c.args.tree.now) = ap (λ (v : Vec ℕ Global). v.items) c.into_bytes.ensures.value ∙ c.in_ok-text.ensures in
-    subst (λ (bs : List ℕ). StandsFor bs (shape c.args.tree.now)) (sym is) (filled_stands (shape c.args.tree.now) filled c.requires.distinct c.integers_fit.ensures c.requires.depth)
+    subst (λ (bs : List ℕ). StandsFor bs (shape c.args.tree.now)) (sym is) (filled_stands (shape c.args.tree.now) filled c.requires.distinct c.integer_laws.ensures c.requires.depth)
 
 pub returns-clause-alone : goal.returns-clause-alone
 returns-clause-alone c = λ filled u other.

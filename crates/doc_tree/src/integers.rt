@@ -1,17 +1,18 @@
-//! The integers of a tree have 128 bits, as their type says.
+//! The whole numbers of a tree have 128 bits, as their type says.
 ghost use Rattle.std.specs.Prelude.{◌≡◌, map, true};
 ghost use Rattle.doc_tree.specs.Shape.{shape, pair_shape, shapes_of, pairs_of};
-ghost use Rattle.yaml_text.specs.Fits.{has_128_bits, integers_fit, items_fit, pairs_fit};
+ghost use Rattle.doc_tree.specs.Integers.{has_128_bits, integers_fit, items_fit, pairs_fit};
 
-use doc_tree::{Str, Tree};
+use crate::tree::Tree;
+use base_model::Str;
 
 fn integer_fits(_n: i128)
     ensures { has_128_bits _n ≡ true }
 {}
 
-/// Goes over the tree, so that contracts know of its integers what their type says. It does nothing else.
+/// Supplies what the type of a tree's whole numbers says of them, by going over the tree; has no other effect at run time.
 #[cycle(integers)]
-pub fn integers_fit(tree: &Tree)
+pub fn integer_laws(tree: &Tree)
     ensures { integers_fit (shape tree.now) ≡ true }
 {
     match tree {
@@ -19,25 +20,25 @@ pub fn integers_fit(tree: &Tree)
         Tree::Bool(_) => {}
         Tree::Int(n) => integer_fits(*n),
         Tree::Text(_) => {}
-        Tree::List(trees) => items_fit(trees),
-        Tree::Map(pairs) => pairs_fit(pairs),
+        Tree::List(trees) => items_laws(trees),
+        Tree::Map(pairs) => pairs_laws(pairs),
     }
 }
 
 #[cycle(integers)]
-fn items_fit(trees: &Vec<Tree>)
+fn items_laws(trees: &Vec<Tree>)
     ensures { items_fit (shapes_of (map shape trees.now.items)) ≡ true }
 {
     for tree in trees {
-        integers_fit(tree);
+        integer_laws(tree);
     }
 }
 
 #[cycle(integers)]
-fn pairs_fit(pairs: &Vec<(Str, Tree)>)
+fn pairs_laws(pairs: &Vec<(Str, Tree)>)
     ensures { pairs_fit (pairs_of (map pair_shape pairs.now.items)) ≡ true }
 {
     for (_, tree) in pairs {
-        integers_fit(tree);
+        integer_laws(tree);
     }
 }

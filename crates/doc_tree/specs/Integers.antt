@@ -1,4 +1,4 @@
--- The integers of a tree have 128 bits.
+-- The whole numbers of a tree have 128 bits.
 use Rattle.std.specs.Prelude.{◌^◌, ℤ, pos, negsuc, Bool, true, ◌&&◌, nat_lt}
 use Rattle.doc_tree.specs.Shape.{Shape, nothing, truth, whole, text, list, mapping, Shapes, no_shapes, more, Pairs, no_pairs, pair}
 

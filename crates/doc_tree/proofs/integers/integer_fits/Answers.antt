@@ -1,8 +1,8 @@
 use Rattle.std.proofs.Common.{◌≡◌, ◌^◌, true, ℤ, pos, negsuc, SFits}
 use Rattle.std.specs.Int.{w128}
 use Rattle.std.proofs.lemmas.Bool.{lt-ltb}
-use Rattle.yaml_text.specs.Fits.{has_128_bits}
-use Rattle.yaml_text.proofs.integers.integer_fits.Goals as goal
+use Rattle.doc_tree.specs.Integers.{has_128_bits}
+use Rattle.doc_tree.proofs.integers.integer_fits.Goals as goal
 
 within : (z : ℤ) → SFits w128 z → has_128_bits z ≡ true
 within (pos n) fits = lt-ltb n (2 ^ 127) fits.sfits
