@@ -5,6 +5,7 @@ use Rattle.std.specs.Str.{bytes_eq, is_utf8}
 use Rattle.serde_json.specs.Data.{Data, null, boolean, number, string, array, object, unsigned, Items, no_items, item, Members, no_members, member}
 use Rattle.serde_json.specs.Find.{get, at, as_str, as_u64, as_array, as_object, as_number}
 use Rattle.serde_json.specs.Read.{read}
+use Rattle.doc_tree.specs.declared.limits.TheConstants.{MAX_BYTES}
 use Rattle.net_model.specs.Name.{is_name}
 use Rattle.net_model.specs.Valid.{mtu_in_range}
 use Rattle.nmstate_top.specs.Words.{Text}
@@ -73,7 +74,7 @@ first_form d = if has_keys is_top_key d then option_and_then entry_form (option_
 
 -- the entry of a document of the first form, within the limit of bytes
 unfoldable pub document : Text → Option LinkEntry
-document bytes = if nat_lt 4194304 (length bytes) then None else option_and_then first_form (json_of bytes)
+document bytes = if nat_lt MAX_BYTES (length bytes) then None else option_and_then first_form (json_of bytes)
 
 abbrev pub ReadsForm : Text → Result LinkEntry Cause → Type 0
 ReadsForm bytes (Ok w) = document bytes ≡ Some w

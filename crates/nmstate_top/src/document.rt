@@ -7,12 +7,10 @@ ghost use Rattle.serde_json.specs.Find.{get};
 ghost use Rattle.nmstate_top.specs.Documents.{name_in, word_in, mtu_in, entry_form, first_form, is_entry_key, is_top_key, has_keys, lone, mtu_fits, ReadsForm};
 
 use crate::Cause;
+use doc_tree::MAX_BYTES;
 use net_model::Name;
 use serde_json::{Category, Map, Value};
 use std::alloc::Global;
-
-/// A document has at most so many bytes.
-const LIMIT: usize = 4_194_304;
 
 /// The type that an entry states.
 #[derive(Clone, Copy, Debug, PartialEq, Eq)]
@@ -142,7 +140,7 @@ pub fn read_form(alloc: Global, bytes: &[u8]) -> Result<LinkEntry, Cause>
     ensures form { ReadsForm bytes.now result }
     ensures in_range { IfOk result (λ entry. IsTrue (mtu_fits entry.mtu)) }
 {
-    if bytes.len() > LIMIT {
+    if bytes.len() > MAX_BYTES {
         return Err(Cause::NotYet);
     }
     match Value::from_slice(alloc, bytes) {

@@ -5,17 +5,18 @@ use Rattle.std.specs.Str.{is_utf8, IsUtf8}
 use Rattle.std.proofs.lemmas.Str.{IsUtf8-from_is_utf8, is_utf8-from_IsUtf8}
 use Rattle.serde_json.specs.Data.{Data}
 use Rattle.serde_json.specs.Read.{read}
+use Rattle.doc_tree.specs.declared.limits.TheConstants.{MAX_BYTES}
 use Rattle.nmstate_top.specs.Documents.{document, json_of, first_form, ReadsForm}
 use Rattle.nmstate_top.specs.declared.document.LinkEntry.{LinkEntry}
 use Rattle.nmstate_top.specs.declared.report.Cause.TheVariants.{NotYet}
 use Rattle.nmstate_top.specs.Words.{Text}
 use Rattle.nmstate_top.proofs.document.read_form.Goals as goal
 
-too_long : (bytes : Text) → nat_lt 4194304 (length bytes) ≡ true → document bytes ≡ None
+too_long : (bytes : Text) → nat_lt MAX_BYTES (length bytes) ≡ true → document bytes ≡ None
 unfolding document
 too_long bytes h = rw h refl
 
-short_enough : (bytes : Text) → nat_lt 4194304 (length bytes) ≡ false → document bytes ≡ option_and_then first_form (json_of bytes)
+short_enough : (bytes : Text) → nat_lt MAX_BYTES (length bytes) ≡ false → document bytes ≡ option_and_then first_form (json_of bytes)
 unfolding document
 short_enough bytes h = rw h refl
 
@@ -34,8 +35,8 @@ reads : (bytes : Text) (form : Option LinkEntry) → document bytes ≡ form →
 reads bytes (Some w) e = e
 reads bytes None e = e
 
-pub returns-then-bytes-gt-LIMIT-clause-form : goal.returns-then-bytes-gt-LIMIT-clause-form
-returns-then-bytes-gt-LIMIT-clause-form c = too_long _ (search rules)
+pub returns-then-bytes-gt-MAX_BYTES-clause-form : goal.returns-then-bytes-gt-MAX_BYTES-clause-form
+returns-then-bytes-gt-MAX_BYTES-clause-form c = too_long _ (search rules)
 
 pub returns-in-Ok-clause-form : goal.returns-in-Ok-clause-form
 returns-in-Ok-clause-form c =
