@@ -1,15 +1,14 @@
 -- What the one call of a change leaves, seen from before the dump.
-use Rattle.std.proofs.Common.{◌≡◌, ◌∙◌, ◌⊎◌, ◌≤◌, ℕ, inl, inr, true, Option, Some, None, refl, sym, ap, subst, arith}
+use Rattle.std.proofs.Common.{◌≡◌, ◌∙◌, ◌⊎◌, ◌≤◌, ℕ, inl, inr, true, Option, Some, None, refl, sym, ap, arith}
 use Rattle.std.specs.Prelude.{⊤, Result, Ok, Err}
 use Rattle.net_model.specs.NetData.{NetData}
 use Rattle.kernel_model.specs.Outcome.{Outcome}
 use Rattle.kernel_model.specs.Devices.{all_ethernet}
 use Rattle.kernel_model.specs.Kernel.{step}
 use Rattle.net_model.specs.declared.Call.{Call}
-use Rattle.host_core.specs.Faults.{Rose}
-use Rattle.host_core.specs.HostView.{HostView, State, Kernel, counted, WasRefused, Accepts, Refuses, MaybeCalled, refused, dumped}
+use Rattle.host_core.specs.HostView.{HostView, State, Kernel, counted, Accepts, Refuses, MaybeCalled, refused, dumped}
 use Rattle.nmstate_top.specs.Merge.{broken_rule, merged, Leads}
-use Rattle.nmstate_top.specs.Changes.{OnKnown, SameState, HasMerged, IsApplied, IsPending, HasRefused, Leaves, CallLeaves, MakesCall, ChangesHost, ended}
+use Rattle.nmstate_top.specs.Changes.{OnKnown, HasMerged, IsApplied, Leaves, CallLeaves, MakesCall, ChangesHost, ended}
 use Rattle.nmstate_top.specs.declared.document.LinkEntry.{LinkEntry}
 use Rattle.nmstate_top.specs.declared.report.Left.TheVariants as left
 use Rattle.nmstate_top.specs.declared.report.Cause.{Cause}

@@ -1,9 +1,8 @@
 -- When each answer comes.
-use Rattle.std.proofs.Common.{◌≡◌, ◌∙◌, ◌⊎◌, inl, inr, ℕ, List, Bool, true, false, Option, Some, None, refl, sym, ap, subst, take}
+use Rattle.std.proofs.Common.{◌≡◌, ◌∙◌, ◌⊎◌, inl, inr, Bool, true, false, Option, Some, None, refl, sym, ap, take}
 use Rattle.std.specs.Prelude.{if◌then◌else◌}
 use Rattle.net_model.specs.NetData.{NetData}
 use Rattle.kernel_model.specs.Devices.{all_ethernet}
-use Rattle.document_model.specs.declared.Refused.{Refused}
 use Rattle.host_core.specs.Faults.{Rose}
 use Rattle.nmstate_top.specs.Words.{Text, is_apply, stdin}
 use Rattle.nmstate_top.specs.Documents.{document}
@@ -11,8 +10,6 @@ use Rattle.nmstate_top.specs.Inputs.{read_limit}
 use Rattle.nmstate_top.specs.Merge.{broken_rule}
 use Rattle.nmstate_top.specs.Answers.{Asking, HasDocument, Changed, Means}
 use Rattle.nmstate_top.specs.Expected.{by_rule, by_network, by_document, by_input, expected}
-use Rattle.nmstate_top.specs.Runs.{Run, Told, Answered}
-use Rattle.nmstate_top.specs.Promises.{QuietHost, QuietSource, ToldUnlessMemory}
 use Rattle.nmstate_top.specs.declared.document.LinkEntry.{LinkEntry}
 use Rattle.nmstate_top.specs.declared.report.Left.TheVariants as left
 use Rattle.nmstate_top.specs.declared.report.Cause.{Cause}
@@ -103,14 +100,14 @@ module _ (a : Asking) (honest : a.honest) (tells : a.source_tells)
   expected_answered Done means =
       let known = means.1.leaves honest in
       inl (expects Done means.0 (has_input (Some means.1.entry) means.1.document Done
-        (on_network means.1.entry known.net true known.net_is known.holds.built ∙ ap by_rule known.holds.rules)))
+      (on_network means.1.entry known.net true known.net_is known.holds.built ∙ ap by_rule known.holds.rules)))
   expected_answered (MergeRefused x) means =
       let known = means.1.leaves.1 honest in
       inl (expects (MergeRefused x) means.0 (has_input (Some means.1.entry) means.1.document (MergeRefused x)
-        (on_network means.1.entry known.net true known.net_is known.holds.0 ∙ ap by_rule known.holds.1)))
+      (on_network means.1.entry known.net true known.net_is known.holds.0 ∙ ap by_rule known.holds.1)))
   expected_answered (Damaged area) means =
       inl (expects (Damaged area) means.0 (has_input (Some means.1.entry) means.1.document (Damaged area)
-        (ap (by_network means.1.entry) (means.1.leaves.none honest) ∙ ap (λ n. Damaged n) (sym means.1.leaves.kernel))))
+      (ap (by_network means.1.entry) (means.1.leaves.none honest) ∙ ap (λ n. Damaged n) (sym means.1.leaves.kernel))))
   expected_answered (WriteFault s) means = absurd means.1.leaves
   expected_answered (HostFault left.NotBegun) means = absurd (quiet_host means.1.leaves.rose)
   expected_answered (HostFault left.RolledBack) means = absurd means.1.leaves

@@ -1,11 +1,10 @@
 -- What a run promises, from its answer.
-use Rattle.std.proofs.Common.{◌≡◌, ◌∙◌, ◌⊎◌, inl, inr, ℕ, Bool, true, false, Option, Some, None, refl, sym, ap, subst, take}
+use Rattle.std.proofs.Common.{◌≡◌, ◌∙◌, ◌⊎◌, inl, inr, true, Option, Some, None, refl, sym, ap, subst, take}
 use Rattle.std.specs.Prelude.{⊤, Result, Ok, Err, if◌then◌else◌}
 use Rattle.net_model.specs.NetData.{NetData}
 use Rattle.kernel_model.specs.Devices.{all_ethernet}
-use Rattle.document_model.specs.declared.Refused.{Refused}
 use Rattle.host_core.specs.declared.Failed.{Failed}
-use Rattle.nmstate_top.specs.Words.{Text, is_apply, stdin}
+use Rattle.nmstate_top.specs.Words.{Text, stdin}
 use Rattle.nmstate_top.specs.Documents.{document}
 use Rattle.nmstate_top.specs.Inputs.{read_limit}
 use Rattle.nmstate_top.specs.Merge.{broken_rule}
@@ -14,14 +13,13 @@ use Rattle.nmstate_top.specs.Changes.{HasMerged, kernel_area}
 use Rattle.nmstate_top.specs.Answers.{Means}
 use Rattle.nmstate_top.specs.Expected.{by_rule, by_network, by_document, by_input, expected}
 use Rattle.nmstate_top.specs.Runs.{Run, Told, Answered}
-use Rattle.nmstate_top.specs.Promises.{IsGiven, HasEntry, HasHonest, HasDevices, QuietHost, QuietSource, QuietSinks, ToldUnlessMemory, IsDone, Applied, Complete, UsageExactly, NoSuchNames, ReadFaults, NotYetExactly, MergeRefusedExactly, MayBeMerged, HostFaults, KernelRefusals, DamagedExactly, WantsOfMemory, WriteFaultExactly, Texts, Statuses}
+use Rattle.nmstate_top.specs.Promises.{HasEntry, HasHonest, QuietSinks, ToldUnlessMemory, IsDone, Applied, Complete, UsageExactly, NoSuchNames, ReadFaults, NotYetExactly, MergeRefusedExactly, HostFaults, KernelRefusals, DamagedExactly, WantsOfMemory, WriteFaultExactly}
 use Rattle.nmstate_top.specs.declared.document.LinkEntry.{LinkEntry}
-use Rattle.nmstate_top.specs.declared.report.Left.{Left}
 use Rattle.nmstate_top.specs.declared.report.Left.TheVariants as left
 use Rattle.nmstate_top.specs.declared.report.Report.{Report}
 use Rattle.nmstate_top.specs.declared.report.Cause.{Cause}
-use Rattle.nmstate_top.specs.declared.report.Cause.TheVariants.{Done, NotYet, MergeRefused, Usage, NoSuchName, ReadFault, WriteFault, HostFault, KernelRefused, Damaged, OutOfMemory}
-use Rattle.nmstate_top.proofs.Telling.{means_of, write_fault, no_write_fault, texts, statuses}
+use Rattle.nmstate_top.specs.declared.report.Cause.TheVariants.{Done, NotYet, MergeRefused, Usage, NoSuchName, ReadFault, HostFault, KernelRefused, Damaged, OutOfMemory}
+use Rattle.nmstate_top.proofs.Telling.{means_of, write_fault, no_write_fault}
 use Rattle.nmstate_top.proofs.Exact.{usage_answered, not_yet_answered, expected_answered}
 
 -- one of two answers was told

@@ -6,8 +6,8 @@ use Rattle.host_core.specs.declared.Failed.{Failed}
 use Rattle.nmstate_top.specs.Texts.{status_of}
 use Rattle.nmstate_top.specs.Reports.{IsWritten, Tells}
 use Rattle.nmstate_top.specs.Answers.{Means}
-use Rattle.nmstate_top.specs.Runs.{Run, Told, Answered}
-use Rattle.nmstate_top.specs.Promises.{QuietSinks, HasAnswer, PrintsSome, PrintsCut, Prints}
+use Rattle.nmstate_top.specs.Runs.{Run, Answered}
+use Rattle.nmstate_top.specs.Promises.{HasAnswer, PrintsSome, Prints}
 use Rattle.nmstate_top.specs.declared.report.Report.{Report}
 use Rattle.nmstate_top.specs.declared.report.Cause.{Cause}
 use Rattle.nmstate_top.specs.declared.report.Cause.TheVariants.{Done, NotYet, MergeRefused, Usage, NoSuchName, ReadFault, WriteFault, HostFault, KernelRefused, Damaged, OutOfMemory}

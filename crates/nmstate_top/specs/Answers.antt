@@ -1,5 +1,5 @@
 -- Which answer a command gives: each with its cause, and what it leaves.
-use Rattle.std.specs.Prelude.{◌≡◌, ◌⊎◌, ⊤, List, Bool, true, false, Option, Some, None, Result, Ok, Err}
+use Rattle.std.specs.Prelude.{◌≡◌, ◌⊎◌, ⊤, List, true, false, Option, Some, None, Result, Ok, Err}
 use Rattle.host_core.specs.HostView.{HostView}
 use Rattle.host_core.specs.Streams.{SourceView}
 use Rattle.nmstate_top.specs.Words.{Text, is_apply, stdin}
@@ -8,7 +8,7 @@ use Rattle.nmstate_top.specs.Inputs.{HasRead, FailsToRead}
 use Rattle.nmstate_top.specs.Changes.{SameState, Leaves, ended}
 use Rattle.nmstate_top.specs.declared.document.LinkEntry.{LinkEntry}
 use Rattle.nmstate_top.specs.declared.report.Cause.{Cause}
-use Rattle.nmstate_top.specs.declared.report.Cause.TheVariants.{Done, NotYet, MergeRefused, Usage, NoSuchName, ReadFault, WriteFault, HostFault, KernelRefused, Damaged, OutOfMemory}
+use Rattle.nmstate_top.specs.declared.report.Cause.TheVariants.{NotYet, Usage, NoSuchName, ReadFault, OutOfMemory}
 
 -- a command's words, and what it reaches: the host and the source, before it and after it
 pub record Asking : Type 1 where

@@ -1,5 +1,5 @@
 -- What a document's change leaves on a host.
-use Rattle.std.specs.Prelude.{◌≡◌, ◌⊎◌, ◌≤◌, ⊤, ℕ, true, false, Some, None, Result, Ok, Err}
+use Rattle.std.specs.Prelude.{◌≡◌, ◌⊎◌, ⊤, ℕ, true, false, Some, None, Result, Ok, Err}
 use Rattle.net_model.specs.NetData.{NetData}
 use Rattle.kernel_model.specs.Devices.{all_ethernet}
 use Rattle.host_core.specs.Faults.{Rose}
@@ -9,7 +9,7 @@ use Rattle.nmstate_top.specs.Merge.{broken_rule, merged}
 use Rattle.nmstate_top.specs.declared.document.LinkEntry.{LinkEntry}
 use Rattle.nmstate_top.specs.declared.report.Left.TheVariants as left
 use Rattle.nmstate_top.specs.declared.report.Cause.{Cause}
-use Rattle.nmstate_top.specs.declared.report.Cause.TheVariants.{Done, NotYet, MergeRefused, Usage, NoSuchName, ReadFault, WriteFault, HostFault, KernelRefused, Damaged, OutOfMemory}
+use Rattle.nmstate_top.specs.declared.report.Cause.TheVariants.{Done, NotYet, MergeRefused, HostFault, KernelRefused, Damaged, OutOfMemory}
 
 -- the host has a network, of which this holds
 pub record HasNetwork (host : HostView) (P : NetData → Type 0) : Type 0 where

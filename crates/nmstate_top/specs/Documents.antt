@@ -1,9 +1,9 @@
 -- The documents of the first form, by the value that serde_json gives the bytes: a map with the one key `interfaces`, a
 -- list of one map, which has `name`, may have `type` and `mtu`, and has no other key.
-use Rattle.std.specs.Prelude.{◌≡◌, ◌&&◌, ◌||◌, ◌==◌, ◌<◌, ℕ, List, Bool, true, false, Option, Some, None, option_map, option_and_then, Result, Ok, Err, if◌then◌else◌, codes, length, nat_lt, nat_le, is_some}
+use Rattle.std.specs.Prelude.{◌≡◌, ◌&&◌, ◌||◌, ℕ, Bool, true, false, Option, Some, None, option_and_then, Result, Ok, Err, if◌then◌else◌, codes, length, nat_lt, is_some}
 use Rattle.std.specs.Str.{bytes_eq, is_utf8}
-use Rattle.serde_json.specs.Data.{Data, null, boolean, number, string, array, object, unsigned, Items, no_items, item, Members, no_members, member}
-use Rattle.serde_json.specs.Find.{get, at, as_str, as_u64, as_array, as_object, as_number}
+use Rattle.serde_json.specs.Data.{Data, object, Members, no_members, member}
+use Rattle.serde_json.specs.Find.{get, at, as_str, as_u64, as_number}
 use Rattle.serde_json.specs.Read.{read}
 use Rattle.doc_tree.specs.declared.limits.TheConstants.{MAX_BYTES}
 use Rattle.net_model.specs.Name.{is_name}

@@ -1,5 +1,5 @@
 -- The bytes that are read of an input.
-use Rattle.std.specs.Prelude.{◌≡◌, ◌≤◌, ◌<◌, ◌++◌, ℕ, List, [], Bool, true, false, Result, Ok, Err, Some, None, length, take}
+use Rattle.std.specs.Prelude.{◌≡◌, ◌≤◌, ◌<◌, ◌++◌, ℕ, [], Bool, true, false, Result, Ok, Err, Some, None, length, take}
 use Rattle.host_core.specs.Faults.{Rose}
 use Rattle.host_core.specs.Streams.{SourceView}
 use Rattle.nmstate_top.specs.Words.{Text}

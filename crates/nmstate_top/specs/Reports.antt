@@ -7,7 +7,7 @@ use Rattle.nmstate_top.specs.Words.{Text}
 use Rattle.nmstate_top.specs.Texts.{status_of, text_of}
 use Rattle.nmstate_top.specs.declared.report.Report.{Report}
 use Rattle.nmstate_top.specs.declared.report.Cause.{Cause}
-use Rattle.nmstate_top.specs.declared.report.Cause.TheVariants.{Done, NotYet, MergeRefused, Usage, NoSuchName, ReadFault, WriteFault, HostFault, KernelRefused, Damaged, OutOfMemory}
+use Rattle.nmstate_top.specs.declared.report.Cause.TheVariants.{Done, WriteFault}
 
 -- a text was written to a sink, or at a fault a prefix of it
 pub record Writes (tells : Type 0) (text : Text) (old new : SinkView) (result : Result ⊤ Failed) : Type 0 where

@@ -1,4 +1,4 @@
-use Rattle.std.proofs.Common.{◌≡◌, ◌∙◌, true, Some, List, rules, ap, sym, refl}
+use Rattle.std.proofs.Common.{◌≡◌, ◌∙◌, true, List, rules, ap, sym}
 use Rattle.std.specs.Prelude.{Ok}
 use Rattle.kernel_model.specs.Words.{has_link}
 use Rattle.net_model.specs.Valid.{mtu_in_range}

@@ -1,7 +1,7 @@
-use Rattle.std.proofs.Common.{◌≡◌, ◌∙◌, sym, subst, None, Some, Option}
+use Rattle.std.proofs.Common.{◌∙◌, sym, subst, Some, Option}
 use Rattle.std.specs.Prelude.{Ok}
 use Rattle.net_model.specs.declared.Call.{Call}
-use Rattle.nmstate_top.specs.Merge.{Changes, Leads, broken_rule}
+use Rattle.nmstate_top.specs.Merge.{Changes}
 use Rattle.nmstate_top.proofs.ChangeLemmas.{changes}
 use Rattle.nmstate_top.proofs.run.change_host.Goals as goal
 
