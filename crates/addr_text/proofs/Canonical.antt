@@ -1,9 +1,8 @@
 -- The run that is shortened is the longest and the first.
 use Rattle.std.proofs.Common.{◌≡◌, ℕ, ◌+◌, ◌<◌, ◌≤◌, ◌==◌, nat_le, List, [], ◌∷◌, length, slice_index, refl, sym, ◌∙◌, subst, arith, suc, zero, inl, inr, add-one, eqb-true}
-use Rattle.std.proofs.lemmas.Bool.{cond-true, cond-false, leb-true}
+use Rattle.std.proofs.lemmas.Bool.{cond-true, cond-false, leb-true, cases_Bool}
 use Rattle.std.proofs.lemmas.Bool.Decides.{nat_tests}
 use Rattle.addr_text.specs.V6Text.{fields_text, zeros, longest, first_run, shortened, compressed, IsZeroRun, IsCanonical}
-use Rattle.addr_text.proofs.lemmas.Cases.{either}
 use Rattle.addr_text.proofs.Runs.{zeros_within}
 
 -- a run behind the first field
@@ -50,7 +49,7 @@ longest_most (f ∷ fs) (suc s) n r = let h : n ≤ longest fs = longest_most fs
 chosen_run : (fs : List ℕ) (n : ℕ) → n ≡ longest fs → IsZeroRun fs (first_run n fs) n
 chosen_run [] n e = record { within = omega arith; zero = λ k h. absurd (omega arith) }
 chosen_run (f ∷ fs) n e =
-    elim (either (zeros (f ∷ fs) == n)) [
+    elim (cases_Bool (zeros (f ∷ fs) == n)) [
       | inl k ↦
           let z : first_run n (f ∷ fs) ≡ 0 = cond-true (zeros (f ∷ fs) == n) 0 (first_run n fs + 1) k in
           subst (λ s. IsZeroRun (f ∷ fs) s n) (sym z) (front_run (f ∷ fs) n (sym (eqb-true (zeros (f ∷ fs)) n k)))
@@ -64,7 +63,7 @@ chosen_first : (fs : List ℕ) (n s : ℕ) → n ≡ longest fs → IsZeroRun fs
 chosen_first [] n s e r = omega arith
 chosen_first (f ∷ fs) n zero e r = let h : n ≤ zeros (f ∷ fs) = at_front (f ∷ fs) n r in grind (arith, nat_tests)
 chosen_first (f ∷ fs) n (suc s) e r =
-    elim (either (zeros (f ∷ fs) == n)) [
+    elim (cases_Bool (zeros (f ∷ fs) == n)) [
       | inl k ↦
           let z : first_run n (f ∷ fs) ≡ 0 = cond-true (zeros (f ∷ fs) == n) 0 (first_run n fs + 1) k in
           omega arith
@@ -76,7 +75,7 @@ chosen_first (f ∷ fs) n (suc s) e r =
 
 pub compressed_canonical : (fs : List ℕ) → IsCanonical fs (compressed fs)
 compressed_canonical fs =
-    elim (either (nat_le (longest fs) 1)) [
+    elim (cases_Bool (nat_le (longest fs) 1)) [
       | inl e ↦
           let few : longest fs ≤ 1 = leb-true (longest fs) 1 e in
           inr (

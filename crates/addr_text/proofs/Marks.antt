@@ -1,5 +1,6 @@
 -- Parts hold no sign that stands between them.
 use Rattle.std.proofs.Common.{◌≡◌, ℕ, ◌+◌, ◌/◌, ◌%◌, ◌<◌, ◌==◌, ◌⊎◌, Bool, true, false, not, ◌&&◌, nat_le, List, [], ◌∷◌, ◌++◌, Option, Some, None, length, take, drop, eqb-true, refl, ap, sym, ◌∙◌, subst, arith, suc, inl, inr, append_assoc, length-append, cond, ◌^◌}
+use Rattle.std.proofs.lemmas.Bool.{and_parts, not-true}
 use Rattle.std.proofs.lemmas.List.{append-nil}
 use Rattle.std.proofs.lemmas.Bool.Decides.{nat_tests, eqb_tells}
 use Rattle.std.specs.Fmt.{decimal}
@@ -10,7 +11,6 @@ use Rattle.addr_text.specs.Dotted.{IsDotted, dotted}
 use Rattle.addr_text.specs.Find.{gap_of, begins_with}
 use Rattle.addr_text.specs.Parts.{joined}
 use Rattle.addr_text.specs.V6.{AreFields, IsRun}
-use Rattle.addr_text.proofs.lemmas.Cases.{both, untrue}
 use Rattle.addr_text.proofs.lemmas.Numbers.{decimal_lacks_colon}
 use Rattle.addr_text.proofs.lemmas.Split.{lacks}
 
@@ -25,13 +25,13 @@ differs p x s h k =
 pub lacks-all : (p : ℕ → Bool) (s : ℕ) (xs : List ℕ) → p s ≡ false → list_all p xs ≡ true → lacks s xs ≡ true
 lacks-all p s [] k h = refl
 lacks-all p s (x ∷ xs) k h =
-    let b = both (p x) (list_all p xs) h in
+    let b = and_parts (p x) (list_all p xs) h in
     rw (differs p x s b.0 k) (lacks-all p s xs k b.1)
 
 pub lacks-append : (s : ℕ) (xs ys : List ℕ) → lacks s xs ≡ true → lacks s ys ≡ true → lacks s (xs ++ ys) ≡ true
 lacks-append s [] ys h k = k
 lacks-append s (x ∷ xs) ys h k =
-    let b = both (not (x == s)) (lacks s xs) h in
+    let b = and_parts (not (x == s)) (lacks s xs) h in
     rw b.0 (lacks-append s xs ys b.1 k)
 
 -- not empty, and without a colon
@@ -45,7 +45,7 @@ are_parts (p ∷ ps) = is_part p && are_parts ps
 field_part : (p : List ℕ) → is_field p ≡ true → is_part p ≡ true
 field_part [] h = cc
 field_part (x ∷ xs) h =
-    let b = both (nat_le 1 (length (x ∷ xs)) && nat_le (length (x ∷ xs)) 4) (list_all is_hex_digit (x ∷ xs)) h in
+    let b = and_parts (nat_le 1 (length (x ∷ xs)) && nat_le (length (x ∷ xs)) 4) (list_all is_hex_digit (x ∷ xs)) h in
     let l : lacks 58 (x ∷ xs) ≡ true = lacks-all is_hex_digit 58 (x ∷ xs) refl b.1 in
     let n : not (length (x ∷ xs) == 0) ≡ true = grind (arith, nat_tests) in
     ap (λ c. c && not (length (x ∷ xs) == 0)) l ∙ n
@@ -91,39 +91,39 @@ gap_tail false (Some i) h = cc
 gap_lacks : (p t : List ℕ) → lacks 58 p ≡ true → gap_of t ≡ None → gap_of (p ++ t) ≡ None
 gap_lacks [] t h k = k
 gap_lacks (x ∷ p) t h k =
-    let b = both (not (x == 58)) (lacks 58 p) h in
-    gap_step (begins_with 58 (p ++ t)) (x == 58) (gap_of (p ++ t)) (untrue (x == 58) b.0) (gap_lacks p t b.1 k)
+    let b = and_parts (not (x == 58)) (lacks 58 p) h in
+    gap_step (begins_with 58 (p ++ t)) (x == 58) (gap_of (p ++ t)) (not-true (x == 58) b.0) (gap_lacks p t b.1 k)
 
 gap_colon : (t : List ℕ) → begins_with 58 t ≡ false → gap_of t ≡ None → gap_of (58 ∷ t) ≡ None
 gap_colon t e f = ap (λ b. cond (b && true) (Some 0) (option_map suc (gap_of t))) e ∙ ap (option_map suc) f
 
 begins_lacks : (p t : List ℕ) → is_part p ≡ true → begins_with 58 (p ++ t) ≡ false
 begins_lacks [] t h = cc
-begins_lacks (x ∷ p) t h = untrue (x == 58) (both (not (x == 58)) (lacks 58 p) (both (lacks 58 (x ∷ p)) (not (length (x ∷ p) == 0)) h).0).0
+begins_lacks (x ∷ p) t h = not-true (x == 58) (and_parts (not (x == 58)) (lacks 58 p) (and_parts (lacks 58 (x ∷ p)) (not (length (x ∷ p) == 0)) h).0).0
 
 begins_joined : (p : List ℕ) (ps : List (List ℕ)) (t : List ℕ) → is_part p ≡ true → begins_with 58 (joined 58 (p ∷ ps) ++ t) ≡ false
 begins_joined p [] t h = begins_lacks p t h
 begins_joined p (q ∷ ps) t h = subst (λ u. begins_with 58 u ≡ false) (sym (append_assoc p (58 ∷ joined 58 (q ∷ ps)) t)) (begins_lacks p (58 ∷ joined 58 (q ∷ ps) ++ t) h)
 
 part_lacks : (p : List ℕ) → is_part p ≡ true → lacks 58 p ≡ true
-part_lacks p h = (both (lacks 58 p) (not (length p == 0)) h).0
+part_lacks p h = (and_parts (lacks 58 p) (not (length p == 0)) h).0
 
 -- parts with a colon behind them hold no two colons
 pub parts_gap : (p : List ℕ) (ps : List (List ℕ)) → are_parts (p ∷ ps) ≡ true → gap_of (joined 58 (p ∷ ps) ++ 58 ∷ []) ≡ None
-parts_gap p [] h = gap_lacks p (58 ∷ []) (part_lacks p (both (is_part p) true h).0) refl
+parts_gap p [] h = gap_lacks p (58 ∷ []) (part_lacks p (and_parts (is_part p) true h).0) refl
 parts_gap p (q ∷ ps) h =
-    let b = both (is_part p) (are_parts (q ∷ ps)) h in
-    let c = both (is_part q) (are_parts ps) b.1 in
+    let b = and_parts (is_part p) (are_parts (q ∷ ps)) h in
+    let c = and_parts (is_part q) (are_parts ps) b.1 in
     let rest = joined 58 (q ∷ ps) ++ 58 ∷ [] in
     subst (λ u. gap_of u ≡ None) (sym (append_assoc p (58 ∷ joined 58 (q ∷ ps)) (58 ∷ [])))
     (gap_lacks p (58 ∷ rest) (part_lacks p b.0) (gap_colon rest (begins_joined q ps (58 ∷ []) c.0) (parts_gap q ps b.1)))
 
 pub joined_gap : (ps : List (List ℕ)) → are_parts ps ≡ true → gap_of (joined 58 ps) ≡ None
 joined_gap [] h = refl
-joined_gap (p ∷ []) h = subst (λ u. gap_of u ≡ None) (append-nil p) (gap_lacks p [] (part_lacks p (both (is_part p) true h).0) refl)
+joined_gap (p ∷ []) h = subst (λ u. gap_of u ≡ None) (append-nil p) (gap_lacks p [] (part_lacks p (and_parts (is_part p) true h).0) refl)
 joined_gap (p ∷ q ∷ ps) h =
-    let b = both (is_part p) (are_parts (q ∷ ps)) h in
-    let c = both (is_part q) (are_parts ps) b.1 in
+    let b = and_parts (is_part p) (are_parts (q ∷ ps)) h in
+    let c = and_parts (is_part q) (are_parts ps) b.1 in
     let rest = joined 58 (q ∷ ps) in
     gap_lacks p (58 ∷ rest) (part_lacks p b.0) (gap_colon rest (subst (λ u. begins_with 58 u ≡ false) (append-nil rest) (begins_joined q ps [] c.0)) (joined_gap (q ∷ ps) b.1))
 
@@ -149,7 +149,7 @@ gap-split (x ∷ []) i h = cc
 gap-split (x ∷ y ∷ r) i h =
     elim (gap_cases ((y == 58) && (x == 58)) (gap_of (y ∷ r)) i h) [
       | inl e ↦
-          let b = both (y == 58) (x == 58) e.0 in
+          let b = and_parts (y == 58) (x == 58) e.0 in
           rw (e.1, eqb-true y 58 b.0, eqb-true x 58 b.1) refl
       | inr e ↦
           let j = e.0 in

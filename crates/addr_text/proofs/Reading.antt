@@ -1,6 +1,6 @@
 -- The reader of IPv6 texts gives a number exactly where the grammar relates it to the text.
 use Rattle.std.proofs.Common.{◌≡◌, ◌≢◌, ℕ, ◌+◌, ◌-◌, ◌*◌, ◌/◌, ◌%◌, ◌^◌, ◌<◌, ◌≤◌, ◌==◌, Bool, true, false, not, ◌&&◌, nat_le, List, [], ◌∷◌, ◌++◌, Option, Some, None, length, take, drop, refl, ap, sym, ◌∙◌, arith, suc, zero, inl, inr, add-one, eqb-true, eq-eqb, cond}
-use Rattle.std.proofs.lemmas.Bool.{cond-true, le-leb}
+use Rattle.std.proofs.lemmas.Bool.{cond-true, le-leb, and_parts}
 use Rattle.std.specs.Fmt.{decimal}
 use Rattle.std.specs.List.{position, list_all}
 use Rattle.std.specs.Option.{option_map}
@@ -13,7 +13,7 @@ use Rattle.addr_text.specs.Find.{at_place}
 use Rattle.addr_text.specs.Parts.{joined}
 use Rattle.addr_text.specs.V6.{IsField, AreFields, IsTail, IsRun, fields_number, IsWhole}
 use Rattle.addr_text.specs.V6Reader.{fields, tail_of, end_of, field_before, run_of, all_eight, whole_of, short_of, v6_of}
-use Rattle.addr_text.proofs.lemmas.Cases.{placed_or_none, mapped, kept, both}
+use Rattle.addr_text.proofs.lemmas.Cases.{placed_or_none, mapped, kept}
 use Rattle.addr_text.proofs.Marks.{lacks-all, is_part, are_parts, fields_parts, run_parts, joined_gap}
 use Rattle.addr_text.proofs.lemmas.Numbers.{decimal_lacks_dot}
 use Rattle.addr_text.proofs.lemmas.Octets.{dotted_complete, dotted_sound}
@@ -123,7 +123,7 @@ not_passed false x h = refl
 -- an IPv4 address isn't a field
 dotted_not_field : (t : List ℕ) (n : ℕ) → IsDotted t n → field_of t ≡ None
 dotted_not_field t n h = not_passed (is_field t) (number 16 t) (λ e.
-    let b = both (nat_le 1 (length t) && nat_le (length t) 4) (list_all is_hex_digit t) e in
+    let b = and_parts (nat_le 1 (length t) && nat_le (length t) 4) (list_all is_hex_digit t) e in
     let top : n / 2 ^ 24 < 256 = omega (arith, h.0) in
     let a = decimal (n / 2 ^ 24) in
     let rest = joined 46 (decimal (n / 2 ^ 16 % 256) ∷ decimal (n / 2 ^ 8 % 256) ∷ decimal (n % 256) ∷ []) in
@@ -131,7 +131,7 @@ dotted_not_field t n h = not_passed (is_field t) (number 16 t) (λ e.
     let no : ⊥ = cc in no)
 
 parts_lack : (p : List ℕ) (ps : List (List ℕ)) → are_parts (p ∷ ps) ≡ true → lacks 58 p ≡ true
-parts_lack p ps h = (both (lacks 58 p) (not (length p == 0)) (both (is_part p) (are_parts ps) h).0).0
+parts_lack p ps h = (and_parts (lacks 58 p) (not (length p == 0)) (and_parts (is_part p) (are_parts ps) h).0).0
 
 pub runof_parts : (last : Last) (ps : List (List ℕ)) (vs : List ℕ) → IsRunOf last ps vs → are_parts ps ≡ true
 runof_parts Field ps vs h = fields_parts ps vs h

@@ -1,8 +1,7 @@
 -- Runs of zero fields: where they lie, and that nothing else stands in them.
 use Rattle.std.proofs.Common.{◌≡◌, ℕ, ◌+◌, ◌≤◌, ◌==◌, List, [], ◌∷◌, ◌++◌, length, take, drop, replicate, refl, ap, sym, ◌∙◌, subst, arith, suc, add-one, eqb-true, inl, inr}
-use Rattle.std.proofs.lemmas.Bool.{cond-true, cond-false}
+use Rattle.std.proofs.lemmas.Bool.{cond-true, cond-false, cases_Bool}
 use Rattle.std.proofs.lemmas.Bool.Decides.{nat_tests}
-use Rattle.addr_text.proofs.lemmas.Cases.{either}
 use Rattle.addr_text.specs.V6Text.{zeros, longest, first_run}
 
 pub zeros_within : (fs : List ℕ) → zeros fs ≤ length fs
@@ -18,7 +17,7 @@ run_within (f ∷ fs) n e = grind (arith, zeros_within (f ∷ fs), run_within fs
 zeros_front : (fs : List ℕ) → replicate (zeros fs) 0 ++ drop (zeros fs) fs ≡ fs
 zeros_front [] = refl
 zeros_front (f ∷ fs) =
-    elim (either (f == 0)) [
+    elim (cases_Bool (f == 0)) [
       | inl e ↦
           let z : zeros (f ∷ fs) ≡ suc (zeros fs) = cond-true (f == 0) (zeros fs + 1) 0 e ∙ add-one (zeros fs) in
           rw z (rw (eqb-true f 0 e) (ap (λ u. 0 ∷ u) (zeros_front fs)))
@@ -31,7 +30,7 @@ zeros_front (f ∷ fs) =
 pub run_whole : (fs : List ℕ) (n : ℕ) → n ≡ longest fs → take (first_run n fs) fs ++ replicate n 0 ++ drop (first_run n fs + n) fs ≡ fs
 run_whole [] n e = rw e refl
 run_whole (f ∷ fs) n e =
-    elim (either (zeros (f ∷ fs) == n)) [
+    elim (cases_Bool (zeros (f ∷ fs) == n)) [
       | inl k ↦
           let z : first_run n (f ∷ fs) ≡ 0 = cond-true (zeros (f ∷ fs) == n) 0 (first_run n fs + 1) k in
           let s : zeros (f ∷ fs) ≡ n = eqb-true (zeros (f ∷ fs)) n k in

@@ -4,7 +4,7 @@ ghost use Rattle.std.specs.Char.{digit_value};
 ghost use Rattle.std.specs.List.{list_all};
 ghost use Rattle.addr_text.specs.Digits.{is_hex_digit, is_decimal_digit, field_of, octet_of, number};
 
-/// What the byte is worth as a digit, and 36 where it is none.
+// What the byte is worth as a digit, and 36 where it is none.
 pub(crate) fn digit(byte: u8) -> u32
     ensures value { result ≡ digit_value byte }
     ensures bound { result ≤ 36 }
@@ -61,7 +61,7 @@ fn decimal_number(text: &[u8]) -> u32
     }
 }
 
-/// One to four hexadecimal digits.
+// One to four hexadecimal digits.
 pub(crate) fn read_field(text: &[u8]) -> Option<u16>
     ensures value { result ≡ field_of text.now }
     ensures bound { IfSome result (λ n. n < 65536) }

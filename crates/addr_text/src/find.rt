@@ -3,7 +3,7 @@ ghost use Rattle.std.specs.Prelude.{◌≡◌, ◌==◌, ◌&&◌, ◌<◌, ◌�
 ghost use Rattle.std.specs.List.{position};
 ghost use Rattle.addr_text.specs.Find.{gap_of};
 
-/// The place of the first byte that is the sign.
+// The place of the first byte that is the sign.
 pub(crate) fn find_sign(text: &[u8], sign: u8) -> Option<usize>
     ensures place { result ≡ position (λ b. b == sign) text.now }
     ensures inside { IfSome result (λ i. i < length text.now) }
@@ -17,7 +17,7 @@ fn are_colons(first: u8, second: u8) -> bool
     second == b':' && first == b':'
 }
 
-/// The place of the first two colons.
+// The place of the first two colons.
 pub(crate) fn find_gap(text: &[u8]) -> Option<usize>
     ensures place { result ≡ gap_of text.now }
     ensures inside { IfSome result (λ i. i + 1 < length text.now) }
@@ -32,7 +32,7 @@ pub(crate) fn find_gap(text: &[u8]) -> Option<usize>
     None
 }
 
-/// What stands from the place on.
+// What stands from the place on.
 pub(crate) fn behind(text: &[u8], place: usize) -> &[u8]
     requires { place ≤ length text.now }
     ensures { result.now ≡ drop place text.now }

@@ -7,14 +7,14 @@ use crate::digits::read_field;
 use crate::dotted::read_dotted;
 use crate::find::{behind, find_gap, find_sign};
 
-/// What the last part of a run may be.
+// What the last part of a run may be.
 #[derive(Clone, Copy, Debug, PartialEq, Eq)]
 pub(crate) enum Last {
     Field,
     FieldOrDotted,
 }
 
-/// Fields that were read: how many, and the number that they make.
+// Fields that were read: how many, and the number that they make.
 #[derive(Clone, Copy, Debug)]
 pub(crate) struct Fields {
     count: u32,

@@ -1,7 +1,7 @@
 -- The value of a tree: in the order of its keys, with no float, and the tree again.
 use Rattle.std.proofs.Common.{◌≡◌, ◌∙◌, ◌≤◌, ◌^◌, ◌&&◌, ◌||◌, ℕ, suc, max, ℤ, pos, negsuc, List, Bool, true, false, not, Some, None, Ordering, Less, Equal, Greater, bytes_eq, refl, ap, ap₂, arith}
 use Rattle.std.specs.Prelude.{unwrap_or, is_some, nat_lt, if◌then◌else◌}
-use Rattle.std.proofs.lemmas.Bool.{and_from, and_parts}
+use Rattle.std.proofs.lemmas.Bool.{and_from, and_parts, or_from}
 use Rattle.std.proofs.lemmas.Cmp.{nat_list_eq_equiv}
 use Rattle.std.proofs.lemmas.Map.Text.{is_eq-slice_cmp}
 use Rattle.std.specs.Ordering.{nat_cmp, match_ordering, is_lt, is_eq}
@@ -142,9 +142,6 @@ mutual
 
 -- ---- it has no float
 
-neither : (a b : Bool) → a ≡ false → b ≡ false → (a || b) ≡ false
-neither a b p q = rw (p, q) refl
-
 plain_number : (z : ℤ) → has_float (unwrap_or (number_of z) null) ≡ false
 plain_number (pos n) = go (nat_lt n (2 ^ 64)) where
   go : (b : Bool) → has_float (unwrap_or (if b then Some (number (unsigned n)) else None) null) ≡ false
@@ -166,11 +163,11 @@ mutual
 
   items_have_float-items_of : (ss : Shapes) → items_have_float (items_of ss) ≡ false
   items_have_float-items_of no_shapes = refl
-  items_have_float-items_of (more s ss) = neither (has_float (data_of s)) (items_have_float (items_of ss)) (has_float-data_of s) (items_have_float-items_of ss)
+  items_have_float-items_of (more s ss) = or_from (has_float (data_of s)) (items_have_float (items_of ss)) (has_float-data_of s) (items_have_float-items_of ss)
 
   members_have_float-members_of : (ps : Pairs) → members_have_float (members_of ps) ≡ false
   members_have_float-members_of no_pairs = refl
-  members_have_float-members_of (pair k s ps) = neither (has_float (data_of s)) (members_have_float (members_of ps)) (has_float-data_of s) (members_have_float-members_of ps)
+  members_have_float-members_of (pair k s ps) = or_from (has_float (data_of s)) (members_have_float (members_of ps)) (has_float-data_of s) (members_have_float-members_of ps)
 
 -- ---- it nests no deeper than the tree
 

@@ -29,7 +29,7 @@ pub enum JsonFault {
     OutOfMemory,
 }
 
-/// Why a value gives no tree: a number that isn't whole, with the steps to it, the last step first; or too many levels.
+// Why a value gives no tree: a number that isn't whole, with the steps to it, the last step first; or too many levels.
 #[derive(Drop)]
 enum Stop {
     NotWhole(Vec<PathStep>),
@@ -57,7 +57,7 @@ impl Stop {
     ghost use Rattle.base_model.specs.declared.path.PathStep.TheVariants.{At};
     ghost use Rattle.doc_tree.specs.Reading.{IsBelow};
 
-    /// The same, seen from the node above.
+    // The same, seen from the node above.
     fn below(self, step: PathStep) -> Stop
         ensures { IsBelow step self result }
     {
@@ -71,8 +71,8 @@ impl Stop {
         }
     }
 
-    /// The same, seen from the list in which the item stands at position `i`. A text within the limit has no list so
-    /// long that a position doesn't fit a step.
+    // The same, seen from the list in which the item stands at position `i`. A text within the limit has no list so
+    // long that a position doesn't fit a step.
     fn below_item(self, i: usize) -> Stop
         ensures { IsBelow (At i) self result }
     {
@@ -83,7 +83,7 @@ impl Stop {
     }
 }
 
-/// Whether a value has at most so many levels.
+// Whether a value has at most so many levels.
 #[cycle(levels)]
 fn fits(value: &Value, room: usize) -> bool
     ensures { result ≡ within room (view value.now) }
@@ -131,7 +131,7 @@ fn integer_of(number: &Number) -> Option<i128>
     }
 }
 
-/// The tree of a value of at most so many levels. The value's texts and keys move into the tree.
+// The tree of a value of at most so many levels. The value's texts and keys move into the tree.
 #[cycle(trees)]
 fn tree_of(alloc: Global, value: Value, room: usize) -> Result<Tree, Stop>
     ensures { MakesTree room (view value) result }
@@ -181,7 +181,7 @@ fn pairs_of(alloc: Global, members: Map<String, Value>, room: usize) -> Result<V
     Ok(pairs)
 }
 
-/// The value of a JSON text.
+// The value of a JSON text.
 fn value_of(alloc: Global, bytes: &[u8]) -> Result<Value, JsonFault>
     ensures { ReadsValue bytes.now result }
 {
@@ -192,8 +192,8 @@ fn value_of(alloc: Global, bytes: &[u8]) -> Result<Value, JsonFault>
     }
 }
 
-/// The fault of a text whose value has a number that isn't whole: a node too deep, which may stand behind the number,
-/// comes before it, so the text is read again and looked at as a whole.
+// The fault of a text whose value has a number that isn't whole: a node too deep, which may stand behind the number,
+// comes before it, so the text is read again and looked at as a whole.
 fn fault_at(alloc: Global, bytes: &[u8], mut steps: Vec<PathStep>) -> JsonFault
     ensures { IsFaultAt bytes.now (reverse steps.items) result }
 {

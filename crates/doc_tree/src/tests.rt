@@ -13,7 +13,7 @@ fn text_of(alloc: Global, text: &str) -> Result<Str, AllocError>
     Ok(Str::of(String::from_str(alloc, text)?))
 }
 
-/// What reading a text answers: the compact text of the tree, or the fault with its path.
+// What reading a text answers: the compact text of the tree, or the fault with its path.
 fn outcome(alloc: Global, text: &[u8]) -> Result<Vec<u8>, Fail> {
     match tree_of_json(alloc, text) {
         Ok(tree) => Ok(json_of_tree(alloc, &tree)?),
@@ -123,7 +123,7 @@ fn reads_and_refuses_texts(rt: HostRuntime) -> Result<(), Fail> {
     Ok(())
 }
 
-/// So many times `open`, then `inner`, and as often `close`.
+// So many times `open`, then `inner`, and as often `close`.
 fn nested(
     alloc: Global,
     times: u32,
@@ -195,14 +195,14 @@ fn holds_texts_to_the_limit(rt: HostRuntime) -> Result<(), Fail> {
     Ok(())
 }
 
-/// A map of one pair.
+// A map of one pair.
 fn single(alloc: Global, key: &str, value: Tree) -> Result<Tree, AllocError>
     ensures { IfOk result (λ tree. is_distinct (shape value) ≡ true → is_distinct (shape tree) ≡ true) }
 {
     Ok(Tree::Map(vec![in alloc; (text_of(alloc, key)?, value)]?))
 }
 
-/// A map of two pairs, the first of 1 and the second of 2.
+// A map of two pairs, the first of 1 and the second of 2.
 fn double(alloc: Global, first: &str, second: &str) -> Result<Tree, AllocError>
     requires { bytes_eq first.now second.now ≡ false }
     ensures { IfOk result (λ tree. is_distinct (shape tree) ≡ true) }

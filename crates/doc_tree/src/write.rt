@@ -39,7 +39,7 @@ impl<T: Drop> From<AllocFailed<T>> for TextFault {
     }
 }
 
-/// The number, where it fits u64 or i64.
+// The number, where it fits u64 or i64.
 fn number_of(n: i128) -> Option<Value>
     ensures { option_map view result ≡ number_of n }
 {
@@ -52,7 +52,7 @@ fn number_of(n: i128) -> Option<Value>
     }
 }
 
-/// The value of a tree.
+// The value of a tree.
 #[cycle(values)]
 fn value_of(alloc: Global, tree: &Tree) -> Result<Value, TextFault>
     ensures { MakesValue (shape tree.now) result }

@@ -1,14 +1,15 @@
 -- The bytes that are read of an input.
-use Rattle.std.specs.Prelude.{◌≡◌, ◌≤◌, ◌<◌, ◌++◌, ℕ, [], Bool, true, false, Result, Ok, Err, Some, None, length, take}
+use Rattle.std.specs.Prelude.{◌+◌, ◌≡◌, ◌≤◌, ◌<◌, ◌++◌, ℕ, List, [], Bool, true, false, Result, Ok, Err, Some, None, length, take}
 use Rattle.host_core.specs.Faults.{Rose}
 use Rattle.host_core.specs.Streams.{SourceView}
+use Rattle.doc_tree.specs.declared.limits.TheConstants.{MAX_BYTES}
 use Rattle.nmstate_top.specs.Words.{Text}
 use Rattle.nmstate_top.specs.declared.report.Cause.{Cause}
 use Rattle.nmstate_top.specs.declared.report.Cause.TheVariants.{NoSuchName, ReadFault, OutOfMemory}
 
 -- the limit of a document and one byte
 abbrev pub read_limit : ℕ
-read_limit = 4194305
+read_limit = MAX_BYTES + 1
 
 -- where the source tells its inputs, these are the bytes under the name, up to the limit and one
 abbrev pub HasRead : Type 0 → Text → SourceView → Text → Type 0

@@ -3,11 +3,12 @@ ghost use Rattle.std.specs.Prelude.{◌≡◌, ◌≤◌, ◌<◌, length, Match
 ghost use Rattle.nmstate_top.specs.Inputs.{HasRead, FailsToRead, ReadsPiece};
 
 use crate::Cause;
+use doc_tree::MAX_BYTES;
 use host_core::{Failed, Source, StartFault};
 use std::alloc::Global;
 
 /// A document has at least one byte less, so that one that passes its limit is seen to.
-const READ_LIMIT: usize = 4_194_305;
+const READ_LIMIT: usize = MAX_BYTES + 1;
 
 const PIECE: usize = 4096;
 

@@ -1,7 +1,7 @@
 -- What stands so is read, and so no other tree stands for the rows.
 use Rattle.std.proofs.Common.{◌≡◌, ◌≢◌, ℕ, zero, suc, ◌+◌, ◌<◌, ◌≤◌, Bool, true, false, not, cond, eqb, ltb, List, [], ◌∷◌, ◌++◌, length, Option, Some, None, Ok, refl, sym, ap, subst, ◌∙◌, append_assoc, arith, inl, inr, length-append}
 use Rattle.std.specs.Prelude.{◌&&◌, ◌||◌, option_map}
-use Rattle.std.proofs.lemmas.Bool.{false≢true, eqb-true, ltb-true, ltb-false, le-ltb, ne_eqb, and_parts, and_right, or_cases, cases_Bool}
+use Rattle.std.proofs.lemmas.Bool.{false≢true, eqb-true, ltb-true, ltb-false, le-ltb, ne_eqb, and_parts, and_right, or_cases, cases_Bool, or_parts}
 use Rattle.std.proofs.lemmas.List.{append-nil}
 use Rattle.doc_tree.specs.Shape.{Shape, nothing, truth, whole, text, list, mapping, Shapes, no_shapes, more, Pairs, no_pairs, pair, shapes_of, pairs_of}
 use Rattle.yaml_read.specs.Bytes.{tail, at_gap}
@@ -129,10 +129,6 @@ Before-any (text s) c rows b = tt
 Before-any (list ts) c rows b = Before-sequence c rows b
 Before-any (mapping ps) c rows b = Before-map c rows b
 
-or_false : (x y : Bool) → (x || y) ≡ false → (x ≡ false) × (y ≡ false)
-or_false true y is = absurd (false≢true (sym is))
-or_false false y is = (refl, is)
-
 -- rows that aren't deeper begin before a deeper column
 not_deeper : (c d : ℕ) (rows : List Row) → c < d → begin_with (is_deeper c) rows ≡ false → Before d rows
 not_deeper c d [] lt is = tt
@@ -140,12 +136,12 @@ not_deeper c d (r ∷ rows) lt is = let le : r.column ≤ c = ltb-false c r.colu
 
 not_below : (c d : ℕ) (rows : List Row) → c < d → begin_with (is_below_key c) rows ≡ false → Before d rows
 not_below c d [] lt is = tt
-not_below c d (r ∷ rows) lt is = let le : r.column ≤ c = ltb-false c r.column (or_false (ltb c r.column) (own_dash c r) is).0 in omega arith
+not_below c d (r ∷ rows) lt is = let le : r.column ≤ c = ltb-false c r.column (or_parts (ltb c r.column) (own_dash c r) is).0 in omega arith
 
 not_below_sequence : (c : ℕ) (rows : List Row) → begin_with (is_below_key c) rows ≡ false → AfterSequence c rows
 not_below_sequence c [] is = tt
 not_below_sequence c (r ∷ rows) is =
-    let both = or_false (ltb c r.column) (own_dash c r) is in
+    let both = or_parts (ltb c r.column) (own_dash c r) is in
     (ltb-false c r.column both.0, both.1)
 
 heads : (a : Row) (xs : List Row) (b : Row) (bs : List Row) → a ∷ xs ≡ b ∷ bs → a ≡ b

@@ -2,7 +2,7 @@
 use Rattle.std.proofs.Common.{◌≡◌, ◌∙◌, ℕ, suc, ◌<◌, ◌≤◌, ◌^◌, Bool, true, false, not, eqb, ltb, ℤ, List, [], ◌∷◌, ◌++◌, refl, sym, ap, ap₂, subst, arith, inl, inr}
 use Rattle.std.specs.Prelude.{◌&&◌, ◌||◌}
 use Rattle.std.specs.Str.{bytes_eq}
-use Rattle.std.proofs.lemmas.Bool.{false≢true, lt-ltb, cases_Bool, and_from, and_parts, eqb-true, eq-eqb}
+use Rattle.std.proofs.lemmas.Bool.{false≢true, lt-ltb, cases_Bool, and_from, and_parts, eqb-true, eq-eqb, or_parts}
 use Rattle.std.proofs.lemmas.Slice.Eq.{bytes_eq-Decides}
 use Rattle.doc_tree.specs.Shape.{Shape, nothing, truth, whole, text, list, mapping, shapes_of, pairs_of, lacks, is_distinct, shapes_are_distinct, pairs_are_distinct, levels, shapes_levels, pairs_levels, item_count, has_short_lists, shapes_have_short_lists, pairs_have_short_lists}
 use Rattle.yaml_read.specs.Bytes.{is_same}
@@ -95,15 +95,11 @@ same_bytes k l = elim (cases_Bool (is_same l k)) as (λ _. bytes_eq k l ≡ is_s
   | inr other ↦ other_key k l other ∙ sym other
 ]
 
-or_none : (x y : Bool) → (x || y) ≡ false → (x ≡ false) × (y ≡ false)
-or_none true y is = absurd (false≢true (sym is))
-or_none false y is = (refl, is)
-
 -- a key that is not among these and one more is neither
 among_more : (k l : List ℕ) (keys : List (List ℕ)) → is_among l (keys ++ k ∷ []) ≡ false → (is_among l keys ≡ false) × (is_same l k ≡ false)
-among_more k l [] is = (refl, (or_none (is_same l k) false is).0)
+among_more k l [] is = (refl, (or_parts (is_same l k) false is).0)
 among_more k l (q ∷ keys) is =
-    let both = or_none (is_same l q) (is_among l (keys ++ k ∷ [])) is in
+    let both = or_parts (is_same l q) (is_among l (keys ++ k ∷ [])) is in
     let rest = among_more k l keys both.1 in
     (rw (both.0, rest.0) refl, rest.1)
 

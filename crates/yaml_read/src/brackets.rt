@@ -32,7 +32,7 @@ fn closing(bracket: &Bracket) -> u8
     }
 }
 
-/// The innermost bracket, and those round it.
+// The innermost bracket, and those round it.
 fn innermost(stack: Vec<Bracket>) -> Option<(Bracket, Vec<Bracket>)>
     ensures some { IfSome result (λ p. reverse stack.items ≡ p.0 ∷ reverse p.1.items) }
     ensures none { IfNone result (reverse stack.items ≡ []) }
@@ -42,7 +42,7 @@ fn innermost(stack: Vec<Bracket>) -> Option<(Bracket, Vec<Bracket>)>
     Some((bracket, round))
 }
 
-/// The brackets with one more in them.
+// The brackets with one more in them.
 fn opened(stack: Vec<Bracket>, bracket: Bracket) -> Result<Vec<Bracket>, AllocError>
     ensures { IfOk result (λ v. reverse v.items ≡ bracket ∷ reverse stack.items) }
 {
@@ -61,7 +61,7 @@ fn without_levels(text: &[u8]) -> Why
     }
 }
 
-/// Goes on behind a node, up to where the next entry of the innermost bracket may begin.
+// Goes on behind a node, up to where the next entry of the innermost bracket may begin.
 fn behind<'a>(
     alloc: Global,
     repeats: Repeats,
@@ -77,7 +77,7 @@ fn behind<'a>(
     Ok((opened(round, bracket)?, rest))
 }
 
-/// Goes on with the node that begins here.
+// Goes on with the node that begins here.
 fn node<'a>(
     alloc: Global,
     repeats: Repeats,
@@ -112,7 +112,7 @@ fn has_no_value(text: &[u8]) -> bool
     begins(b',', text) || begins(b'}', text)
 }
 
-/// Goes on with the value of a pair, from what stands behind the colon.
+// Goes on with the value of a pair, from what stands behind the colon.
 fn value<'a>(
     alloc: Global,
     repeats: Repeats,
@@ -132,7 +132,7 @@ fn value<'a>(
     node(alloc, repeats, levels, stack, at)
 }
 
-/// Goes on inside a list, with so many turns left, that these brackets are round.
+// Goes on inside a list, with so many turns left, that these brackets are round.
 fn list_turn<'a>(
     alloc: Global,
     repeats: Repeats,
@@ -154,7 +154,7 @@ fn list_turn<'a>(
     node(alloc, repeats, levels, more, at)
 }
 
-/// The same inside a map behind these pairs.
+// The same inside a map behind these pairs.
 fn map_turn<'a>(
     alloc: Global,
     repeats: Repeats,
@@ -179,7 +179,7 @@ fn map_turn<'a>(
     value(alloc, repeats, levels, more, rest)
 }
 
-/// Goes on inside a bracket that these are round.
+// Goes on inside a bracket that these are round.
 fn turn<'a>(
     alloc: Global,
     repeats: Repeats,

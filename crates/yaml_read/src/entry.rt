@@ -15,7 +15,7 @@ use crate::stop::{Repeats, Stop, Why};
 use crate::style::Style;
 use std::alloc::{AllocError, Global};
 
-/// The text behind the key that an entry begins with, if one does, or else the entry.
+// The text behind the key that an entry begins with, if one does, or else the entry.
 fn behind_key(alloc: Global, text: &[u8]) -> Result<&[u8], AllocError>
     ensures { IfOk result (λ r. r.now ≡ behind_key text.now (key Block text.now)) }
 {
@@ -25,7 +25,7 @@ fn behind_key(alloc: Global, text: &[u8]) -> Result<&[u8], AllocError>
     }
 }
 
-/// Why a list or map in brackets, behind which the line should be over, stops.
+// Why a list or map in brackets, behind which the line should be over, stops.
 fn stop_of_flow(
     alloc: Global,
     repeats: Repeats,
@@ -42,7 +42,7 @@ fn stop_of_flow(
     }
 }
 
-/// Why a value that doesn't begin with a bracket stops. It is read whole: it doesn't nest.
+// Why a value that doesn't begin with a bracket stops. It is read whole: it doesn't nest.
 fn stop_of_scalar(
     alloc: Global,
     repeats: Repeats,
@@ -58,7 +58,7 @@ fn stop_of_scalar(
     }
 }
 
-/// Why the value on a line stops.
+// Why the value on a line stops.
 #[tactic(auto, unfolding(crate::specs::OnLine::on_line))]
 fn stop_of_value(
     alloc: Global,

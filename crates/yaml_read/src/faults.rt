@@ -58,7 +58,7 @@ fn is_never_supported(row: &Row) -> bool
     is_outside(row) || has_two_dashes(&row.line)
 }
 
-/// Whether the line by itself lies outside the subset.
+// Whether the line by itself lies outside the subset.
 #[tactic(auto, unfolding(crate::specs::Faults::has_other))]
 fn has_other(alloc: Global, row: &Row) -> Result<bool, AllocError>
     ensures { IfOk result (λ b. b ≡ has_other (seen row.now)) }
@@ -72,7 +72,7 @@ fn has_other(alloc: Global, row: &Row) -> Result<bool, AllocError>
     is_other(alloc, entry_of(&row.line))
 }
 
-/// Whether a flow map on the line has a repeated key.
+// Whether a flow map on the line has a repeated key.
 #[tactic(auto, unfolding(crate::specs::Faults::has_repeat))]
 fn has_repeat(alloc: Global, row: &Row) -> Result<bool, AllocError>
     ensures { IfOk result (λ b. b ≡ has_repeat (seen row.now)) }

@@ -70,7 +70,7 @@ pub fn next_key<'a>(
     Ok((name, behind))
 }
 
-/// The rest of a list, of fewer items than turns.
+// The rest of a list, of fewer items than turns.
 #[cycle(flow)]
 fn flow_items<'a>(
     alloc: Global,
@@ -96,7 +96,7 @@ fn flow_items<'a>(
     Err(Stop::Because(Why::Unfit))
 }
 
-/// The value of a pair, and the text behind it, from what stands behind the colon.
+// The value of a pair, and the text behind it, from what stands behind the colon.
 #[cycle(flow)]
 #[tactic(auto, unfolding(crate::specs::Flow::flow_value))]
 fn flow_value<'a>(
@@ -117,7 +117,7 @@ fn flow_value<'a>(
     flow(alloc, repeats, levels, at)
 }
 
-/// The rest of a map, of fewer pairs than turns.
+// The rest of a map, of fewer pairs than turns.
 #[cycle(flow)]
 fn flow_pairs<'a>(
     alloc: Global,

@@ -52,14 +52,14 @@ pub fn scalar(alloc: Global, style: Style, text: &[u8]) -> Result<(Tree, &[u8]),
     Ok((plain_value(alloc, trim_end(plain))?, behind))
 }
 
-/// Whether this may stand behind a key's colon.
+// Whether this may stand behind a key's colon.
 fn ends_value(style: Style, text: &[u8]) -> bool
     ensures { result ≡ ends_value style text.now }
 {
     at_gap(text) || (style.is_flow() && (begins(b',', text) || begins(b'}', text)))
 }
 
-/// The text behind a key's colon, if a colon stands there.
+// The text behind a key's colon, if a colon stands there.
 fn behind_colon(style: Style, text: &[u8]) -> Option<&[u8]>
     ensures { (k : List ℕ) → option_map (λ p. (k, p.now)) result ≡ behind_colon style (k, text.now) }
 {

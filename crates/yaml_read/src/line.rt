@@ -44,7 +44,7 @@ pub fn begins_flow(text: &[u8]) -> bool
     begins(b'[', text) || begins(b'{', text)
 }
 
-/// The value that begins with the first byte, behind which the line is over.
+// The value that begins with the first byte, behind which the line is over.
 fn value_at(
     alloc: Global,
     repeats: Repeats,

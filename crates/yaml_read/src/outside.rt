@@ -12,7 +12,7 @@ use crate::quoted::{begins_quoted, closed_quote};
 use crate::rows::{Row, is_dash};
 use crate::style::Style;
 
-/// Whether a tab stands among the spaces and tabs at the front.
+// Whether a tab stands among the spaces and tabs at the front.
 fn has_tab(line: &[u8]) -> bool
     ensures { result ≡ has_tab line.now }
 {
@@ -78,7 +78,7 @@ fn can_quote(fresh: bool, text: &[u8]) -> bool
     fresh && begins_quoted(text)
 }
 
-/// Whether flow isn't closed on its line, by its signs and quotes alone, in so many turns.
+// Whether flow isn't closed on its line, by its signs and quotes alone, in so many turns.
 fn flow_is_open(turns: usize, text: &[u8]) -> bool
     ensures { result ≡ flow_is_open turns 0 true false text.now }
 {
@@ -131,7 +131,7 @@ fn quote_is_open(text: &[u8]) -> bool
     closed_quote(text).is_none()
 }
 
-/// Whether a quoted scalar or a flow value begins here that isn't closed on the line.
+// Whether a quoted scalar or a flow value begins here that isn't closed on the line.
 #[tactic(auto, unfolding(crate::specs::Outside::value_is_open))]
 fn value_is_open(text: &[u8]) -> bool
     ensures { result ≡ value_is_open text.now }
@@ -148,7 +148,7 @@ fn is_colon(text: &[u8]) -> bool
     begins(b':', text) && at_gap(tail(text))
 }
 
-/// The same of the value behind a key's colon, where one comes.
+// The same of the value behind a key's colon, where one comes.
 #[tactic(auto, unfolding(crate::specs::Outside::pair_is_open))]
 fn pair_is_open(text: &[u8]) -> bool
     ensures { result ≡ pair_is_open text.now }

@@ -61,7 +61,7 @@ fn are_decimal(text: &[u8]) -> bool
     text.iter().all(|b| b.is_ascii_digit())
 }
 
-/// Whether the text is decimal digits that don't begin with 0.
+// Whether the text is decimal digits that don't begin with 0.
 fn is_digits(text: &[u8]) -> bool
     ensures { result ≡ is_digits text.now }
 {
@@ -71,7 +71,7 @@ fn is_digits(text: &[u8]) -> bool
     }
 }
 
-/// Whether the text has the form of a whole number, of any size.
+// Whether the text has the form of a whole number, of any size.
 fn is_whole(text: &[u8]) -> bool
     ensures { result ≡ is_whole text.now }
 {

@@ -22,7 +22,7 @@ fn escapes(escaped: bool, byte: u8) -> bool
     !escaped && byte == b'\\'
 }
 
-/// What stands up to the closing double quote, and the text behind that.
+// What stands up to the closing double quote, and the text behind that.
 fn double_quoted(text: &[u8]) -> Option<(&[u8], &[u8])>
     ensures { option_map (λ p. (p.0.now, p.1.now)) result ≡ double_quoted false text.now }
 {
@@ -36,7 +36,7 @@ fn double_quoted(text: &[u8]) -> Option<(&[u8], &[u8])>
     None
 }
 
-/// The scalar up to the closing apostrophe, and the text behind that.
+// The scalar up to the closing apostrophe, and the text behind that.
 fn single_quoted(alloc: Global, text: &[u8]) -> Result<Option<(Vec<u8>, &[u8])>, AllocError>
     ensures { IfOk result (λ r. option_map (λ p. (p.0.items, p.1.now)) r ≡ single_quoted false text.now) }
 {
@@ -76,7 +76,7 @@ fn at_end<'a>(pending: bool) -> Option<&'a [u8]>
     if pending { Some(&[]) } else { None }
 }
 
-/// The text behind the closing apostrophe.
+// The text behind the closing apostrophe.
 fn single_end(text: &[u8]) -> Option<&[u8]>
     ensures { option_map (λ p. p.now) result ≡ option_map (λ p. p.1) (single_quoted false text.now) }
 {
@@ -90,7 +90,7 @@ fn single_end(text: &[u8]) -> Option<&[u8]>
     at_end(pending)
 }
 
-/// The value of a hexadecimal digit.
+// The value of a hexadecimal digit.
 fn hex_digit(byte: u8) -> Option<u32>
     ensures small { IfSome result (λ d. d < 16) }
     ensures exact { result ≡ (if is_digit byte 16 then Some (digit_value byte) else None) }
@@ -103,7 +103,7 @@ fn hex_digit(byte: u8) -> Option<u32>
     }
 }
 
-/// The number that hexadecimal digits write.
+// The number that hexadecimal digits write.
 fn hex_value(digits: &[u8]) -> Option<u32>
     requires { length digits.now ≤ 4 }
     ensures small { IfSome result (λ n. n < 65536) }
@@ -117,7 +117,7 @@ fn hex_value(digits: &[u8]) -> Option<u32>
     Some(value)
 }
 
-/// The character of a number, which no surrogate has.
+// The character of a number, which no surrogate has.
 fn char_of(number: u32) -> Option<char>
     requires { number < 65536 }
     ensures { result ≡ char_of number }
@@ -133,7 +133,7 @@ fn hex_char(digits: &[u8]) -> Option<char>
     char_of(number)
 }
 
-/// The character that so many hexadecimal digits at the front write, and the text behind them.
+// The character that so many hexadecimal digits at the front write, and the text behind them.
 #[tactic(auto, unfolding(crate::specs::Quoted::hex_escape))]
 fn hex_escape(count: usize, text: &[u8]) -> Option<(char, &[u8])>
     requires { count ≤ 4 }
@@ -147,7 +147,7 @@ fn hex_escape(count: usize, text: &[u8]) -> Option<(char, &[u8])>
     Some((c, behind))
 }
 
-/// The character that stands behind a backslash, and the text behind it.
+// The character that stands behind a backslash, and the text behind it.
 #[tactic(auto, unfolding(crate::specs::Quoted::escape))]
 fn escape(text: &[u8]) -> Option<(char, &[u8])>
     ensures { option_map (λ p. (p.0, p.1.now)) result ≡ escape text.now }
@@ -189,7 +189,7 @@ fn escaped_piece(alloc: Global, text: &[u8]) -> Result<Option<(Vec<u8>, &[u8])>,
     }
 }
 
-/// What the first character of a double quoted scalar gives, and the text behind it.
+// What the first character of a double quoted scalar gives, and the text behind it.
 #[tactic(auto, unfolding(crate::specs::Quoted::piece))]
 fn piece(alloc: Global, text: &[u8]) -> Result<Option<(Vec<u8>, &[u8])>, AllocError>
     ensures { IfOk result (λ r. option_map (λ p. (p.0.items, p.1.now)) r ≡ piece text.now) }
@@ -201,7 +201,7 @@ fn piece(alloc: Global, text: &[u8]) -> Result<Option<(Vec<u8>, &[u8])>, AllocEr
     }
 }
 
-/// What stands between double quotes, each escape as its character.
+// What stands between double quotes, each escape as its character.
 fn unescaped(alloc: Global, text: &[u8]) -> Result<Option<Vec<u8>>, AllocError>
     ensures { IfOk result (λ r. option_map (λ s. s.items) r ≡ unescaped text.now) }
 {
@@ -229,7 +229,7 @@ pub fn begins_quoted(text: &[u8]) -> bool
     begins(b'"', text) || begins(b'\'', text)
 }
 
-/// Where a double quoted scalar begins: the scalar, and the text behind it.
+// Where a double quoted scalar begins: the scalar, and the text behind it.
 fn double(alloc: Global, text: &[u8]) -> Result<Option<(Str, &[u8])>, AllocError>
     ensures { IfOk result (λ r. option_map (λ p. (p.0, p.1.now)) r ≡ option_and_then unescaped_front (double_quoted false text.now)) }
 {
@@ -242,7 +242,7 @@ fn double(alloc: Global, text: &[u8]) -> Result<Option<(Str, &[u8])>, AllocError
     Ok(Some((owned(scalar)?, behind)))
 }
 
-/// The same of one in apostrophes.
+// The same of one in apostrophes.
 fn single(alloc: Global, text: &[u8]) -> Result<Option<(Str, &[u8])>, AllocError>
     ensures { IfOk result (λ r. option_map (λ p. (p.0, p.1.now)) r ≡ single_quoted false text.now) }
 {

@@ -15,7 +15,7 @@ use doc_tree::{MAX_BYTES, Tree};
 use std::alloc::Global;
 use std::str;
 
-/// The tree of a text that is UTF-8.
+// The tree of a text that is UTF-8.
 fn tree_of_text(alloc: Global, text: &str) -> Result<Tree, YamlFault>
     requires { length text.now ≤ MAX_BYTES }
     ensures { Answers shape result (document (rows_of text.now)) }

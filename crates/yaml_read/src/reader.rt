@@ -26,7 +26,7 @@ fn is_own(column: usize, row: &Row) -> bool
     row.column == column && !is_outside(row)
 }
 
-/// Whether a row goes on with a sequence at this column.
+// Whether a row goes on with a sequence at this column.
 #[tactic(auto, unfolding(crate::specs::Reading::own_dash))]
 fn own_dash(column: usize, row: &Row) -> bool
     ensures { result ≡ own_dash column (seen row.now) }
@@ -34,7 +34,7 @@ fn own_dash(column: usize, row: &Row) -> bool
     is_own(column, row) && is_dash(&row.text)
 }
 
-/// The key of a row that goes on with a map at this column, and what stands behind its colon.
+// The key of a row that goes on with a map at this column, and what stands behind its colon.
 #[tactic(auto, unfolding(crate::specs::Reading::own_key))]
 fn own_key(alloc: Global, column: usize, row: &Row) -> Result<Option<(Str, &[u8])>, AllocError>
     ensures { IfOk result (λ r. option_map (λ p. (p.0, p.1.now)) r ≡ own_key column (seen row.now)) }
@@ -64,7 +64,7 @@ fn begins_below_key(column: usize, rows: &[Row]) -> bool
     }
 }
 
-/// The key of the first row, what stands behind it, that row and those behind it, if it goes on with a map.
+// The key of the first row, what stands behind it, that row and those behind it, if it goes on with a map.
 fn first_pair<'a>(
     alloc: Global,
     column: usize,
@@ -81,7 +81,7 @@ fn first_pair<'a>(
     }
 }
 
-/// The first row and those behind it, if it goes on with a sequence.
+// The first row and those behind it, if it goes on with a sequence.
 fn first_item(column: usize, rows: &[Row]) -> Option<(&Row, &[Row])>
     ensures { option_map (λ x. (seen x.0.now, all_seen x.1.now)) result ≡ first_item column (all_seen rows.now) }
 {
@@ -91,7 +91,7 @@ fn first_item(column: usize, rows: &[Row]) -> Option<(&Row, &[Row])>
     }
 }
 
-/// The value that stands on a row, behind its colon or dash.
+// The value that stands on a row, behind its colon or dash.
 fn value_on_row(
     alloc: Global,
     levels: usize,
@@ -107,7 +107,7 @@ fn value_on_row(
     }
 }
 
-/// The value of a row, on it or below it. It follows where the rows behind may be those of the value.
+// The value of a row, on it or below it. It follows where the rows behind may be those of the value.
 #[cycle(reader)]
 #[tactic(auto, unfolding(crate::specs::Reading::value_of))]
 fn value_of<'a>(
@@ -130,7 +130,7 @@ fn value_of<'a>(
     }
 }
 
-/// The pairs of a map at this column, and the rows behind it.
+// The pairs of a map at this column, and the rows behind it.
 #[cycle(reader)]
 fn pairs<'a>(
     alloc: Global,
@@ -159,7 +159,7 @@ fn pairs<'a>(
     Ok((entries.into_pairs(), rest))
 }
 
-/// The items of a sequence at this column, and the rows behind it.
+// The items of a sequence at this column, and the rows behind it.
 #[cycle(reader)]
 fn items<'a>(
     alloc: Global,
@@ -212,7 +212,7 @@ fn some_items<'a>(
     Ok((Tree::List(items), rest))
 }
 
-/// The node, of at most so many levels, that begins with the first row, and the rows behind it.
+// The node, of at most so many levels, that begins with the first row, and the rows behind it.
 #[cycle(reader)]
 fn node<'a>(alloc: Global, levels: usize, rows: &'a [Row]) -> Result<(Tree, &'a [Row]), YamlFault>
     ensures { Answers (λ x. (shape x.0, all_seen x.1.now)) result (node levels (all_seen rows.now)) }

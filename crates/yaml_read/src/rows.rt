@@ -37,7 +37,7 @@ pub fn is_dash(text: &[u8]) -> bool
     }
 }
 
-/// The row of a line.
+// The row of a line.
 fn row_at(alloc: Global, number: u64, line: &[u8]) -> Result<Row, AllocError>
     ensures { IfOk result (λ r. seen r ≡ row number line.now) }
 {
@@ -49,7 +49,7 @@ fn row_at(alloc: Global, number: u64, line: &[u8]) -> Result<Row, AllocError>
     })
 }
 
-/// Whether a map begins behind the dash of a row with this text.
+// Whether a map begins behind the dash of a row with this text.
 fn begins_compact(alloc: Global, text: &[u8]) -> Result<bool, AllocError>
     ensures { IfOk result (λ b. b ≡ (is_dash text.now && is_some (key Block (skip_spaces (tail text.now))))) }
 {
@@ -59,7 +59,7 @@ fn begins_compact(alloc: Global, text: &[u8]) -> Result<bool, AllocError>
     Ok(key(alloc, Style::Block, skip_spaces(tail(text)))?.is_some())
 }
 
-/// The dash of a row alone.
+// The dash of a row alone.
 fn lone_dash(alloc: Global, whole: &Row) -> Result<Row, AllocError>
     ensures { IfOk result (λ r. seen r ≡ lone_dash (seen whole.now)) }
 {
@@ -71,7 +71,7 @@ fn lone_dash(alloc: Global, whole: &Row) -> Result<Row, AllocError>
     })
 }
 
-/// The column behind the dash of a row at this column. A row's column is below its line's length.
+// The column behind the dash of a row at this column. A row's column is below its line's length.
 fn column_behind(column: usize, text: &[u8]) -> Result<usize, AllocError>
     ensures { IfOk result (λ c. c ≡ (column + 1) + leading_spaces (tail text.now)) }
 {
@@ -84,7 +84,7 @@ fn column_behind(column: usize, text: &[u8]) -> Result<usize, AllocError>
     }
 }
 
-/// What stands behind the dash of a row.
+// What stands behind the dash of a row.
 fn behind_dash(alloc: Global, whole: &Row) -> Result<Row, AllocError>
     ensures { IfOk result (λ r. seen r ≡ behind_dash (seen whole.now)) }
 {
@@ -96,7 +96,7 @@ fn behind_dash(alloc: Global, whole: &Row) -> Result<Row, AllocError>
     })
 }
 
-/// Appends the rows of a line that isn't blank.
+// Appends the rows of a line that isn't blank.
 fn push_rows(alloc: Global, rows: &mut Vec<Row>, whole: Row) -> Result<(), AllocError>
     ensures { OnOk result (all_seen rows.new.items ≡ all_seen rows.old.items ++ rows_of_row (seen whole)) }
 {
@@ -109,7 +109,7 @@ fn push_rows(alloc: Global, rows: &mut Vec<Row>, whole: Row) -> Result<(), Alloc
     Ok(())
 }
 
-/// Appends the rows of a line.
+// Appends the rows of a line.
 #[tactic(auto, unfolding(crate::specs::Rows::rows_of_line))]
 fn push_line(alloc: Global, rows: &mut Vec<Row>, number: u64, line: &[u8]) -> Result<(), AllocError>
     ensures { OnOk result (all_seen rows.new.items ≡ all_seen rows.old.items ++ rows_of_line number line.now) }

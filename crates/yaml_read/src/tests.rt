@@ -15,7 +15,7 @@ fn part(out: &mut String, first: bool) -> Result<(), AllocError> {
     if first { Ok(()) } else { out.push_str(",") }
 }
 
-/// A tree on one line, texts between apostrophes.
+// A tree on one line, texts between apostrophes.
 fn show(out: &mut String, tree: &Tree) -> Result<(), AllocError> {
     match tree {
         Tree::Null => out.push_str("null"),
@@ -48,7 +48,7 @@ fn show(out: &mut String, tree: &Tree) -> Result<(), AllocError> {
     }
 }
 
-/// What reading a text answers.
+// What reading a text answers.
 fn outcome(alloc: Global, text: &[u8]) -> Result<String, Fail> {
     match tree_of_yaml(alloc, text) {
         Ok(tree) => {
@@ -310,7 +310,7 @@ fn counts_levels(rt: HostRuntime) -> Result<(), Fail> {
     Ok(())
 }
 
-/// A line of so many brackets round a middle.
+// A line of so many brackets round a middle.
 fn nested(alloc: Global, depth: usize, middle: &[u8]) -> Result<Vec<u8>, Fail> {
     let mut text = vec![in alloc; b'a', b':', b' ']?;
     for _ in 0..depth {
@@ -340,7 +340,7 @@ fn names_faults_behind_many_levels(rt: HostRuntime) -> Result<(), Fail> {
     Ok(())
 }
 
-/// A list below a key, whose dash stands at a column and whose item has a text of so many bytes.
+// A list below a key, whose dash stands at a column and whose item has a text of so many bytes.
 fn wide(alloc: Global, column: usize, length: usize) -> Result<Vec<u8>, Fail> {
     let mut text = vec![in alloc; b'a', b':', b'\n']?;
     for _ in 0..column {

@@ -23,7 +23,7 @@ fn append_spaces(count: usize, out: &mut String) -> Result<(), AllocError>
     Ok(())
 }
 
-/// Appends the lead of a pair whose key stands at this column: the first one's stands there already.
+// Appends the lead of a pair whose key stands at this column: the first one's stands there already.
 fn push_lead(first: bool, column: usize, out: &mut String) -> Result<(), AllocError>
     ensures { OnOk result (string_bytes out.new ≡ string_bytes out.old ++ lead_of first column) }
 {
@@ -41,7 +41,7 @@ fn push_integer(n: i128, out: &mut String) -> Result<(), AllocError>
     out.push_str(buffer.format(n))
 }
 
-/// Whether the value of a key or of a dash stands on the lines below.
+// Whether the value of a key or of a dash stands on the lines below.
 fn stands_below(tree: &Tree) -> bool
     ensures { result ≡ stands_below (shape tree.now) }
 {
@@ -67,7 +67,7 @@ pub fn push_on_line(tree: &Tree, out: &mut String) -> Result<(), AllocError>
     }
 }
 
-/// Appends what stands behind a key's colon or a dash, and the end of the line.
+// Appends what stands behind a key's colon or a dash, and the end of the line.
 fn push_behind(tree: &Tree, out: &mut String) -> Result<(), AllocError>
     ensures { OnOk result (string_bytes out.new ≡ string_bytes out.old ++ behind_text (shape tree.now)) }
 {
@@ -78,7 +78,7 @@ fn push_behind(tree: &Tree, out: &mut String) -> Result<(), AllocError>
     out.push('\n')
 }
 
-/// Appends an item that stands behind its dash.
+// Appends an item that stands behind its dash.
 fn push_scalar_item(tree: &Tree, out: &mut String) -> Result<(), AllocError>
     ensures { OnOk result (string_bytes out.new ≡ string_bytes out.old ++ (dash ∷ behind_text (shape tree.now))) }
 {
@@ -86,7 +86,7 @@ fn push_scalar_item(tree: &Tree, out: &mut String) -> Result<(), AllocError>
     push_behind(tree, out)
 }
 
-/// Appends a pair whose key stands at this column, where the line has its lead already, and the lines of its value.
+// Appends a pair whose key stands at this column, where the line has its lead already, and the lines of its value.
 #[cycle(layout)]
 fn push_pair(column: usize, key: &Str, tree: &Tree, out: &mut String) -> Result<(), AllocError>
     requires { column + 2 * levels (shape tree.now) ≤ 2 * MAX_LEVELS }
@@ -98,7 +98,7 @@ fn push_pair(column: usize, key: &Str, tree: &Tree, out: &mut String) -> Result<
     append_below_key(column, tree, out)
 }
 
-/// Appends the lines below a key at this column.
+// Appends the lines below a key at this column.
 #[cycle(layout)]
 fn append_below_key(column: usize, tree: &Tree, out: &mut String) -> Result<(), AllocError>
     requires { column + 2 * levels (shape tree.now) ≤ 2 * MAX_LEVELS }
@@ -146,7 +146,7 @@ pub fn append_items(column: usize, trees: &Vec<Tree>, out: &mut String) -> Resul
     Ok(())
 }
 
-/// Appends an item whose dash stands at this column, where the line has its spaces already.
+// Appends an item whose dash stands at this column, where the line has its spaces already.
 #[cycle(layout)]
 fn push_item(column: usize, tree: &Tree, out: &mut String) -> Result<(), AllocError>
     requires { column + 2 * levels (shape tree.now) ≤ 2 * MAX_LEVELS }

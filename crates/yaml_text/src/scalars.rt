@@ -33,7 +33,7 @@ fn hex_digit(digit: u8) -> char
     }
 }
 
-/// Appends the escape of a control byte.
+// Appends the escape of a control byte.
 fn push_control(byte: u8, out: &mut String) -> Result<(), AllocError>
     requires { is_control byte ≡ true }
     ensures { OnOk result (string_bytes out.new ≡ string_bytes out.old ++ escaped byte) }
@@ -43,7 +43,7 @@ fn push_control(byte: u8, out: &mut String) -> Result<(), AllocError>
     out.push(hex_digit(byte % 16))
 }
 
-/// Appends a character of ASCII as it stands between double quotes.
+// Appends a character of ASCII as it stands between double quotes.
 fn push_ascii(byte: u8, out: &mut String) -> Result<(), AllocError>
     requires { byte < 128 }
     ensures { OnOk result (string_bytes out.new ≡ string_bytes out.old ++ escaped byte) }
@@ -57,7 +57,7 @@ fn push_ascii(byte: u8, out: &mut String) -> Result<(), AllocError>
     out.push(byte as char)
 }
 
-/// Appends a character as it stands between double quotes.
+// Appends a character as it stands between double quotes.
 fn push_escaped(c: char, out: &mut String) -> Result<(), AllocError>
     ensures { OnOk result (string_bytes out.new ≡ string_bytes out.old ++ spelled escaped c) }
 {
@@ -68,7 +68,7 @@ fn push_escaped(c: char, out: &mut String) -> Result<(), AllocError>
     }
 }
 
-/// Appends a character as it stands between single quotes.
+// Appends a character as it stands between single quotes.
 fn push_doubled(c: char, out: &mut String) -> Result<(), AllocError>
     ensures { OnOk result (string_bytes out.new ≡ string_bytes out.old ++ spelled doubled c) }
 {

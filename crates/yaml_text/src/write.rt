@@ -14,7 +14,7 @@ use doc_tree::{Tree, integer_laws};
 use std::alloc::{AllocError, Global};
 use yaml_read::reading_laws;
 
-/// Appends a tree that is one line.
+// Appends a tree that is one line.
 fn push_only_line(tree: &Tree, out: &mut String) -> Result<(), AllocError>
     ensures { OnOk result (string_bytes out.new ≡ string_bytes out.old ++ joined (on_line (shape tree.now) ∷ [])) }
 {

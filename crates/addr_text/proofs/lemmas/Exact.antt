@@ -1,6 +1,6 @@
 -- The reader of IPv6 texts gives a number exactly where the grammar relates it to the text.
 use Rattle.std.proofs.Common.{◌≡◌, ℕ, ◌+◌, ◌-◌, ◌*◌, ◌/◌, ◌%◌, ◌^◌, ◌≤◌, ◌==◌, true, false, not, nat_le, List, [], ◌∷◌, ◌++◌, Option, Some, None, length, take, drop, replicate, refl, ap, sym, ◌∙◌, subst, arith, suc, zero, inl, inr, length-append}
-use Rattle.std.proofs.lemmas.Bool.{cond-true, leb-true, le-leb}
+use Rattle.std.proofs.lemmas.Bool.{cond-true, leb-true, le-leb, and_parts, not-true}
 use Rattle.std.proofs.lemmas.Bool.Decides.{nat_tests}
 use Rattle.std.proofs.lemmas.List.{length-replicate}
 use Rattle.std.proofs.lemmas.Nat.{pow-add}
@@ -12,7 +12,7 @@ use Rattle.addr_text.specs.Find.{gap_of, at_place}
 use Rattle.addr_text.specs.Parts.{joined}
 use Rattle.addr_text.specs.V6.{IsRun, fields_number, IsShort, IsV6}
 use Rattle.addr_text.specs.V6Reader.{all_eight, some_run_of, whole_of, around, short_of, v6_of}
-use Rattle.addr_text.proofs.lemmas.Cases.{placed_or_none, kept, both, untrue}
+use Rattle.addr_text.proofs.lemmas.Cases.{placed_or_none, kept}
 use Rattle.addr_text.proofs.Marks.{joined_gap, is_part, are_parts, fields_parts, parts_gap, gap_here, gap-split}
 use Rattle.addr_text.proofs.Reading.{IsRunOf, packed, run_sound, run_complete, runof_parts, whole_sound, whole_complete}
 use Rattle.addr_text.proofs.lemmas.Split.{lacks, take-front, drop-gap}
@@ -106,7 +106,7 @@ short_sound t front back b e h =
     }
 
 joined_some : (p : List ℕ) (ps : List (List ℕ)) → is_part p ≡ true → (length (joined 58 (p ∷ ps)) == 0) ≡ false
-joined_some p [] h = untrue (length p == 0) (both (lacks 58 p) (not (length p == 0)) h).1
+joined_some p [] h = not-true (length p == 0) (and_parts (lacks 58 p) (not (length p == 0)) h).1
 joined_some p (q ∷ ps) h = grind (arith, nat_tests, length-append p (58 ∷ joined 58 (q ∷ ps)))
 
 no_numbers : (last : Last) (vs : List ℕ) → IsRunOf last [] vs → vs ≡ []
@@ -116,7 +116,7 @@ no_numbers FieldOrDotted vs h = h
 some_run_complete : (last : Last) (ps : List (List ℕ)) (vs : List ℕ) → IsRunOf last ps vs → length vs ≤ 7 → some_run_of last (joined 58 ps) ≡ Some (packed vs)
 some_run_complete last [] vs h r = ap (λ w. Some (packed w)) (sym (no_numbers last vs h))
 some_run_complete last (p ∷ ps) vs h r =
-    some-run last (joined 58 (p ∷ ps)) (joined_some p ps (both (is_part p) (are_parts ps) (runof_parts last (p ∷ ps) vs h)).0)
+    some-run last (joined 58 (p ∷ ps)) (joined_some p ps (and_parts (is_part p) (are_parts ps) (runof_parts last (p ∷ ps) vs h)).0)
     ∙ run_complete last p ps vs 7 h r
 
 left_gap : (ps : List (List ℕ)) → are_parts ps ≡ true → gap_of (joined 58 ps ++ 58 ∷ []) ≡ None
@@ -140,6 +140,7 @@ short_complete t b s =
     ∙ cond-true (nat_le (length xs + length ys) 7) (Some (fields_number xs * 65536 ^ (8 - length xs) + fields_number ys)) None (le-leb (length xs + length ys) 7 s.stands_for_one)
     ∙ ap Some (sym (short_value xs ys s.stands_for_one) ∙ sym s.value)
 
+-- what a text is read as, the grammar relates to it
 pub v6_sound : (t : List ℕ) (b : ℕ) → v6_of t ≡ Some b → IsV6 t b
 v6_sound t b h =
     elim (placed_or_none (gap_of t) (whole_of t) (λ i. short_of (take i t) (drop (i + 2) t)) (Some b) h) [
@@ -147,6 +148,7 @@ v6_sound t b h =
       | inr p ↦ inr (short_sound t (take p.place t) (drop (p.place + 2) t) b (gap-split t p.place p.found) p.read)
     ]
 
+-- what the grammar relates to a text, it is read as
 pub v6_complete : (t : List ℕ) (b : ℕ) → IsV6 t b → v6_of t ≡ Some b
 v6_complete t b (inl w) = whole_complete t b w.parts w.fields w.written w.run w.eight w.value
 v6_complete t b (inr s) = short_complete t b s

@@ -1,7 +1,7 @@
 -- Hardware addresses are read exactly by their grammar, and what is written is read again.
 use Rattle.std.proofs.Common.{◌≡◌, ℕ, ◌/◌, ◌%◌, ◌<◌, ◌==◌, Bool, true, ◌&&◌, map, List, [], ◌∷◌, Some, None, length, refl, ap, sym, ◌∙◌, subst, arith, suc, eqb-true, slice_index}
 use Rattle.std.proofs.lemmas.List.{length-map}
-use Rattle.std.proofs.lemmas.Bool.{cond-true, lt-ltb, ltb-true}
+use Rattle.std.proofs.lemmas.Bool.{cond-true, lt-ltb, ltb-true, and_parts}
 use Rattle.std.proofs.Math.Nat.{mod-eq_of_lt}
 use Rattle.std.specs.Char.{digit_value}
 use Rattle.std.specs.Fmt.{digit_glyph}
@@ -9,7 +9,7 @@ use Rattle.addr_text.specs.Digits.{is_hex_digit, number}
 use Rattle.addr_text.specs.Mac.{IsPair, ArePairs, IsMac, pair_text, mac_text}
 use Rattle.addr_text.specs.MacReader.{are_pairs, pair_value, pair_at, mac_of}
 use Rattle.addr_text.specs.Parts.{joined}
-use Rattle.addr_text.proofs.lemmas.Cases.{both, kept}
+use Rattle.addr_text.proofs.lemmas.Cases.{kept}
 use Rattle.addr_text.proofs.lemmas.Numbers.{digit_value-glyph}
 
 -- two digits never make more than a byte
@@ -32,9 +32,9 @@ record Opens (a b c : ℕ) (rest : Bool) : Type 0 where
 
 opens : (a b c : ℕ) (rest : Bool) → (is_hex_digit a && is_hex_digit b && (c == 58) && rest) ≡ true → Opens a b c rest
 opens a b c rest h =
-    let x = both (is_hex_digit a && is_hex_digit b && (c == 58)) rest h in
-    let y = both (is_hex_digit a && is_hex_digit b) (c == 58) x.0 in
-    let z = both (is_hex_digit a) (is_hex_digit b) y.0 in
+    let x = and_parts (is_hex_digit a && is_hex_digit b && (c == 58)) rest h in
+    let y = and_parts (is_hex_digit a && is_hex_digit b) (c == 58) x.0 in
+    let z = and_parts (is_hex_digit a) (is_hex_digit b) y.0 in
     record { first = z.0; second = z.1; colon = eqb-true c 58 y.1; behind = x.1 }
 
 mac_parts : (t : List ℕ) (bytes : List ℕ) → length t ≡ 17 → are_pairs t ≡ true → pair_at 0 t ∷ pair_at 3 t ∷ pair_at 6 t ∷ pair_at 9 t ∷ pair_at 12 t ∷ pair_at 15 t ∷ [] ≡ bytes → IsMac t bytes
@@ -44,7 +44,7 @@ mac_parts (a ∷ b ∷ c ∷ d ∷ e ∷ f ∷ g ∷ h ∷ i ∷ j ∷ k ∷ l �
     let u = opens g h i (are_pairs (j ∷ k ∷ l ∷ m ∷ n ∷ o ∷ p ∷ q ∷ [])) t.behind in
     let v = opens j k l (are_pairs (m ∷ n ∷ o ∷ p ∷ q ∷ [])) u.behind in
     let w = opens m n o (are_pairs (p ∷ q ∷ [])) v.behind in
-    let x = both (is_hex_digit p) (is_hex_digit q) w.behind in
+    let x = and_parts (is_hex_digit p) (is_hex_digit q) w.behind in
     record {
       pairs = (a ∷ b ∷ []) ∷ (d ∷ e ∷ []) ∷ (g ∷ h ∷ []) ∷ (j ∷ k ∷ []) ∷ (m ∷ n ∷ []) ∷ (p ∷ q ∷ []) ∷ [];
       six = refl;
@@ -54,17 +54,18 @@ mac_parts (a ∷ b ∷ c ∷ d ∷ e ∷ f ∷ g ∷ h ∷ i ∷ j ∷ k ∷ l �
     }
 mac_parts t bytes len passed made = absurd (omega arith)
 
+-- what a text is read as, it is a text of
 pub mac_sound : (t bytes : List ℕ) → mac_of t ≡ Some bytes → IsMac t bytes
 mac_sound t bytes h =
     let k = kept ((length t == 17) && are_pairs t) (pair_at 0 t ∷ pair_at 3 t ∷ pair_at 6 t ∷ pair_at 9 t ∷ pair_at 12 t ∷ pair_at 15 t ∷ []) bytes h in
-    let b = both (length t == 17) (are_pairs t) k.0 in
+    let b = and_parts (length t == 17) (are_pairs t) k.0 in
     mac_parts t bytes (eqb-true (length t) 17 b.0) b.1 k.1
 
 -- the digits of a pair
 pair_digits : (a b : ℕ) → IsPair (a ∷ b ∷ []) → (is_hex_digit a ≡ true) × (is_hex_digit b ≡ true)
 pair_digits a b p =
-    let x = both (is_hex_digit a) (is_hex_digit b && true) p.digits in
-    (x.0, (both (is_hex_digit b) true x.1).0)
+    let x = and_parts (is_hex_digit a) (is_hex_digit b && true) p.digits in
+    (x.0, (and_parts (is_hex_digit b) true x.1).0)
 
 six_pairs : (ps : List (List ℕ)) → length ps ≡ 6 → ArePairs ps → mac_of (joined 58 ps) ≡ Some (map (number 16) ps)
 six_pairs ((a ∷ b ∷ []) ∷ (d ∷ e ∷ []) ∷ (g ∷ h ∷ []) ∷ (j ∷ k ∷ []) ∷ (m ∷ n ∷ []) ∷ (p ∷ q ∷ []) ∷ []) len each =
@@ -80,6 +81,7 @@ six_pairs ((a ∷ b ∷ []) ∷ (d ∷ e ∷ []) ∷ (g ∷ h ∷ []) ∷ (j ∷
     ∙ rw (pair_is a b r.0 r.1, pair_is d e s.0 s.1, pair_is g h t.0 t.1, pair_is j k u.0 u.1, pair_is m n v.0 v.1, pair_is p q w.0 w.1) refl
 six_pairs ps len each = absurd (omega arith)
 
+-- a text of six bytes is read as them
 pub mac_complete : (t bytes : List ℕ) → IsMac t bytes → mac_of t ≡ Some bytes
 mac_complete t bytes m = ap mac_of m.written ∙ six_pairs m.pairs m.six m.each ∙ ap Some (sym m.values)
 
@@ -102,6 +104,7 @@ pairs_read (b ∷ bytes) h =
     let more = pairs_read bytes (λ k. h (suc k)) in
     ((r.0, more.0), ap (λ x. x ∷ bytes) (sym r.1) ∙ ap (λ u. number 16 (pair_text b) ∷ u) more.1)
 
+-- what is written for six bytes is a text of them
 pub mac_text-reads : (bytes : List ℕ) → length bytes ≡ 6 → ((k : ℕ) → slice_index bytes k < 256) → IsMac (mac_text bytes) bytes
 mac_text-reads bytes l h =
     let r = pairs_read bytes h in

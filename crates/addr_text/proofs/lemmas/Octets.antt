@@ -1,6 +1,6 @@
 -- Reading four decimal numbers: a text is read exactly where it is that of a number.
 use Rattle.std.proofs.Common.{◌≡◌, ℕ, ◌+◌, ◌*◌, ◌/◌, ◌%◌, ◌^◌, ◌<◌, ◌≤◌, ◌==◌, true, not, ◌&&◌, List, [], ◌∷◌, ◌++◌, Option, Some, None, length, take, drop, refl, ap, sym, ◌∙◌, subst, arith, suc, zero, inl, inr, ◌||◌, nat_le, slice_index}
-use Rattle.std.proofs.lemmas.Bool.{leb-true}
+use Rattle.std.proofs.lemmas.Bool.{leb-true, and_parts}
 use Rattle.std.proofs.lemmas.Bool.Decides.{nat_tests}
 use Rattle.std.proofs.lemmas.Fmt.{decimal_digit, decimal_step}
 use Rattle.std.proofs.lemmas.Nat.{div-add-mod', div-mul-add}
@@ -11,7 +11,7 @@ use Rattle.std.specs.Fmt.{decimal}
 use Rattle.std.specs.List.{position, list_all}
 use Rattle.addr_text.specs.Digits.{octet_of, is_octet, is_decimal_digit, number}
 use Rattle.addr_text.specs.Dotted.{octets_of, octet_before, dotted, dotted_of, IsDotted}
-use Rattle.addr_text.proofs.lemmas.Cases.{placed_or_none, kept, both}
+use Rattle.addr_text.proofs.lemmas.Cases.{placed_or_none, kept}
 use Rattle.addr_text.proofs.lemmas.Numbers.{octet_of-decimal, decimal_lacks_dot}
 use Rattle.addr_text.proofs.lemmas.Split.{position-front, split-at, take-front, drop-front}
 
@@ -47,31 +47,31 @@ passes t h =
     let b = nat_le (length t) 3 in
     let c = list_all is_decimal_digit t in
     let d = nat_le (length t) 1 || not (slice_index t 0 == 48) in
-    let last = both (a && b && c && d) (nat_le (number 10 t) 255) h in
-    let third = both (a && b && c) d last.0 in
-    let second = both (a && b) c third.0 in
-    let first = both a b second.0 in
+    let last = and_parts (a && b && c && d) (nat_le (number 10 t) 255) h in
+    let third = and_parts (a && b && c) d last.0 in
+    let second = and_parts (a && b) c third.0 in
+    let first = and_parts a b second.0 in
     record { some_digits = first.0; few = first.1; digits = second.1; no_leading_zero = third.1; small = last.1 }
 
 -- a text that passes as an octet is the decimal text of its number
 octet_text : (t : List ℕ) → Passes t → decimal (number 10 t) ≡ t
 octet_text [] p = let h = p.some_digits in cc
 octet_text (x ∷ []) p =
-    let d = ascii_digit x (both (is_decimal_digit x) true p.digits).0 in
+    let d = ascii_digit x (and_parts (is_decimal_digit x) true p.digits).0 in
     decimal_digit (digit_value x) d.1 ∙ ap (λ b. b ∷ []) (sym d.0)
 octet_text (x ∷ y ∷ []) p =
-    let rest = both (is_decimal_digit x) (is_decimal_digit y && true) p.digits in
+    let rest = and_parts (is_decimal_digit x) (is_decimal_digit y && true) p.digits in
     let d = ascii_digit x rest.0 in
-    let e = ascii_digit y (both (is_decimal_digit y) true rest.1).0 in
+    let e = ascii_digit y (and_parts (is_decimal_digit y) true rest.1).0 in
     let z : not (x == 48) ≡ true = p.no_leading_zero in
     let low : 1 ≤ digit_value x = grind (arith, nat_tests, d) in
     two_digits (digit_value x) (digit_value y) low d.1 e.1 ∙ rw (← d.0, ← e.0) refl
 octet_text (x ∷ y ∷ w ∷ []) p =
-    let rest = both (is_decimal_digit x) (is_decimal_digit y && (is_decimal_digit w && true)) p.digits in
-    let more = both (is_decimal_digit y) (is_decimal_digit w && true) rest.1 in
+    let rest = and_parts (is_decimal_digit x) (is_decimal_digit y && (is_decimal_digit w && true)) p.digits in
+    let more = and_parts (is_decimal_digit y) (is_decimal_digit w && true) rest.1 in
     let d = ascii_digit x rest.0 in
     let e = ascii_digit y more.0 in
-    let f = ascii_digit w (both (is_decimal_digit w) true more.1).0 in
+    let f = ascii_digit w (and_parts (is_decimal_digit w) true more.1).0 in
     let z : not (x == 48) ≡ true = p.no_leading_zero in
     let low : 1 ≤ digit_value x = grind (arith, nat_tests, d) in
     three_digits (digit_value x) (digit_value y) (digit_value w) low d.1 e.1 f.1 ∙ rw (← d.0, ← e.0, ← f.0) refl
@@ -79,6 +79,7 @@ octet_text (x ∷ y ∷ w ∷ v ∷ r) p =
     let h : length (x ∷ y ∷ w ∷ v ∷ r) ≤ 3 = leb-true (length (x ∷ y ∷ w ∷ v ∷ r)) 3 p.few in
     absurd (omega arith)
 
+-- a text that is read as an octet is its decimal text
 pub octet_sound : (t : List ℕ) (n : ℕ) → octet_of t ≡ Some n → (n < 256) × (t ≡ decimal n)
 octet_sound t n h =
     let k = kept (is_octet t) (number 10 t) n h in
@@ -156,8 +157,10 @@ dotted_is n h =
     let g : n % 256 ≡ n % 16777216 % 65536 % 256 = omega arith in
     rw (e, f, g) refl
 
+-- four decimal numbers with dots are read as their number
 pub dotted_complete : (t : List ℕ) (n : ℕ) → IsDotted t n → dotted_of t ≡ Some n
 dotted_complete t n h = rw (h.1, dotted_is n h.0) (octets_complete 3 n h.0)
 
+-- a text that is read as a number is its four decimal numbers with dots
 pub dotted_sound : (t : List ℕ) (n : ℕ) → dotted_of t ≡ Some n → IsDotted t n
 dotted_sound t n h = let s = octets_sound 3 t n h in (s.0, s.1 ∙ sym (dotted_is n s.0))

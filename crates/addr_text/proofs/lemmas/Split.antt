@@ -21,12 +21,14 @@ whole_len : (s : ℕ) (p : List ℕ) → lacks s p ≡ true → prefix_len (λ x
 whole_len s [] h = refl
 whole_len s (x ∷ p) h = grind (arith, nat_tests, whole_len s p)
 
+-- the sign stands behind a front that lacks it
 pub position-front : (s : ℕ) (p r : List ℕ) → lacks s p ≡ true → position (λ b. b == s) (p ++ s ∷ r) ≡ Some (length p)
 position-front s p r h =
     let e : prefix_len (λ x. not (x == s)) (p ++ s ∷ r) ≡ length p = front_len s p r h in
     let l : length p < length (p ++ s ∷ r) = omega (arith, length-append p (s ∷ r)) in
     rw e (cond-true _ _ _ (lt-ltb (length p) (length (p ++ s ∷ r)) l))
 
+-- a text that lacks the sign has no place of it
 pub position-lacks : (s : ℕ) (p : List ℕ) → lacks s p ≡ true → position (λ b. b == s) p ≡ None
 position-lacks s p h =
     let e : prefix_len (λ x. not (x == s)) p ≡ length p = whole_len s p h in
@@ -45,8 +47,10 @@ split-at s t i h =
 pub take-front : (s : ℕ) (p r : List ℕ) → take (length p) (p ++ s ∷ r) ≡ p
 take-front s p r = take-append_seam p (s ∷ r)
 
+-- what stands behind the sign
 pub drop-front : (s : ℕ) (p r : List ℕ) → drop (length p + 1) (p ++ s ∷ r) ≡ r
 drop-front s p r = drop-append-add p (s ∷ r) 1
 
+-- what stands behind two signs
 pub drop-gap : (s : ℕ) (p r : List ℕ) → drop (length p + 2) (p ++ s ∷ s ∷ r) ≡ r
 drop-gap s p r = drop-append-add p (s ∷ s ∷ r) 2

@@ -1,12 +1,11 @@
 -- The text of an IPv6 address that is written is one of it.
 use Rattle.std.proofs.Common.{◌≡◌, ℕ, ◌+◌, ◌-◌, ◌*◌, ◌/◌, ◌%◌, ◌^◌, ◌<◌, ◌≤◌, nat_le, map, List, [], ◌∷◌, ◌++◌, length, take, drop, replicate, refl, ap, sym, ◌∙◌, subst, arith, suc, zero, inl, inr, length-append, length-take, length-drop}
-use Rattle.std.proofs.lemmas.Bool.{cond-true, cond-false}
+use Rattle.std.proofs.lemmas.Bool.{cond-true, cond-false, cases_Bool}
 use Rattle.std.proofs.lemmas.Bool.Decides.{nat_tests}
 use Rattle.std.proofs.lemmas.Grind.{pow_more}
 use Rattle.std.proofs.Math.Nat.{div-lt_iff_lt-mul}
 use Rattle.addr_text.specs.V6.{AreFields, IsRun, fields_number, IsV6}
 use Rattle.addr_text.specs.V6Text.{fields_of, hex, fields_text, longest, first_run, shortened, compressed, v6_text}
-use Rattle.addr_text.proofs.lemmas.Cases.{either}
 use Rattle.addr_text.proofs.lemmas.Exact.{fields_number-append}
 use Rattle.addr_text.proofs.Hex.{hex_field}
 use Rattle.addr_text.proofs.Runs.{run_within, run_whole}
@@ -30,14 +29,17 @@ small-drop zero xs h = h
 small-drop (suc n) [] h = tt
 small-drop (suc n) (x ∷ xs) h = small-drop n xs h.1
 
+-- each field of a number is below 2 ^ 16
 pub fields_small : (k n : ℕ) → AreSmall (fields_of k n)
 fields_small zero n = tt
 fields_small (suc k) n = small-append (fields_of k (n / 65536)) (n % 65536 ∷ []) (fields_small k (n / 65536)) (omega arith, tt)
 
+-- a number has as many fields as asked for
 pub fields_length : (k n : ℕ) → length (fields_of k n) ≡ k
 fields_length zero n = refl
 fields_length (suc k) n = length-append (fields_of k (n / 65536)) (n % 65536 ∷ []) ∙ rw (fields_length k (n / 65536)) (omega arith)
 
+-- the fields of a number make it
 pub fields_value : (k n : ℕ) → n < 65536 ^ k → fields_number (fields_of k n) ≡ n
 fields_value zero n h = omega arith
 fields_value (suc k) n h =
@@ -80,9 +82,10 @@ short_text fs bits n s l v e two =
       value = sym v ∙ ap fields_number (sym (run_whole fs n e)) ∙ ap (λ m. fields_number (front ++ replicate m 0 ++ back)) (sym gap);
     })
 
+-- a text of eight fields, the longest run of zeros left out, is one of their number
 pub compressed_text : (fs : List ℕ) (bits : ℕ) → AreSmall fs → length fs ≡ 8 → fields_number fs ≡ bits → IsV6 (compressed fs) bits
 compressed_text fs bits s l v =
-    elim (either (nat_le (longest fs) 1)) [
+    elim (cases_Bool (nat_le (longest fs) 1)) [
       | inl e ↦ subst (λ t. IsV6 t bits) (sym (cond-true (nat_le (longest fs) 1) (fields_text fs) (shortened fs (first_run (longest fs) fs) (longest fs)) e)) (whole_text fs bits s l v)
       | inr e ↦ subst (λ t. IsV6 t bits) (sym (cond-false (nat_le (longest fs) 1) (fields_text fs) (shortened fs (first_run (longest fs) fs) (longest fs)) e)) (short_text fs bits (longest fs) s l v refl (grind (arith, nat_tests)))
     ]
