@@ -6,4 +6,5 @@ pub mod StepKeeps
 pub mod Leading
 pub mod Taking
 pub mod InPlace
+pub mod Searched
 pub mod Carried

@@ -1,1 +1,4 @@
 pub mod Place
+pub mod Hanging
+pub mod OneLink
+pub mod Calls

@@ -7,9 +7,16 @@
 mod refuse;
 
 
+// What hangs on a link.
+mod hanging;
 // Kinds of links.
 mod kinds;
 // Links by name, in lists that rise by name.
 mod lookup;
+
+// Links that come and go.
+mod made;
+// Calls that write on the link that they name.
+mod one_link;
 
 pub use lookup::place_of;

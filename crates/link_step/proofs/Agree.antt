@@ -1,0 +1,41 @@
+-- Two tests that agree on each name change the same.
+use Rattle.std.proofs.Common.{◌≡◌, ℕ, Bool, true, false, not, ◌&&◌, List, [], ◌∷◌, map, filter, Option, Some, None, refl, ap, ◌∙◌}
+use Rattle.std.specs.Prelude.{if◌then◌else◌}
+use Rattle.std.proofs.lemmas.List.Elements.{filter_agree}
+use Rattle.net_model.specs.Lists.{NetData}
+use Rattle.net_model.specs.Options.{default_port}
+use Rattle.net_model.specs.declared.link.Link.{Link}
+use Rattle.net_model.specs.declared.route.Route.{Route}
+use Rattle.kernel_model.specs.MadeLinks.{unless_gone, port_freed, primary_freed, freed, without}
+use Rattle.kernel_model.specs.UpDown.{v4_alone, lowered, fallen}
+
+pub map_agree : {X Y : Type 0} (f g : X → Y) → ((x : X) → f x ≡ g x) → (xs : List X) → map f xs ≡ map g xs
+map_agree f g same [] = refl
+map_agree {Y = Y} f g same (x ∷ xs) = ap (λ (y : Y). y ∷ map f xs) (same x) ∙ ap (λ (ys : List Y). g x ∷ ys) (map_agree f g same xs)
+
+module _ (p q : List ℕ → Bool) (same : (n : List ℕ) → p n ≡ q n) where
+  gone_agree : (o : Option (List ℕ)) → unless_gone p o ≡ unless_gone q o
+  gone_agree None = refl
+  gone_agree (Some n) = rw (same n) refl
+
+  port_agree : (l : Link) (o : Option (List ℕ)) → l.controller ≡ o → port_freed p l ≡ port_freed q l
+  port_agree l None e = rw e refl
+  port_agree l (Some n) e = rw (e, same n) refl
+
+  freed_agree : (l : Link) → freed p l ≡ freed q l
+  freed_agree l = rw (gone_agree l.controller, port_agree l l.controller refl, gone_agree l.bond.primary) refl
+
+  routes_agree : (rs : List Route) → filter (λ r. not (p r.dev)) rs ≡ filter (λ r. not (q r.dev)) rs
+  routes_agree rs = filter_agree (λ r. not (p r.dev)) (λ r. not (q r.dev)) (λ r. ap not (same r.dev)) rs
+
+  -- what remains without those that go
+  pub without_agree : (net : NetData) → without p net ≡ without q net
+  without_agree net =
+      rw (filter_agree (λ l. not (p l.name)) (λ l. not (q l.name)) (λ l. ap not (same l.name)) net.links, map_agree (freed p) (freed q) freed_agree (filter (λ l. not (q l.name)) net.links), routes_agree net.routes) refl
+
+  lowered_agree : (l : Link) → lowered p l ≡ lowered q l
+  lowered_agree l = rw (same l.name) refl
+
+  -- what is left of those that fall
+  pub fallen_agree : (net : NetData) → fallen p net ≡ fallen q net
+  fallen_agree net = rw (map_agree (lowered p) (lowered q) lowered_agree net.links, routes_agree net.routes) refl

@@ -1,0 +1,44 @@
+//! Calls that write on the link that they name.
+ghost use Rattle.std.specs.Prelude.{◌≡◌, true};
+ghost use Rattle.net_model.specs.Words.{rises};
+ghost use Rattle.net_model.specs.Order.{link_cmp};
+ghost use Rattle.kernel_model.specs.Words.{edit_link};
+ghost use Rattle.link_step.specs.OneLink.{written};
+
+use crate::lookup::place_of;
+use net_model::{Call, Link, Name, Parts, PortOpts};
+
+fn write(link: &mut Link, call: &Call)
+    ensures { link.new ≡ written call.now link.old }
+{
+    match call {
+        Call::Up { .. } => link.up = true,
+        Call::SetMac { mac, .. } => link.mac = *mac,
+        Call::SetBond { opts, .. } => link.bond = *opts,
+        Call::SetBridge { opts, .. } => link.bridge = *opts,
+        Call::Attach { controller, .. } => {
+            link.controller = Some(*controller);
+            link.port = PortOpts::defaults();
+        }
+        Call::SetPort { opts, .. } => link.port = *opts,
+        _ => {}
+    }
+}
+
+fn write_named(links: &mut [Link], name: &Name, call: &Call)
+    requires { rises link_cmp links.old ≡ true }
+    ensures { links.new ≡ edit_link name.now (written call.now) links.old }
+{
+    match place_of(links, name) {
+        Some(i) => write(&mut links[i], call),
+        None => {}
+    }
+}
+
+// Writes what the call says on the named link.
+pub(crate) fn write_on(parts: &mut Parts, name: &Name, call: &Call)
+    requires { rises link_cmp parts.old.links ≡ true }
+    ensures { parts.new ≡ record parts.old { links = edit_link name.now (written call.now) parts.old.links } }
+{
+    write_named(&mut parts.links, name, call);
+}
