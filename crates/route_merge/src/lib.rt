@@ -9,6 +9,8 @@ mod standing;
 mod broken;
 // The merged routes.
 mod routes;
+// Rules that are taken one after another.
+mod taken;
 // The merged rules and their numbers.
 mod rules;
 // The merged settings of DNS.
