@@ -5,7 +5,7 @@ use host_memory::{FixedClock, Fuse, MemoryHost, MemorySink, MemorySource};
 use net_model::{
     BondOpts, BridgeOpts, Dns, Items, Kind, Link, Mac, Name, Net, PortOpts, Proto, VlanId,
 };
-use nmstate_top::{Report, run_command};
+use nmstate_top::run_command;
 use std::alloc::{AllocError, Global};
 use std::process::Abort;
 use std::test::Fail;
@@ -26,15 +26,32 @@ pub const NONE: Faults = Faults {
     err: None,
 };
 
-/// What is seen of a run: its report, and what was written.
+/// The fuse of a call that fails.
+pub const fn blown(call: u64, done: bool) -> Option<Fuse> {
+    Some(Fuse { call, done })
+}
+
+/// One run: its words, standard input and faults, and then its status, what is written, and the MTU of `eth1` after it.
+#[derive(Clone, Copy)]
+pub struct Case {
+    pub words: &'static [&'static str],
+    pub input: Option<&'static str>,
+    pub faults: Faults,
+    pub status: u8,
+    pub out: &'static str,
+    pub err: &'static str,
+    pub mtu: u32,
+}
+
+/// What is seen of a run: its status, and what was written.
 #[derive(Drop)]
 pub struct Seen {
-    pub report: Report,
+    pub status: u8,
     pub out: Vec<u8>,
     pub err: Vec<u8>,
 }
 
-pub fn fuses(alloc: Global, fuse: Option<Fuse>) -> Result<Vec<Fuse>, AllocError> {
+fn fuses(alloc: Global, fuse: Option<Fuse>) -> Result<Vec<Fuse>, AllocError> {
     let mut all = Vec::new(alloc);
     if let Some(fuse) = fuse {
         all.push(fuse)?;
@@ -97,14 +114,15 @@ pub fn two_devices(rt: &impl Abort, alloc: Global, mtu: u32) -> Result<Net, Fail
     Ok(network(rt, alloc, links))
 }
 
-/// A host with this network and an empty checkpoint area.
-pub fn memory_host(alloc: Global, net: Net, fuses: Vec<Fuse>) -> MemoryHost {
-    MemoryHost::new(alloc, Some(net), Vec::new(alloc), fuses)
-}
-
-/// Whether a host has a network of these links.
-pub fn has_links(host: &MemoryHost, links: &[Link]) -> bool {
-    host.net().is_some_and(|net| net.links() == links)
+/// A host with two devices and an empty checkpoint area.
+pub fn memory_host(
+    rt: &impl Abort,
+    alloc: Global,
+    mtu: u32,
+    fuse: Option<Fuse>,
+) -> Result<MemoryHost, Fail> {
+    let net = two_devices(rt, alloc, mtu)?;
+    Ok(MemoryHost::new(alloc, Some(net), Vec::new(alloc), fuses(alloc, fuse)?))
 }
 
 /// Runs the words on a host, with standard input where there is one.
@@ -137,8 +155,28 @@ pub fn run_words<H: Host>(
         &mut clock,
     );
     Ok(Seen {
-        report,
+        status: report.status,
         out: out.bytes().clone()?,
         err: err.bytes().clone()?,
     })
+}
+
+/// Runs a case, and compares what is seen.
+pub fn check(rt: &impl Abort, alloc: Global, case: &Case) -> Result<(), Fail> {
+    let mut host = memory_host(rt, alloc, 1500, case.faults.host)?;
+    let input = match case.input {
+        Some(text) => Some(Vec::from_slice(alloc, text.as_bytes())?),
+        None => None,
+    };
+    let seen = run_words(alloc, case.words, &mut host, input, case.faults)?;
+    let name = case.input.unwrap_or("no input");
+    assert_eq!(rt; seen.status, case.status, "at {name}");
+    assert_eq!(rt; seen.out.as_slice(), case.out.as_bytes(), "at {name}");
+    assert_eq!(rt; seen.err.as_slice(), case.err.as_bytes(), "at {name}");
+    let after = two_devices(rt, alloc, case.mtu)?;
+    assert!(rt;
+        host.net().is_some_and(|net| net.links() == after.links()),
+        "at {name}"
+    );
+    Ok(())
 }
