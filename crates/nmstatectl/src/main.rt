@@ -8,9 +8,11 @@ mod streams;
 use crate::start::first_net;
 use crate::streams::{Stream, StreamSink, StreamSource, SystemClock};
 use host_memory::MemoryHost;
+use net_model::Net;
 use nmstate_top::run_command;
+use std::env;
+use std::io::{self, Write};
 use std::process::ExitCode;
-use std::{env, io};
 
 /// The words after the program's name. Words that aren't all UTF-8 are no command, as no words are.
 fn words(rt: &HostRuntime) -> io::Result<Vec<String>> {
@@ -21,11 +23,26 @@ fn words(rt: &HostRuntime) -> io::Result<Vec<String>> {
     }
 }
 
-fn main(rt: HostRuntime) -> io::Result<ExitCode> {
+/// The status where memory is refused before a command is read.
+const OUT_OF_MEMORY: u8 = 8;
+
+/// Says on the errors that memory was refused, and gives its status.
+fn out_of_memory(rt: &HostRuntime) -> ExitCode {
+    let _ = rt.stderr().write_all(b"error: out of memory\n");
+    ExitCode::from(OUT_OF_MEMORY)
+}
+
+/// The words, and the network that a run begins with.
+fn begin(rt: &HostRuntime) -> io::Result<(Vec<String>, Net)> {
+    Ok((words(rt)?, first_net(rt.alloc())?))
+}
+
+fn main(rt: HostRuntime) -> ExitCode {
     let alloc = rt.alloc();
-    let words = words(&rt)?;
-    let first = Some(first_net(alloc)?);
-    let mut host = MemoryHost::new(alloc, first, Vec::new(alloc), Vec::new(alloc));
+    let Ok((words, first)) = begin(&rt) else {
+        return out_of_memory(&rt);
+    };
+    let mut host = MemoryHost::new(alloc, Some(first), Vec::new(alloc), Vec::new(alloc));
     let mut source = StreamSource::new(rt.stdin());
     let mut out = StreamSink::new(Stream::Out(rt.stdout()));
     let mut err = StreamSink::new(Stream::Err(rt.stderr()));
@@ -39,5 +56,5 @@ fn main(rt: HostRuntime) -> io::Result<ExitCode> {
         &mut err,
         &mut clock,
     );
-    Ok(ExitCode::from(report.status))
+    ExitCode::from(report.status)
 }
