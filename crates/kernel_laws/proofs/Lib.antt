@@ -8,4 +8,3 @@ pub mod Single
 pub mod Lists
 pub mod Detaching
 pub mod Addressing
-pub mod SameLists

@@ -1,4 +1,3 @@
 pub mod Frames
 pub mod Takes
-pub mod Lists
 pub mod Laws

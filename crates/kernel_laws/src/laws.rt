@@ -1,6 +1,5 @@
 //! What is known of the kernel's step on every network.
 ghost use Rattle.kernel_laws.specs.Laws.{KeepsNet, KeepsHardware, HasFrame, IsAccepted, MakesCycle, KeepsOffCycles, AttachesWithin, HangsOn, HangsWithin, RunsOn, RunKeeps};
-ghost use Rattle.kernel_laws.specs.Lists.{SameLinks, SameAddresses, SameRoutes, SameRules};
 
 /// Supplies the laws of the kernel's step; it has no effect at run time.
 pub fn step_laws()
@@ -26,12 +25,4 @@ pub fn step_laws()
     ensures runs_on { RunsOn }
     // A run leads from a network to one of the same devices.
     ensures run { RunKeeps }
-{}
-
-/// The lists of networks are equal where the same is found in them. Supplies laws; it has no effect at run time.
-pub fn list_laws()
-    ensures links { SameLinks }
-    ensures addresses { SameAddresses }
-    ensures routes { SameRoutes }
-    ensures rules { SameRules }
 {}

@@ -3,4 +3,4 @@
 
 mod laws;
 
-pub use laws::{list_laws, step_laws};
+pub use laws::step_laws;

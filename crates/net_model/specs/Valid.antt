@@ -11,6 +11,7 @@ use Rattle.net_model.specs.Links.{same_name, named_passes, is_twin, can_be_base,
 use Rattle.net_model.specs.Standing.{no_cycle}
 use Rattle.net_model.specs.OnLink.{is_on_link}
 use Rattle.net_model.specs.Options.{bond_fits, bridge_in_range, port_in_range, is_default_bond, is_default_bridge, is_default_port}
+use Rattle.net_model.specs.declared.limits.TheConstants.{MIN_MTU, MAX_MTU, MAX_LINKS, MAX_LINK_ADDRESSES, MAX_ADDRESSES, MAX_ROUTES, MAX_RULES, MAX_SERVERS, MAX_SEARCH}
 use Rattle.net_model.specs.declared.link.Link.{Link}
 use Rattle.net_model.specs.declared.route.Route.{Route}
 use Rattle.net_model.specs.declared.rule.Target.{Target}
@@ -42,7 +43,7 @@ bases_up links = list_all (λ l. not l.up || base_passes (λ b. b.up) links l.ki
 
 -- 6: an MTU is from 68 to 65535 and at most the base's
 abbrev pub mtu_in_range : ℕ → Bool
-mtu_in_range mtu = nat_le 68 mtu && nat_le mtu 65535
+mtu_in_range mtu = nat_le MIN_MTU mtu && nat_le mtu MAX_MTU
 
 abbrev pub mtus_fit : List Link → Bool
 mtus_fit links = list_all (λ l. mtu_in_range l.mtu && base_passes (λ b. nat_le l.mtu b.mtu) links l.kind) links
@@ -114,10 +115,10 @@ abbrev pub address_count : List Link → ℕ
 address_count links = sum_by (λ l. length l.addrs) links
 
 abbrev pub links_fit : List Link → Bool
-links_fit links = nat_le (length links) 512 && list_all (λ l. nat_le (length l.addrs) 64) links && nat_le (address_count links) 4096
+links_fit links = nat_le (length links) MAX_LINKS && list_all (λ l. nat_le (length l.addrs) MAX_LINK_ADDRESSES) links && nat_le (address_count links) MAX_ADDRESSES
 
 abbrev pub counts_fit : NetData → Bool
-counts_fit net = links_fit net.links && nat_le (length net.routes) 4096 && nat_le (length net.rules) 1024 && nat_le (length net.dns.servers) 16 && nat_le (length net.dns.search) 16
+counts_fit net = links_fit net.links && nat_le (length net.routes) MAX_ROUTES && nat_le (length net.rules) MAX_RULES && nat_le (length net.dns.servers) MAX_SERVERS && nat_le (length net.dns.search) MAX_SEARCH
 
 abbrev pub is_bridge_port : List Link → Link → Bool
 is_bridge_port links l = has_controller (λ c. is_bridge c.kind) links l

@@ -1,6 +1,6 @@
 //! Addresses, prefixes and subnets.
 ghost use Rattle.std.specs.Prelude.{◌≡◌, ◌-◌, ◌/◌, ◌%◌, ◌^◌, ◌≤◌, true, false, Some, None, if◌then◌else◌, nat_le};
-ghost use Rattle.net_model.specs.Address.{max_len, block, subnet_of, address};
+ghost use Rattle.net_model.specs.Address.{max_len, block, subnet_of, address, IsAddress, IsPrefix, IsSubnet};
 ghost use Rattle.net_model.specs.OnLink.{holds, is_link_local};
 
 use std::marker::Model;
@@ -40,6 +40,13 @@ impl Addr {
         ensures { result ≡ address true bits }
     {
         Addr { v6: true, bits }
+    }
+
+    /// The range of the bits. It supplies laws, and has no effect at run time.
+    pub fn laws(&self)
+        ensures { IsAddress self.now }
+    {
+        let _bits = self.bits;
     }
 
     pub fn is_v6(self) -> bool
@@ -98,6 +105,15 @@ impl Prefix {
         } else {
             None
         }
+    }
+
+    /// The ranges of the address and the length. It supplies laws, and has no effect at run time.
+    pub fn laws(&self)
+        ensures addr { IsAddress self.now.addr }
+        ensures len { IsPrefix self.now }
+    {
+        self.addr.laws();
+        let _len = self.len;
     }
 
     pub fn addr(self) -> Addr
@@ -172,6 +188,15 @@ impl Subnet {
             },
             len,
         }
+    }
+
+    /// The ranges of the address and the length; the host bits are 0. It supplies laws, and has no effect at run time.
+    pub fn laws(&self)
+        ensures addr { IsAddress self.now.addr }
+        ensures subnet { IsSubnet self.now }
+    {
+        self.addr.laws();
+        let _len = self.len;
     }
 
     pub fn is_v6(self) -> bool

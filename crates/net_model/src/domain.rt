@@ -1,12 +1,13 @@
-//! Names that are searched under.
+//! DNS search domains.
 ghost use Rattle.std.specs.Prelude.{◌≡◌, Some, None, if◌then◌else◌, IfOk, IfSome, IsSome, IsTrue, ◌↔◌};
 ghost use Rattle.std.specs.List.{list_all};
 ghost use Rattle.net_model.specs.Domain.{is_domain, is_domain_byte};
 
+use crate::limits::MAX_DOMAIN_LEN;
 use std::cmp::Ordering;
 use std::marker::Model;
 
-/// A name that host names are searched under: 1 to 253 printable ASCII bytes, none of them a comma.
+/// A DNS search domain: 1 to 253 printable ASCII bytes, none of them a comma.
 /// Contracts see its bytes. Domains are ordered by their bytes.
 #[derive(Clone, Debug, Drop)]
 pub struct Domain {
@@ -36,6 +37,13 @@ impl Domain {
         }
     }
 
+    /// The bytes are a domain. It supplies laws, and has no effect at run time.
+    pub fn laws(&self)
+        ensures { IsTrue (is_domain self.now) }
+    {
+        let _bytes = &self.bytes;
+    }
+
     pub fn as_bytes(&self) -> &[u8]
         ensures { result.now ≡ self.now }
     {
@@ -58,7 +66,7 @@ fn all_domain_bytes(bytes: &[u8]) -> bool
 fn is_domain(bytes: &[u8]) -> bool
     ensures { result ≡ is_domain bytes.now }
 {
-    !bytes.is_empty() && bytes.len() <= 253 && all_domain_bytes(bytes)
+    !bytes.is_empty() && bytes.len() <= MAX_DOMAIN_LEN && all_domain_bytes(bytes)
 }
 
 impl PartialEq for Domain {

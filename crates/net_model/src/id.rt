@@ -1,6 +1,8 @@
 //! Numbers of routing tables and of VLANs.
-ghost use Rattle.std.specs.Prelude.{◌≡◌, Some, None, if◌then◌else◌, nat_le, ◌==◌};
+ghost use Rattle.net_model.specs.declared.limits.TheConstants.{MAX_VLAN_ID};
+ghost use Rattle.std.specs.Prelude.{◌≡◌, ◌<◌, ◌≤◌, ◌^◌, Some, None, if◌then◌else◌, nat_le, ◌==◌};
 
+use crate::limits::MAX_VLAN_ID;
 use std::marker::Model;
 
 /// The number of a routing table, which isn't 0. Contracts see the number.
@@ -24,6 +26,14 @@ impl Model for TableId {
 impl TableId {
     /// The number of the main table.
     pub const MAIN: u32 = 254;
+
+    /// The range of the number. It supplies laws, and has no effect at run time.
+    pub fn laws(&self)
+        ensures least { 0 < self.now }
+        ensures most { self.now < 2 ^ 32 }
+    {
+        let _id = self.id;
+    }
 
     /// The table of this number, where 0 stands for the main one, 254.
     pub fn of(id: u32) -> TableId
@@ -49,22 +59,30 @@ pub struct VlanId {
 
 impl Model for VlanId {
     ghost use Rattle.std.specs.Prelude.{ℕ, ◌≤◌};
+    ghost use Rattle.net_model.specs.declared.limits.TheConstants.{MAX_VLAN_ID};
 
     ghost Value = { ℕ };
 
     ghost view = { λ t. t.id };
 
-    ghost invariant = { λ t. t.id ≤ 4094 };
+    ghost invariant = { λ t. t.id ≤ MAX_VLAN_ID };
 
     ghost inverse = { λ n. record { id = n } };
 }
 
 impl VlanId {
+    /// The range of the number. It supplies laws, and has no effect at run time.
+    pub fn laws(&self)
+        ensures { self.now ≤ MAX_VLAN_ID }
+    {
+        let _id = self.id;
+    }
+
     /// The VLAN of this number, or `None` above 4094.
     pub fn of(id: u16) -> Option<VlanId>
-        ensures { result ≡ (if nat_le id 4094 then Some id else None) }
+        ensures { result ≡ (if nat_le id MAX_VLAN_ID then Some id else None) }
     {
-        if id <= 4094 {
+        if id <= MAX_VLAN_ID {
             Some(VlanId { id })
         } else {
             None

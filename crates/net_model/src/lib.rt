@@ -7,6 +7,7 @@ mod dns;
 mod domain;
 mod hardware;
 mod id;
+mod limits;
 mod link;
 mod lookup;
 mod mac;
@@ -33,6 +34,10 @@ pub use call::Call;
 pub use dns::Dns;
 pub use domain::Domain;
 pub use id::{TableId, VlanId};
+pub use limits::{
+    MAX_ADDRESSES, MAX_DOMAIN_LEN, MAX_LINK_ADDRESSES, MAX_LINKS, MAX_MTU, MAX_NAME_LEN,
+    MAX_ROUTES, MAX_RULES, MAX_SEARCH, MAX_SERVERS, MAX_VLAN_ID, MIN_MTU,
+};
 pub use link::{Kind, Link};
 pub use lookup::{can_be_base, is_bond, is_bridge, is_ethernet, takes};
 pub use mac::Mac;
@@ -43,10 +48,8 @@ pub use parts::Parts;
 pub use place::{Place, address_place, link_place, route_place, rule_place};
 pub use route::Route;
 pub use rule::{Rule, Target};
-pub use valid_limits::{
-    MAX_ADDRESSES, MAX_LINK_ADDRESSES, MAX_LINKS, MAX_ROUTES, MAX_RULES, MAX_SEARCH, MAX_SERVERS,
-    is_default_bond, is_default_bridge, is_default_port,
-};
+pub use valid_limits::{is_default_bond, is_default_bridge, is_default_port};
 pub use valid_links::mtu_in_range;
 pub use valid_options::{bond_ok, bridge_in_range, port_in_range};
 pub use valid_routes::{is_on_link, route_on_link};
+pub use valid_standing::no_cycle;

@@ -3,6 +3,7 @@ ghost use Rattle.std.specs.Prelude.{◌≡◌, IsTrue, Some, None, if◌then◌e
 ghost use Rattle.std.specs.List.{list_all};
 ghost use Rattle.net_model.specs.Name.{is_name, is_name_byte, is_reserved};
 
+use crate::limits::MAX_NAME_LEN;
 use std::cmp::Ordering;
 use std::marker::Model;
 
@@ -39,6 +40,13 @@ impl Name {
         ensures named { IsTrue (is_name self.now) }
     {
         &self.bytes[..self.len as usize]
+    }
+
+    /// The bytes are a name. It supplies laws, and has no effect at run time.
+    pub fn laws(&self)
+        ensures { IsTrue (is_name self.now) }
+    {
+        let _bytes = self.as_bytes();
     }
 
     /// The name of these bytes, or `None` where they are no name.
@@ -78,7 +86,7 @@ fn all_name_bytes(bytes: &[u8]) -> bool
 fn is_name(bytes: &[u8]) -> bool
     ensures { result ≡ is_name bytes.now }
 {
-    !bytes.is_empty() && bytes.len() <= 15 && !is_reserved(bytes) && all_name_bytes(bytes)
+    !bytes.is_empty() && bytes.len() <= MAX_NAME_LEN && !is_reserved(bytes) && all_name_bytes(bytes)
 }
 
 impl PartialEq for Name {

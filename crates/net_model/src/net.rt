@@ -45,6 +45,17 @@ impl From<AllocError> for NetFault {
     }
 }
 
+impl From<OutOfMemory> for NetFault {
+    ghost use Rattle.std.specs.Prelude.{◌≡◌};
+    ghost use Rattle.net_model.specs.declared.net.NetFault.TheVariants.{OutOfMemory as NoMemory};
+
+    ghost from_gives = { λ _ fault. fault ≡ NoMemory };
+
+    fn from(_error: OutOfMemory) -> Self {
+        NetFault::OutOfMemory
+    }
+}
+
 /// A network: valid, with each list in order, so that equal networks are equal values.
 #[derive(Debug, Drop)]
 pub struct Net {

@@ -5,10 +5,9 @@ ghost use Rattle.net_model.specs.Order.{link_cmp};
 ghost use Rattle.net_model.specs.NetData.{AreSorted};
 ghost use Rattle.net_model.specs.Valid.{least_broken, counts_fit, limits_hold};
 
+use crate::limits::{MAX_ROUTES, MAX_RULES, MAX_SEARCH, MAX_SERVERS};
 use crate::parts::Parts;
-use crate::valid_limits::{
-    MAX_ROUTES, MAX_RULES, MAX_SEARCH, MAX_SERVERS, links_fit, unused_default,
-};
+use crate::valid_limits::{links_fit, unused_default};
 use crate::valid_links::{
     addresses_fit, bases_stand, bases_up, controllers_take, mtus_fit, names_differ,
     ports_without_addresses,
@@ -16,7 +15,8 @@ use crate::valid_links::{
 use crate::valid_options::options_fit;
 use crate::valid_routes::{routes_stand, rules_differ};
 use crate::valid_standing::no_cycle;
-use std::alloc::{AllocError, Global};
+use base_model::OutOfMemory;
+use std::alloc::Global;
 
 fn counts_fit(parts: &Parts) -> bool
     ensures { result ≡ counts_fit parts.now }
@@ -36,8 +36,8 @@ fn limits_hold(parts: &Parts) -> bool
     counts_fit(parts) && unused_default(&parts.links)
 }
 
-/// The number of the least part of validity that the lists break.
-pub(crate) fn least_broken(alloc: Global, parts: &Parts) -> Result<Option<u8>, AllocError>
+// The number of the least part of validity that the lists break.
+pub(crate) fn least_broken(alloc: Global, parts: &Parts) -> Result<Option<u8>, OutOfMemory>
     requires { AreSorted parts.now }
     ensures { IfOk result (λ part. part ≡ least_broken parts.now) }
 {

@@ -1,36 +1,23 @@
 //! The part of validity that looks at counts and at fields that aren't used.
 ghost use Rattle.std.specs.Prelude.{◌≡◌, ◌↔◌, ◌&&◌, ◌||◌, nat_le, true, length, IsTrue};
 ghost use Rattle.std.specs.List.{list_all};
+ghost use Rattle.net_model.specs.declared.limits.TheConstants.{MAX_ADDRESSES, MAX_LINK_ADDRESSES};
 ghost use Rattle.net_model.specs.Words.{rises};
 ghost use Rattle.net_model.specs.Order.{link_cmp};
 ghost use Rattle.net_model.specs.Links.{named_passes, is_bond, is_bridge};
 ghost use Rattle.net_model.specs.Options.{default_bond, default_bridge, default_port, is_layer2, is_default_bond, is_default_bridge, is_default_port};
 ghost use Rattle.net_model.specs.Valid.{address_count, links_fit, is_bridge_port, unused_default};
 
+use crate::limits::{MAX_ADDRESSES, MAX_LINK_ADDRESSES, MAX_LINKS};
 use crate::link::Link;
 use crate::lookup::{find_link, is_bond, is_bridge};
 use crate::name::Name;
 use crate::options::{BondOpts, BridgeOpts, HashPolicy, PortOpts};
 use crate::valid_options::is_fast;
 
-/// The most links of a network.
-pub const MAX_LINKS: usize = 512;
-/// The most addresses of a link.
-pub const MAX_LINK_ADDRESSES: usize = 64;
-/// The most addresses of a network.
-pub const MAX_ADDRESSES: usize = 4096;
-/// The most routes of a network.
-pub const MAX_ROUTES: usize = 4096;
-/// The most rules of a network.
-pub const MAX_RULES: usize = 1024;
-/// The most DNS servers of a network.
-pub const MAX_SERVERS: usize = 16;
-/// The most search names of a network.
-pub const MAX_SEARCH: usize = 16;
-
 // Counts down from the limit, so that no sum is made which might not fit.
 fn addresses_within(links: &[Link]) -> bool
-    ensures { result ≡ nat_le (address_count links.now) 4096 }
+    ensures { result ≡ nat_le (address_count links.now) MAX_ADDRESSES }
 {
     let mut room = MAX_ADDRESSES;
     let mut left = links;
@@ -46,7 +33,7 @@ fn addresses_within(links: &[Link]) -> bool
 }
 
 fn each_within(links: &[Link]) -> bool
-    ensures { result ≡ list_all (λ l. nat_le (length l.addrs) 64) links.now }
+    ensures { result ≡ list_all (λ l. nat_le (length l.addrs) MAX_LINK_ADDRESSES) links.now }
 {
     links
         .iter()

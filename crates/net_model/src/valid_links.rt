@@ -7,6 +7,7 @@ ghost use Rattle.net_model.specs.Links.{is_twin, named_passes, can_be_base, take
 ghost use Rattle.net_model.specs.Valid.{names_differ, each_base_stands, vlans_differ, bases_stand, controllers_take, bases_up, mtu_in_range, mtus_fit, is_bond_or_bridge_port, ports_without_addresses, all_v4, same_address, addresses_differ, addresses_fit};
 
 use crate::address::Prefix;
+use crate::limits::{MAX_MTU, MIN_MTU};
 use crate::link::{Kind, Link};
 use crate::lookup::{can_be_base, find_link, is_bond, is_bridge, takes};
 use crate::name::Name;
@@ -176,7 +177,7 @@ fn base_allows(links: &[Link], kind: &Kind, mtu: u32) -> bool
 pub fn mtu_in_range(mtu: u32) -> bool
     ensures { result ≡ mtu_in_range mtu }
 {
-    mtu >= 68 && mtu <= 65535
+    mtu >= MIN_MTU && mtu <= MAX_MTU
 }
 
 // Part 6: whether each MTU is in range and at most the base's.

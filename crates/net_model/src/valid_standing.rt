@@ -7,7 +7,7 @@ ghost use Rattle.net_model.specs.Standing.{has_base, stands_on, on_cycle, no_cyc
 use crate::link::{Kind, Link};
 use crate::lookup::is_port_of;
 use crate::name::Name;
-use base_model::Items;
+use base_model::{Items, OutOfMemory};
 use reach::closure;
 use std::alloc::{AllocError, Global};
 
@@ -62,7 +62,7 @@ fn on_cycle(
     links: &[Link],
     arrows: &[Items<usize>],
     at: usize,
-) -> Result<bool, AllocError>
+) -> Result<bool, OutOfMemory>
     requires arrows { arrows.now ≡ map (λ l. positions (stands_on l) 0 links.now) links.now }
     requires inside { at < length links.now }
     ensures { IfOk result (λ on. (d : _) → on ≡ on_cycle links.now (slice_index_or links.now at d)) }
@@ -73,8 +73,9 @@ fn on_cycle(
     Ok(reached[at])
 }
 
-/// Part 4: whether no link stands on itself, through any others.
-pub(crate) fn no_cycle(alloc: Global, links: &[Link]) -> Result<bool, AllocError>
+/// Whether no link stands on itself, through any others: a VLAN stands on its base, and a controller on each of its
+/// ports.
+pub fn no_cycle(alloc: Global, links: &[Link]) -> Result<bool, OutOfMemory>
     ensures { IfOk result (λ none. none ≡ no_cycle links.now) }
 {
     let arrows = arrows(alloc, links)?;

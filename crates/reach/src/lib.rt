@@ -1,11 +1,11 @@
-//! What arrows lead to.
+//! Which places of a graph are reachable.
 #![tactic(auto)]
 
 ghost use Rattle.std.specs.Prelude.{◌≡◌, ◌<◌, ℕ, length, get_or, IfOk, false};
 ghost use Rattle.reach.specs.Reach.{IsGraph, IsLeast, Grows, Passes, Steps, is_marked};
 
-use base_model::Items;
-use std::alloc::{AllocError, Global};
+use base_model::{Items, OutOfMemory};
+use std::alloc::Global;
 
 // Marks the targets, and says whether one of them wasn't marked.
 fn mark_all(targets: &[usize], marks: &mut [bool]) -> bool
@@ -69,12 +69,12 @@ fn mark_reached(arrows: &[Items<usize>], starts: &[bool], marks: &mut [bool])
     }
 }
 
-/// Which places the arrows lead to from those that start, in any number of steps.
+/// Which places are reachable from the sources, in one step or more.
 pub fn closure(
     alloc: Global,
     arrows: &[Items<usize>],
     starts: &[bool],
-) -> Result<Vec<bool>, AllocError>
+) -> Result<Vec<bool>, OutOfMemory>
     requires starts { length starts.now ≡ length arrows.now }
     requires graph { IsGraph arrows.now }
     ensures { IfOk result (λ marks. IsLeast arrows.now starts.now marks.items) }

@@ -63,6 +63,7 @@ reached_marked leads starts xs d arrows ss marks r closed (suc steps) j h reache
     (and_right (leads (get_or xs i.0 d) (get_or xs j d)) (starts (get_or xs i.0 d) || is_reached leads starts xs steps (get_or xs i.0 d)) i.2) in
     ap (is_marked marks) (sym arrow.2) ∙ closed i.0 (omega (arith, r.whole, i.1)) on arrow.0 arrow.1
 
+-- what `closure` marks is what is reached within as many steps as there are members
 pub least_is_reached : {X : Type 0} (leads : X → X → Bool) (starts : X → Bool) (xs : List X) (d : X) (arrows : List (List ℕ)) (ss marks : List Bool) → Represents leads starts xs d arrows ss → IsGraph arrows → IsLeast arrows ss marks → (j : ℕ) → j < length xs → is_marked marks j ≡ is_reached leads starts xs (length xs) (get_or xs j d)
 least_is_reached leads starts xs d arrows ss marks r graph least j h =
     same_bool (is_marked marks j) (is_reached leads starts xs (length xs) (get_or xs j d))

@@ -123,3 +123,21 @@ reached_all leads starts xs =
       | inl stable ↦ stable
       | inr many ↦ omega (arith, many, tally_length (is_reached leads starts xs (length xs)) xs, tally_length (is_reached leads starts xs (suc (length xs))) xs, tally_le (is_reached leads starts xs (length xs)) (is_reached leads starts xs (suc (length xs))) (reached_more leads starts xs (length xs)) xs)
     ])
+
+-- fewer arrows and sources reach no more
+pub reached_fewer : {X : Type 0} (few many : X → X → Bool) (some all : X → Bool) → ((x y : X) → few x y ≡ true → many x y ≡ true) → ((x : X) → some x ≡ true → all x ≡ true) → (xs : List X) (d : ℕ) (x : X) → is_reached few some xs d x ≡ true → is_reached many all xs d x ≡ true
+reached_fewer few many some all arrows sources xs zero x h = absurd cc
+reached_fewer few many some all arrows sources xs (suc d) x h =
+    any_mono (λ c. few c x && (some c || is_reached few some xs d c)) (λ c. many c x && (all c || is_reached many all xs d c))
+    (λ c. both (few c x) (many c x) (some c || is_reached few some xs d c) (all c || is_reached many all xs d c) (arrows c x)
+    (either (some c) (all c) (is_reached few some xs d c) (is_reached many all xs d c) (sources c) (reached_fewer few many some all arrows sources xs d c)))
+    xs h
+  where
+    both : (a b c e : Bool) → (a ≡ true → b ≡ true) → (c ≡ true → e ≡ true) → (a && c) ≡ true → (b && e) ≡ true
+    both true b c e f g h = rw (f refl, g h) refl
+    both false b c e f g h = absurd cc
+
+    either : (a b c e : Bool) → (a ≡ true → b ≡ true) → (c ≡ true → e ≡ true) → (a || c) ≡ true → (b || e) ≡ true
+    either true b c e f g h = rw (f refl) refl
+    either false true c e f g h = refl
+    either false false c e f g h = g h
