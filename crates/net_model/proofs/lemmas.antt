@@ -20,6 +20,7 @@ pub mod Parts
 pub mod Puts
 pub mod Ranks
 pub mod Places
+pub mod Search
 pub mod Same
 pub mod SameLists
 pub mod InOrder

@@ -17,7 +17,7 @@ has_key dest table metric r = same_block r.dest dest && (r.table == table) && (r
 abbrev pub find_route : Block → ℕ → ℕ → List Route → Option Route
 find_route dest table metric routes = find (has_key dest table metric) routes
 
--- how the route stands to a key
+-- how a route is ordered to a key
 abbrev pub key_cmp : Block → ℕ → ℕ → Route → Ordering
 key_cmp dest table metric r = ordering_then (ordering_then (block_cmp r.dest dest) (nat_cmp r.table table)) (nat_cmp r.metric metric)
 

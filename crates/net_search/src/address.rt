@@ -8,32 +8,32 @@ ghost use Rattle.net_search.specs.Search.{find_in, find_address};
 use net_model::{Addr, Name, Net, Prefix};
 use std::cmp::Ordering;
 
-// How the prefix's address stands to another.
-fn beside(prefix: &Prefix, addr: Addr) -> Ordering
+// How a prefix's address is ordered to another.
+fn order_to(prefix: &Prefix, addr: Addr) -> Ordering
     ensures { result ≡ address_cmp prefix.now.addr addr }
 {
     prefix.addr().cmp(&addr)
 }
 
-fn among(prefixes: &[Prefix], addr: Addr) -> Option<Prefix>
+fn find_in(prefixes: &[Prefix], addr: Addr) -> Option<Prefix>
     requires in_order { rises block_cmp prefixes.now ≡ true }
     requires differ { addresses_differ prefixes.now ≡ true }
     ensures { result ≡ find_in addr prefixes.now }
 {
-    match prefixes.binary_search_by(|prefix| beside(prefix, addr)) {
+    match prefixes.binary_search_by(|prefix| order_to(prefix, addr)) {
         Ok(i) => Some(prefixes[i]),
         Err(_) => None,
     }
 }
 
-/// The prefix, of whatever length, with which the address stands on the link of this name, by halving, or `None` exactly
+/// The prefix, of whatever length, with which the address stands on the link of this name, by binary search, or `None` exactly
 /// where there is no such link or the address isn't on it.
 pub fn find_address(net: &Net, link: &Name, addr: Addr) -> Option<Prefix>
     ensures { result ≡ find_address link.now addr net.now.links }
 {
     net.laws();
     match net.link(link) {
-        Some(found) => among(found.addrs.items(), addr),
+        Some(found) => find_in(found.addrs.items(), addr),
         None => None,
     }
 }

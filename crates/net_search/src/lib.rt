@@ -1,4 +1,4 @@
-//! Finding what a network holds by halving its lists: a route by its key, and an address on a link.
+//! Finding what a network holds by binary search: a route by its key, and an address on a link.
 #![tactic(auto)]
 
 mod address;

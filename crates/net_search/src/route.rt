@@ -8,8 +8,8 @@ ghost use Rattle.net_search.specs.Search.{find_route, key_cmp};
 use net_model::{Net, Route, Subnet, TableId};
 use std::cmp::Ordering;
 
-// How the route stands to a key, as routes are ordered.
-fn beside(route: &Route, dest: Subnet, table: TableId, metric: u32) -> Ordering
+// How a route is ordered to a key.
+fn order_to(route: &Route, dest: Subnet, table: TableId, metric: u32) -> Ordering
     ensures { result ≡ key_cmp dest table metric route.now }
 {
     route
@@ -19,21 +19,21 @@ fn beside(route: &Route, dest: Subnet, table: TableId, metric: u32) -> Ordering
         .then(route.metric.cmp(&metric))
 }
 
-fn among<'a>(routes: &'a [Route], dest: Subnet, table: TableId, metric: u32) -> Option<&'a Route>
+fn find_in<'a>(routes: &'a [Route], dest: Subnet, table: TableId, metric: u32) -> Option<&'a Route>
     requires in_order { rises route_cmp routes.now ≡ true }
     requires differ { keys_differ routes.now ≡ true }
     ensures { option_copied result ≡ find_route dest table metric routes.now }
 {
-    match routes.binary_search_by(|route| beside(route, dest, table, metric)) {
+    match routes.binary_search_by(|route| order_to(route, dest, table, metric)) {
         Ok(i) => Some(&routes[i]),
         Err(_) => None,
     }
 }
 
-/// The route of this destination, table and metric, by halving, or `None` exactly where no route has that key.
+/// The route of this destination, table and metric, by binary search, or `None` exactly where no route has that key.
 pub fn find_route<'a>(net: &'a Net, dest: Subnet, table: TableId, metric: u32) -> Option<&'a Route>
     ensures { option_copied result ≡ find_route dest table metric net.now.routes }
 {
     net.laws();
-    among(net.routes(), dest, table, metric)
+    find_in(net.routes(), dest, table, metric)
 }
