@@ -142,7 +142,7 @@ gap_cases true o i h = inl (refl, cc)
 gap_cases false None i h = cc
 gap_cases false (Some j) i h = inr (j, (refl, cc))
 
--- what stands before two colons, they and what stands behind them are the text
+-- what stands before two colons, they and what follows them are the text
 pub gap-split : (t : List ℕ) (i : ℕ) → gap_of t ≡ Some i → take i t ++ 58 ∷ 58 ∷ drop (i + 2) t ≡ t
 gap-split [] i h = cc
 gap-split (x ∷ []) i h = cc

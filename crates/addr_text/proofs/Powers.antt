@@ -33,7 +33,7 @@ octet_fits (suc (suc zero)) v b h i k = (omega arith, omega arith)
 octet_fits (suc (suc (suc zero))) v b h i k = (omega arith, omega arith)
 octet_fits (suc (suc (suc (suc n)))) v b h i k = absurd (omega arith)
 
--- what stands behind at least one field
+-- what follows at least one field
 pub fields_behind : (n : ℕ) → n ≤ 7 → n ≢ 0 → 65536 ^ (8 - n) < 2 ^ 128
 fields_behind zero h k = absurd (k refl)
 fields_behind (suc zero) h k = omega arith

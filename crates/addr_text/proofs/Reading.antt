@@ -79,7 +79,7 @@ end_sound last room t f h =
           record { first = t; rest = []; numbers = p.place ∷ []; written = refl; run = one_part last t p.place (field_sound t p.place p.found); value = sym g ∙ one_field p.place }
     ]
 
--- a field and what stands behind it
+-- a field and what follows it
 record Before (first : Option ℕ) (rest : Option Fields) (f : Fields) : Type 0 where
   field : ℕ
   behind : Fields

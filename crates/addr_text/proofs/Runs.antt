@@ -13,7 +13,7 @@ pub run_within : (fs : List ℕ) (n : ℕ) → n ≡ longest fs → first_run n 
 run_within [] n e = omega arith
 run_within (f ∷ fs) n e = grind (arith, zeros_within (f ∷ fs), run_within fs n)
 
--- the zeros at the front and what stands behind them are the fields
+-- the zeros at the front and what follows them are the fields
 zeros_front : (fs : List ℕ) → replicate (zeros fs) 0 ++ drop (zeros fs) fs ≡ fs
 zeros_front [] = refl
 zeros_front (f ∷ fs) =
@@ -26,7 +26,7 @@ zeros_front (f ∷ fs) =
           rw z refl
     ]
 
--- what stands before the chosen run, as many zeros and what stands behind it are the fields
+-- what stands before the chosen run, as many zeros and what follows it are the fields
 pub run_whole : (fs : List ℕ) (n : ℕ) → n ≡ longest fs → take (first_run n fs) fs ++ replicate n 0 ++ drop (first_run n fs + n) fs ≡ fs
 run_whole [] n e = rw e refl
 run_whole (f ∷ fs) n e =

@@ -1,4 +1,4 @@
--- Hardware addresses as six pairs of hexadecimal digits.
+-- MAC addresses as six pairs of hexadecimal digits.
 use Rattle.std.specs.Prelude.{◌≡◌, ℕ, ◌/◌, ◌%◌, true, IsTrue, map, List, [], ◌∷◌, length}
 use Rattle.std.specs.Fmt.{digit_glyph}
 use Rattle.std.specs.List.{list_all}

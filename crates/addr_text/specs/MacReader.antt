@@ -1,4 +1,4 @@
--- What the reader of hardware addresses gives; specs/Mac.antt has the grammar that it is shown to meet.
+-- What the reader of MAC addresses gives; specs/Mac.antt has the grammar that it is shown to meet.
 use Rattle.std.specs.Prelude.{ℕ, ◌+◌, ◌*◌, ◌%◌, Bool, false, ◌&&◌, ◌==◌, List, [], ◌∷◌, length, Option, Some, None, if◌then◌else◌, slice_index}
 use Rattle.std.specs.Char.{digit_value}
 use Rattle.addr_text.specs.Digits.{is_hex_digit}

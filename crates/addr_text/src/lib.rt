@@ -1,4 +1,4 @@
-//! The texts of addresses and hardware addresses, as numbers and bytes: each reader is exact on its grammar.
+//! The texts of addresses and MAC addresses, as numbers and bytes: each reader is exact on its grammar.
 #![tactic(auto)]
 
 mod digits;

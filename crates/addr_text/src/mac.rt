@@ -1,4 +1,4 @@
-//! Hardware addresses: six pairs of hexadecimal digits with colons between them.
+//! MAC addresses: six pairs of hexadecimal digits with colons between them.
 ghost use Rattle.std.specs.Prelude.{◌≡◌, ◌↔◌, ℕ, List, Some, ◌<◌, ◌++◌, OnOk, IfOk, true};
 ghost use Rattle.std.specs.Fmt.{digit_glyph};
 ghost use Rattle.addr_text.specs.Digits.{is_hex_digit};
@@ -44,7 +44,7 @@ fn read_text(text: &[u8]) -> Option<[u8; 6]>
     ])
 }
 
-/// The bytes of a hardware address, exactly where the text is one: six pairs of hexadecimal digits
+/// The bytes of a MAC address, exactly where the text is one: six pairs of hexadecimal digits
 /// of either case, with colons between them.
 pub fn read_mac(text: &[u8]) -> Option<[u8; 6]>
     ensures value { result ≡ mac_of text.now }
@@ -86,7 +86,7 @@ fn push_pairs(bytes: &[u8], line: &mut Vec<u8>) -> Result<(), OutOfMemory>
     }
 }
 
-/// The text of the hardware address of these bytes, in upper case. Reading it gives the bytes again.
+/// The text of the MAC address of these bytes, in upper case. Reading it gives the bytes again.
 pub fn mac_text(alloc: Global, bytes: &[u8; 6]) -> Result<Vec<u8>, OutOfMemory>
     ensures text { IfOk result (λ text. text.items ≡ mac_text bytes.now) }
     ensures reads_back { IsMac (mac_text bytes.now) bytes.now }

@@ -52,7 +52,7 @@ abbrev mutual
 abbrev pub json_text : Shape → List ℕ
 json_text s = compact_text (data_of (in_order s))
 
--- the answer is the text, or that a number is too wide, or want of memory
+-- the answer is the text, or that a number is too wide, or out of memory
 abbrev pub WritesText : Shape → Result (Vec ℕ Global) TextFault → Type 0
 WritesText s (Ok v) = (fits s ≡ true) × (v.items ≡ json_text s)
 WritesText s (Err WideInt) = fits s ≡ false

@@ -1,5 +1,5 @@
 -- What a JSON text (RFC 8259) gives: its tree, or the first of its faults. The value of a text is the one that
--- `serde_json` defines: of a key that comes twice the last value stays, and an object's members come in the order of
+-- `serde_json` defines: of duplicate keys the last value stays, and an object's members come in the order of
 -- their keys' bytes.
 use Rattle.std.specs.Prelude.{◌≡◌, ℕ, suc, pos, List, [], ◌∷◌, Option, Some, None, option_map, Result, Ok, Err, if◌then◌else◌, length, nat_lt, nat_le}
 use Rattle.std.specs.Str.{is_utf8}
@@ -74,7 +74,7 @@ abbrev mutual
   members_not_whole no_members = None
   members_not_whole (member k d ms) = or_next (below (Key k) (not_whole d)) (members_not_whole ms)
 
--- ---- the tree of a text, or its fault: too large, no JSON, too deep, and then a number that isn't whole
+-- ---- the tree of a text, or its fault: too large, invalid JSON, too deep, and then a number that isn't whole
 
 -- the value that `serde_json` defines for the bytes; bytes that aren't UTF-8 have none
 unfoldable pub json_of : List ℕ → Option Data
@@ -94,7 +94,7 @@ tree_of_value (Some d) = if nat_le (levels (shape_of d)) MAX_LEVELS then whole_t
 unfoldable pub json_tree : List ℕ → Result Shape JsonFault
 json_tree bytes = if nat_lt MAX_BYTES (length bytes) then Err TooLarge else tree_of_value (json_of bytes)
 
--- an answer is the defined one, or want of memory
+-- an answer is the defined one, or out of memory
 abbrev pub Gives : Result Shape JsonFault → Result Tree JsonFault → Type 0
 Gives defined (Ok tree) = defined ≡ Ok (shape tree)
 Gives defined (Err OutOfMemory) = Unit {0}

@@ -18,14 +18,14 @@ use std::alloc::{AllocError, AllocFailed, Global};
 pub enum JsonFault {
     /// The text has more than [`MAX_BYTES`] bytes.
     TooLarge,
-    /// `serde_json` refuses the bytes: they aren't UTF-8, no JSON, nested more than 127 deep, or have a number beyond
+    /// `serde_json` refuses the bytes: invalid UTF-8 or JSON, nested more than 127 deep, or a number beyond
     /// every float.
     NotJson,
     /// The tree has more than [`MAX_LEVELS`] levels.
     TooDeep,
     /// The first number, in the order of the tree, that isn't a whole one of u64 or i64.
     NotWhole(Path),
-    /// Memory was refused.
+    /// Out of memory.
     OutOfMemory,
 }
 
@@ -167,7 +167,11 @@ fn trees_of(alloc: Global, items: Vec<Value>, room: usize) -> Result<Vec<Tree>, 
 }
 
 #[cycle(trees)]
-fn pairs_of(alloc: Global, members: Map<String, Value>, room: usize) -> Result<Vec<(Str, Tree)>, Stop>
+fn pairs_of(
+    alloc: Global,
+    members: Map<String, Value>,
+    room: usize,
+) -> Result<Vec<(Str, Tree)>, Stop>
     ensures { MakesPairs room (members_view members.entries) result }
 {
     let mut pairs = Vec::with_capacity(alloc, members.len())?;
@@ -192,7 +196,7 @@ fn value_of(alloc: Global, bytes: &[u8]) -> Result<Value, JsonFault>
     }
 }
 
-// The fault of a text whose value has a number that isn't whole: a node too deep, which may stand behind the number,
+// The fault of a text whose value has a number that isn't whole: a node too deep, which may follow the number,
 // comes before it, so the text is read again and looked at as a whole.
 fn fault_at(alloc: Global, bytes: &[u8], mut steps: Vec<PathStep>) -> JsonFault
     ensures { IsFaultAt bytes.now (reverse steps.items) result }
@@ -228,7 +232,7 @@ fn read_tree(alloc: Global, bytes: &[u8]) -> Result<Tree, JsonFault>
 
 /// The tree of a JSON text of at most [`MAX_BYTES`] bytes.
 ///
-/// Of a key that comes twice in an object the last value stays, and each map's pairs come in the order of their keys'
+/// Of duplicate keys of an object the last value stays, and each map's pairs come in the order of their keys'
 /// bytes. `-0`, a number with a point or an exponent and a whole number beyond u64 and i64 aren't whole.
 pub fn tree_of_json(alloc: Global, bytes: &[u8]) -> Result<Tree, JsonFault>
     ensures tree { Gives (json_tree bytes.now) result }

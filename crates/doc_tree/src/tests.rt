@@ -60,12 +60,24 @@ fn reads_each_kind_of_value(rt: HostRuntime) -> Result<(), Fail> {
 }
 
 #[test]
+fn looks_up_a_key(rt: HostRuntime) -> Result<(), Fail> {
+    let alloc = rt.alloc();
+    let Ok(tree) = tree_of_json(alloc, b"{\"a\":1,\"b\":\"x\"}") else {
+        return Err("refused".into());
+    };
+    assert_eq!(rt; tree.get("a"), Some(&Tree::Int(1)));
+    assert_eq!(rt; tree.get("c"), None);
+    Ok(())
+}
+
+#[test]
 fn reads_and_refuses_texts(rt: HostRuntime) -> Result<(), Fail> {
     let alloc = rt.alloc();
     let table: [(&[u8], &[u8]); 40] = [
         (b"null", b"null"),
         (b"true", b"true"),
         (b" [ 1 ,\t2\r\n] ", b"[1,2]"),
+        // pairs come sorted by their keys' bytes
         (
             b"{\"b\":1,\"a\":2,\"aa\":3,\"\":4}",
             b"{\"\":4,\"a\":2,\"aa\":3,\"b\":1}",
@@ -88,7 +100,7 @@ fn reads_and_refuses_texts(rt: HostRuntime) -> Result<(), Fail> {
         (b"1e999", b"NotJson"),
         (b"01", b"NotJson"),
         (b"+1", b"NotJson"),
-        // of a key that comes twice the last value stays
+        // of duplicate keys the last value stays
         (b"{\"a\":1,\"b\":2,\"a\":3}", b"{\"a\":3,\"b\":2}"),
         (b"{\"a\":1.5,\"a\":2}", b"{\"a\":2}"),
         (b"{\"\\u0061\":1,\"a\":2}", b"{\"a\":2}"),
@@ -106,7 +118,7 @@ fn reads_and_refuses_texts(rt: HostRuntime) -> Result<(), Fail> {
         (b"\"\\u12g4\"", b"NotJson"),
         (b"\"\t\"", b"NotJson"),
         (b"\"\xff\"", b"NotJson"),
-        // what is no JSON
+        // invalid JSON
         (b"", b"NotJson"),
         (b"  ", b"NotJson"),
         (b"1 2", b"NotJson"),
@@ -157,7 +169,7 @@ fn counts_levels(rt: HostRuntime) -> Result<(), Fail> {
         (32, b"{\"a\":", b"null", b"}", b"TooDeep"),
         (15, b"{\"a\":[", b"[\"\"]", b"]}", b""),
         (16, b"{\"a\":[", b"true", b"]}", b"TooDeep"),
-        // a text that nests too deep is no JSON where it isn't closed, and its floats aren't looked at
+        // a text that nests too deep is invalid JSON where it isn't closed, and its floats aren't looked at
         (32, b"[", b"", b"", b"NotJson"),
         (32, b"[", b"1.5", b"]", b"TooDeep"),
         // the reader of JSON goes 127 deep

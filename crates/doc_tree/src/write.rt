@@ -19,7 +19,7 @@ use std::alloc::{AllocError, AllocFailed, Global};
 pub enum TextFault {
     /// An integer fits neither i64 nor u64.
     WideInt,
-    /// Memory was refused.
+    /// Out of memory.
     OutOfMemory,
 }
 

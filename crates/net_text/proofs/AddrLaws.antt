@@ -122,7 +122,7 @@ addr_text-reads a h = addr_complete (addr_text a) a (written_text a.v6 a.bits h)
 pub prefix_text-reads : (b : Block) → IsAddress b.addr → IsPrefix b → prefix_of (prefix_text b) ≡ Some b
 prefix_text-reads b h k = length_complete (prefix_text b) (addr_text b.addr) b.addr b.len refl (written_text b.addr.v6 b.addr.bits h) k
 
--- a hardware address that was read
+-- a MAC address that was read
 pub hardware_sound : (t : List ℕ) (m : Mac) → hardware_of t ≡ Some m → IsMac t m.bytes
 hardware_sound t m h =
     let p = mapped hardware (mac_of t) m h in

@@ -1,4 +1,4 @@
--- The texts of addresses, prefixes and hardware addresses, of the model's types.
+-- The texts of addresses, prefixes and MAC addresses, of the model's types.
 use Rattle.std.specs.Prelude.{◌≡◌, ℕ, ◌+◌, ◌≤◌, ◌⊎◌, ◌==◌, Bool, true, false, nat_le, List, ◌∷◌, ◌++◌, take, drop, Option, Some, None, if◌then◌else◌}
 use Rattle.std.specs.Fmt.{decimal}
 use Rattle.std.specs.List.{position}
@@ -42,7 +42,7 @@ prefix_of t = at_place (position (λ b. b == 47) t) (option_map whole (addr_of t
 abbrev pub hardware : List ℕ → Mac
 hardware bytes = record { bytes = bytes }
 
--- the hardware address that a text is read as
+-- the MAC address that a text is read as
 abbrev pub hardware_of : List ℕ → Option Mac
 hardware_of t = option_map hardware (mac_of t)
 

@@ -106,7 +106,7 @@ fn push_call(call: &Call, line: &mut Vec<u8>) -> Result<(), OutOfMemory>
 }
 
 /// Appends the line of a call, without a line's end. The call isn't one that would make a link of
-/// hardware, which has no line. Where memory is refused, `out` is as it was.
+/// hardware, which has no line. Where memory runs out, `out` is as it was.
 pub fn write_call_line(call: &Call, out: &mut Vec<u8>) -> Result<(), OutOfMemory>
     requires { IsTrue (has_line call.now) }
     ensures appends { OnOk result (out.new.items ≡ out.old.items ++ call_line call.now) }

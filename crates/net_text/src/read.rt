@@ -1,4 +1,4 @@
-//! Texts of addresses, prefixes and hardware addresses, read.
+//! Texts of addresses, prefixes and MAC addresses, read.
 ghost use Rattle.std.specs.Prelude.{◌≡◌, ◌↔◌, Some, ◌==◌, ◌<◌, ◌≤◌, length, drop, IfSome};
 ghost use Rattle.std.specs.List.{position};
 ghost use Rattle.addr_text.specs.Mac.{IsMac};
@@ -74,7 +74,7 @@ pub fn read_prefix(text: &[u8]) -> Option<Prefix>
     prefix_of(text)
 }
 
-/// The hardware address of a text, exactly where the text is one: six pairs of hexadecimal digits
+/// The MAC address of a text, exactly where the text is one: six pairs of hexadecimal digits
 /// of either case, with colons between them.
 pub fn read_mac(text: &[u8]) -> Option<Mac>
     ensures value { result ≡ hardware_of text.now }

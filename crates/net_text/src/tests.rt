@@ -142,7 +142,7 @@ fn addr(text: &str) -> Result<Addr, Fail> {
     Ok(read_addr(text.as_bytes()).ok_or("no address")?)
 }
 
-// The line stands behind what was there.
+// The line follows what was there.
 fn prints(rt: &impl Abort, alloc: Global, call: Call, want: &str) -> Result<(), Fail>
     requires { IsTrue (has_line call) }
 {

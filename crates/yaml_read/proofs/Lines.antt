@@ -1,4 +1,4 @@
--- The first row that doesn't go on is on the first line that doesn't.
+-- The first row that can't continue a valid document is on the first line that can't.
 use Rattle.std.proofs.Common.{◌≡◌, ◌⊎◌, ℕ, ◌+◌, Bool, true, false, cond, List, [], ◌∷◌, ◌++◌, length, Result, Ok, Err, refl, sym, ap, subst, ◌∙◌, append_assoc, arith, inl, inr}
 use Rattle.doc_tree.specs.Shape.{Shape, nothing}
 use Rattle.yaml_read.specs.declared.fault.YamlFault.{YamlFault}
@@ -206,7 +206,7 @@ module _ (ls : List (List ℕ)) (front : List Row) (r : Row) (rest : List Row) (
         λ others u is. let w = rows_with f.0 f.1 others f.5 in none w.0 u (subst (λ (y : List Row). StandFor y u) w.1 is),
       )
 
--- the fault of lines is at the first that doesn't go on
+-- the fault of lines is at the first that can't continue a valid document
 pub lines_stop : (ls : List (List ℕ)) (f : YamlFault) → document (rows_of_lines ls) ≡ Err f → StopsAt ls (line_of f)
 lines_stop ls f fails =
     let s = document_stops (rows_of_lines ls) f fails in

@@ -1,4 +1,4 @@
--- The fault of a line that doesn't go on with a text.
+-- The fault of a line that can't continue a valid document.
 use Rattle.std.specs.Prelude.{ℕ, Bool, true, false, ◌||◌, if◌then◌else◌, List, length, Option, Some, None, Result, Ok, Err}
 use Rattle.doc_tree.specs.Shape.{Shape}
 use Rattle.yaml_read.specs.declared.stop.Why.{Why}
@@ -52,7 +52,7 @@ by_cause Repeated n = faults.DuplicateKey n
 by_cause Deep n = faults.TooDeep n
 by_cause Unfit n = faults.Malformed n
 
--- the fault of a row, by the line alone and then by why it doesn't go on
+-- the fault of a row, by the line alone and then by why it can't continue
 unfoldable pub fault_of : Why → Row → YamlFault
 fault_of why r =
     if has_other r then faults.Unsupported r.number

@@ -44,7 +44,7 @@ module _ (repeats : Repeats) (levels : ℕ) (value : List ℕ → Read Shape) wh
   flow_items zero text = Err Unfit
   flow_items (suc n) text = items_step (flow_items n) (skip_spaces text)
 
-  -- what stands behind the colon of a pair: a value, or nothing before a comma or the end
+  -- what follows the colon of a pair: a value, or nothing before a comma or the end
   abbrev pub value_or_nothing : List ℕ → Read Shape
   value_or_nothing bs = if begins comma bs || begins right_brace bs then Ok (nothing, bs) else value bs
 

@@ -39,7 +39,7 @@ scalar style bs =
     else if begins_plain style bs then Ok (value_of_plain (plain_split style false bs))
     else Err Unfit
 
--- what may stand behind a key's colon: a gap, and in flow a sign that ends the value
+-- what may follow a key's colon: a gap, and in flow a sign that ends the value
 abbrev pub ends_value : Style → List ℕ → Bool
 ends_value style bs = at_gap bs || (is_flow style && (begins comma bs || begins right_brace bs))
 

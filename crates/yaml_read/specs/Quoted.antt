@@ -37,7 +37,7 @@ hex_escape n bs =
     if nat_lt (length bs) n then None
     else option_map (λ c. (c, drop n bs)) (option_and_then char_of (hex_value (take n bs)))
 
--- the character that stands behind a backslash, and the text behind it
+-- the character that follows a backslash, and the text behind it
 unfoldable pub escape : List ℕ → Option (ℕ × List ℕ)
 escape [] = None
 escape (b ∷ bs) =

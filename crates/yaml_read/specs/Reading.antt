@@ -19,7 +19,7 @@ use Rattle.yaml_read.specs.declared.style.Style.TheVariants as style
 abbrev pub Block : Type 0 → Type 0
 Block A = Result (A × List Row) YamlFault
 
--- the fault of a row, by why it doesn't go on
+-- the fault of a row, by why it can't continue
 abbrev pub at_row : {A : Type 0} → Row → Result A Why → Result A YamlFault
 at_row r (Ok x) = Ok x
 at_row r (Err why) = Err (fault_of why r)
@@ -28,11 +28,11 @@ at_row r (Err why) = Err (fault_of why r)
 abbrev pub is_own : ℕ → Row → Bool
 is_own column r = (r.column == column) && not (is_outside r)
 
--- the key of a row that goes on with a map at this column, and what stands behind its colon
+-- the key of a row that continues a map at this column, and what follows its colon
 unfoldable pub own_key : ℕ → Row → Option (List ℕ × List ℕ)
 own_key column r = if is_own column r then key style.Block r.text else None
 
--- the row goes on with a sequence at this column
+-- the row continues a sequence at this column
 unfoldable pub own_dash : ℕ → Row → Bool
 own_dash column r = is_own column r && is_dash r.text
 
@@ -41,7 +41,7 @@ abbrev pub begin_with : (Row → Bool) → List Row → Bool
 begin_with test [] = false
 begin_with test (r ∷ rows) = test r
 
--- a row that is deeper, and one that is so or goes on with a sequence at this column
+-- a row that is deeper, and one that is so or continues a sequence at this column
 abbrev pub is_deeper : ℕ → Row → Bool
 is_deeper column r = nat_lt column r.column
 
@@ -54,12 +54,12 @@ begins_deeper column rows = begin_with (is_deeper column) rows
 abbrev pub begins_below_key : ℕ → List Row → Bool
 begins_below_key column rows = begin_with (is_below_key column) rows
 
--- the first row with its key, where it goes on with a map, and the rows behind it
+-- the first row with its key, where it continues a map, and the rows behind it
 abbrev pub first_pair : ℕ → List Row → Option ((List ℕ × List ℕ) × Row × List Row)
 first_pair column [] = None
 first_pair column (r ∷ rows) = option_map (λ k. (k, r, rows)) (own_key column r)
 
--- the first row, where it goes on with a sequence, and the rows behind it
+-- the first row, where it continues a sequence, and the rows behind it
 abbrev pub first_item : ℕ → List Row → Option (Row × List Row)
 first_item column [] = None
 first_item column (r ∷ rows) = if own_dash column r then Some (r, rows) else None
@@ -102,7 +102,7 @@ module _ (levels : ℕ) (node : List Row → Block Shape) where
   items zero column rows = Ok ([], rows)
   items (suc n) column rows = items_step (items n column) column rows (first_item column rows)
 
--- a map or a sequence has an entry: else its first row doesn't go on
+-- a map or a sequence has an entry: else its first row can't continue
 abbrev pub some_pairs : Row → List (List ℕ × Shape) → List Row → Block Shape
 some_pairs r [] rows = Err (fault_of Unfit r)
 some_pairs r (p ∷ ps) rows = Ok (mapping (pairs_of (p ∷ ps)), rows)
@@ -119,7 +119,7 @@ node (suc levels) (r ∷ rows) =
     if is_dash r.text then items levels (node levels) (length (r ∷ rows) + 1) r.column (r ∷ rows) >>= (λ x. some_items r x.0 x.1)
     else pairs levels (node levels) (length (r ∷ rows) + 1) r.column [] (r ∷ rows) >>= (λ x. some_pairs r x.0 x.1)
 
--- a row behind the top node doesn't go on
+-- a row behind the top node can't continue
 abbrev pub all_rows : Shape → List Row → Result Shape YamlFault
 all_rows t [] = Ok t
 all_rows t (r ∷ rows) = Err (fault_of Unfit r)

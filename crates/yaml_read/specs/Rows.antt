@@ -20,7 +20,7 @@ is_dash bs = begins dash bs && at_gap (tail bs)
 abbrev pub row : ℕ → List ℕ → Row
 row n line = record { number = n; column = leading_spaces line; text = skip_spaces line; line = line }
 
--- the dash of a row alone, and what stands behind it
+-- the dash of a row alone, and what follows it
 abbrev pub lone_dash : Row → Row
 lone_dash r = record { number = r.number; column = r.column; text = dash ∷ []; line = r.line }
 

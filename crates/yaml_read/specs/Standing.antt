@@ -55,7 +55,7 @@ StandFor rows t = ((rows ≡ []) × (t ≡ nothing)) ⊎ IsNode MAX_LEVELS rows 
 abbrev pub StandsFor : List ℕ → Shape → Type 0
 StandsFor bytes t = StandFor (rows_of bytes) t
 
--- The first row that doesn't go on has this number: what comes before it stands for a tree, and nothing that begins with both
+-- The first row that can't continue a valid document has this number: what comes before it stands for a tree, and nothing that begins with both
 -- does.
 abbrev pub StopAt : List Row → ℕ → Type 0
 StopAt rows n =
@@ -64,7 +64,7 @@ StopAt rows n =
     × ((t : Shape) × StandFor front t)
     × ((later : List Row) (t : Shape) → StandFor (front ++ r ∷ later) t → ⊥)
 
--- The first line that doesn't go on has this number: the lines before it stand for a tree, and no lines that begin with those
+-- The first line that can't continue a valid document has this number: the lines before it stand for a tree, and no lines that begin with those
 -- and it do.
 abbrev pub StopsAt : List (List ℕ) → ℕ → Type 0
 StopsAt ls n =

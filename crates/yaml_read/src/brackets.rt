@@ -112,7 +112,7 @@ fn has_no_value(text: &[u8]) -> bool
     begins(b',', text) || begins(b'}', text)
 }
 
-// Goes on with the value of a pair, from what stands behind the colon.
+// Goes on with the value of a pair, from what follows the colon.
 fn value<'a>(
     alloc: Global,
     repeats: Repeats,
@@ -200,7 +200,7 @@ fn turn<'a>(
 /// The text behind the node of flow that begins here, of at most so many levels.
 ///
 /// Each turn takes a byte at least, so there are no more turns than bytes; a body that took more has no better answer than
-/// want of memory.
+/// out of memory.
 pub fn flow_end(alloc: Global, repeats: Repeats, levels: usize, text: &[u8]) -> Result<&[u8], Stop>
     ensures { Gives (λ x. x.now) result (end_of (flow repeats levels text.now)) }
 {

@@ -2,6 +2,7 @@
 
 ghost use Rattle.std.specs.Prelude.{◌≡◌};
 ghost use Rattle.yaml_read.specs.Bytes.{begins, tail, skip_spaces, leading_spaces, trim_end, is_sign, is_indicator, at_gap, at_break, is_same};
+
 use crate::style::Style;
 
 pub fn begins(byte: u8, text: &[u8]) -> bool

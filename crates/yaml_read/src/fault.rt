@@ -12,7 +12,7 @@ pub enum YamlFault {
     NotUtf8(u64),
     /// The line has something of YAML that lies outside the subset. The number is that of the line, from 1, here and below.
     Unsupported(u64),
-    /// The line doesn't go on with a text of the subset.
+    /// The line can't continue a valid document.
     Malformed(u64),
     /// A key on the line equals an earlier one of its map.
     DuplicateKey(u64),
@@ -20,7 +20,7 @@ pub enum YamlFault {
     TooDeep(u64),
     /// The text has more than 4,194,304 bytes.
     TooLarge,
-    /// Memory was refused.
+    /// Out of memory.
     OutOfMemory,
 }
 

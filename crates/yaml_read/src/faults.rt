@@ -1,4 +1,4 @@
-//! The fault of a line that doesn't go on with a text.
+//! The fault of a line that can't continue a valid document.
 
 ghost use Rattle.std.specs.Prelude.{◌≡◌, ◌||◌, IfOk};
 ghost use Rattle.yaml_read.specs.declared.stop.Repeats.TheVariants.{Refused, Taken};
@@ -104,7 +104,7 @@ fn try_fault_of(alloc: Global, why: Why, row: &Row) -> Result<YamlFault, AllocEr
     Ok(by_cause(why, row.number))
 }
 
-/// The fault of a row, by why it doesn't go on.
+/// The fault of a row, by why it can't continue.
 pub fn fault_of(alloc: Global, why: Why, row: &Row) -> YamlFault
     ensures { Names result (fault_of why (seen row.now)) }
 {

@@ -36,7 +36,10 @@ pub fn behind_entry(closing: u8, text: &[u8]) -> Result<&[u8], Stop>
 pub fn begins_node(text: &[u8]) -> bool
     ensures { result ≡ begins_node text.now }
 {
-    begins(b'[', text) || begins(b'{', text) || begins_quoted(text) || begins_plain(Style::Flow, text)
+    begins(b'[', text)
+        || begins(b'{', text)
+        || begins_quoted(text)
+        || begins_plain(Style::Flow, text)
 }
 
 fn is_refused(repeats: Repeats, name: &Str, entries: &Entries) -> bool
@@ -96,7 +99,7 @@ fn flow_items<'a>(
     Err(Stop::Because(Why::Unfit))
 }
 
-// The value of a pair, and the text behind it, from what stands behind the colon.
+// The value of a pair, and the text behind it, from what follows the colon.
 #[cycle(flow)]
 #[tactic(auto, unfolding(crate::specs::Flow::flow_value))]
 fn flow_value<'a>(

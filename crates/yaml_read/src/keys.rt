@@ -10,8 +10,8 @@ use crate::bytes::{at_gap, begins, tail, trim_end};
 use crate::plain::{begins_plain, plain_split, plain_value};
 use crate::quoted::{begins_quoted, quoted};
 use crate::stop::{Stop, Why};
-use crate::text::copied;
 use crate::style::Style;
+use crate::text::copied;
 use base_model::Str;
 use doc_tree::Tree;
 use std::alloc::{AllocError, Global};
@@ -52,7 +52,7 @@ pub fn scalar(alloc: Global, style: Style, text: &[u8]) -> Result<(Tree, &[u8]),
     Ok((plain_value(alloc, trim_end(plain))?, behind))
 }
 
-// Whether this may stand behind a key's colon.
+// Whether this may follow a key's colon.
 fn ends_value(style: Style, text: &[u8]) -> bool
     ensures { result ≡ ends_value style text.now }
 {

@@ -10,7 +10,7 @@ ghost use Rattle.doc_tree.specs.declared.limits.TheConstants.{MAX_BYTES};
 ghost use Rattle.yaml_read.specs.Reading.{document, reading};
 ghost use Rattle.yaml_read.specs.Standing.{StandFor, StandsFor, StopAt, StopsAt, line_of};
 
-/// The laws that tie the function that reads to the relation that says what stands for what. It does nothing.
+/// The laws that tie the function that reads to the relation that says what stands for what. It has no effect at run time.
 pub fn reading_laws()
     // What rows are read as, they stand for.
     ensures sound { (rows : List Row) (t : Shape) → document rows ≡ Ok t → StandFor rows t }
@@ -18,14 +18,14 @@ pub fn reading_laws()
     ensures complete { (rows : List Row) (t : Shape) → StandFor rows t → document rows ≡ Ok t }
     // So rows stand for one tree at most.
     ensures one_tree { (rows : List Row) (t u : Shape) → StandFor rows t → StandFor rows u → t ≡ u }
-    // A fault names the line of the first row that doesn't go on ..
+    // A fault names the line of the first row that can't continue a valid document ..
     ensures first_row { (rows : List Row) (f : YamlFault) → document rows ≡ Err f → StopAt rows (line_of f) }
-    // .. and so the first line that doesn't.
+    // .. and so the first line that can't.
     ensures first_line { (ls : List (List ℕ)) (f : YamlFault) → document (rows_of_lines ls) ≡ Err f → StopsAt ls (line_of f) }
     // The same of texts: what is read stands so ..
     ensures text_sound { (bytes : List ℕ) (t : Shape) → reading bytes ≡ Ok t → StandsFor bytes t }
     // .. and within the limit what stands so is read.
     ensures text_complete { (bytes : List ℕ) (t : Shape) → length bytes ≤ MAX_BYTES → IsUtf8 bytes → StandsFor bytes t → reading bytes ≡ Ok t }
-    // A fault of such a text names the first of its lines that doesn't go on.
+    // A fault of such a text names the first of its lines that can't continue a valid document.
     ensures text_first_line { (bytes : List ℕ) (f : YamlFault) → length bytes ≤ MAX_BYTES → IsUtf8 bytes → reading bytes ≡ Err f → StopsAt (lines bytes) (line_of f) }
 {}

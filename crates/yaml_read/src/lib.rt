@@ -22,8 +22,8 @@ mod style;
 mod text;
 
 pub use fault::YamlFault;
-pub use plain::{integer_of, is_plain_string};
 pub use laws::reading_laws;
+pub use plain::{integer_of, is_plain_string};
 pub use read::tree_of_yaml;
 
 #[cfg(test)]

@@ -24,7 +24,7 @@ pub fn is_blank(text: &[u8]) -> bool
     rest.is_empty() || begins(b'#', rest)
 }
 
-/// Whether no more than spaces, and a comment behind a space, stand behind a quoted or flow value.
+/// Whether no more than spaces, and a comment behind a space, follow a quoted or flow value.
 #[tactic(auto, unfolding(crate::specs::OnLine::is_over))]
 pub fn is_over(text: &[u8]) -> bool
     ensures { result ≡ is_over text.now }

@@ -9,8 +9,8 @@ ghost use Rattle.yaml_read.specs.Bytes.{dash, question};
 ghost use Rattle.yaml_read.specs.Plain.{begins_plain, ends_plain, plain_split, is_digits, is_whole, is_integer, is_null, is_text, plain_value};
 
 use crate::bytes::{at_break, at_gap, is_indicator, is_same, is_sign};
-use crate::text::copied;
 use crate::style::Style;
+use crate::text::copied;
 use doc_tree::Tree;
 use std::alloc::{AllocError, Global};
 use std::str;
@@ -18,7 +18,9 @@ use std::str;
 fn ends_plain(style: Style, spaced: bool, byte: u8, behind: &[u8]) -> bool
     ensures { result ≡ ends_plain style spaced byte behind.now }
 {
-    (spaced && byte == b'#') || (byte == b':' && at_break(style, behind)) || (style.is_flow() && is_sign(byte))
+    (spaced && byte == b'#')
+        || (byte == b':' && at_break(style, behind))
+        || (style.is_flow() && is_sign(byte))
 }
 
 /// A plain scalar with the spaces behind it, and the text from its end on.

@@ -147,7 +147,7 @@ fn hex_escape(count: usize, text: &[u8]) -> Option<(char, &[u8])>
     Some((c, behind))
 }
 
-// The character that stands behind a backslash, and the text behind it.
+// The character that follows a backslash, and the text behind it.
 #[tactic(auto, unfolding(crate::specs::Quoted::escape))]
 fn escape(text: &[u8]) -> Option<(char, &[u8])>
     ensures { option_map (λ p. (p.0, p.1.now)) result ≡ escape text.now }

@@ -39,7 +39,7 @@ fn read_tree(alloc: Global, bytes: &[u8]) -> Result<Tree, YamlFault>
 /// The tree that a text of the subset stands for.
 ///
 /// A text of more than [`MAX_BYTES`](doc_tree::MAX_BYTES) bytes is `TooLarge`, and one that isn't UTF-8 `NotUtf8` with the place at which it stops
-/// being. Else the fault names the first line that doesn't go on with a text of the subset: `Unsupported` where the line by
+/// being. Else the fault names the first line that can't continue a valid document: `Unsupported` where the line by
 /// itself has something of YAML that lies outside, else `DuplicateKey` where a key equals an earlier one of its map, else
 /// `TooDeep` where a node begins past level [`MAX_LEVELS`](doc_tree::MAX_LEVELS), else `Malformed`.
 pub fn tree_of_yaml(alloc: Global, bytes: &[u8]) -> Result<Tree, YamlFault>

@@ -26,7 +26,7 @@ fn is_own(column: usize, row: &Row) -> bool
     row.column == column && !is_outside(row)
 }
 
-// Whether a row goes on with a sequence at this column.
+// Whether a row continues a sequence at this column.
 #[tactic(auto, unfolding(crate::specs::Reading::own_dash))]
 fn own_dash(column: usize, row: &Row) -> bool
     ensures { result ≡ own_dash column (seen row.now) }
@@ -34,7 +34,7 @@ fn own_dash(column: usize, row: &Row) -> bool
     is_own(column, row) && is_dash(&row.text)
 }
 
-// The key of a row that goes on with a map at this column, and what stands behind its colon.
+// The key of a row that continues a map at this column, and what follows its colon.
 #[tactic(auto, unfolding(crate::specs::Reading::own_key))]
 fn own_key(alloc: Global, column: usize, row: &Row) -> Result<Option<(Str, &[u8])>, AllocError>
     ensures { IfOk result (λ r. option_map (λ p. (p.0, p.1.now)) r ≡ own_key column (seen row.now)) }
@@ -64,7 +64,7 @@ fn begins_below_key(column: usize, rows: &[Row]) -> bool
     }
 }
 
-// The key of the first row, what stands behind it, that row and those behind it, if it goes on with a map.
+// The key of the first row, what follows it, that row and those behind it, if it continues a map.
 fn first_pair<'a>(
     alloc: Global,
     column: usize,
@@ -81,7 +81,7 @@ fn first_pair<'a>(
     }
 }
 
-// The first row and those behind it, if it goes on with a sequence.
+// The first row and those behind it, if it continues a sequence.
 fn first_item(column: usize, rows: &[Row]) -> Option<(&Row, &[Row])>
     ensures { option_map (λ x. (seen x.0.now, all_seen x.1.now)) result ≡ first_item column (all_seen rows.now) }
 {

@@ -84,7 +84,7 @@ fn column_behind(column: usize, text: &[u8]) -> Result<usize, AllocError>
     }
 }
 
-// What stands behind the dash of a row.
+// What follows the dash of a row.
 fn behind_dash(alloc: Global, whole: &Row) -> Result<Row, AllocError>
     ensures { IfOk result (λ r. seen r ≡ behind_dash (seen whole.now)) }
 {

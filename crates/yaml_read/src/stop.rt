@@ -5,7 +5,7 @@ ghost use Rattle.yaml_read.specs.declared.stop.Stop.TheVariants.{Memory};
 
 use std::alloc::{AllocError, AllocFailed};
 
-/// Why a line doesn't go on with a text.
+/// Why a line can't continue a valid document.
 #[derive(Clone, Copy)]
 pub enum Why {
     /// A sign of YAML that lies outside the subset stands where a value or a key begins.
@@ -21,9 +21,9 @@ pub enum Why {
 /// Why reading stopped.
 #[derive(Clone, Copy)]
 pub enum Stop {
-    /// Memory was refused.
+    /// Out of memory.
     Memory,
-    /// The text doesn't go on.
+    /// The text can't continue a valid document.
     Because(Why),
 }
 

@@ -1,6 +1,6 @@
 //! Texts and what they stand for, compared with tables that were worked out apart from this crate.
 
-use crate::{YamlFault, tree_of_yaml};
+use crate::{YamlFault, integer_of, is_plain_string, tree_of_yaml};
 use doc_tree::Tree;
 use std::alloc::{AllocError, Global};
 use std::test::Fail;
@@ -63,7 +63,7 @@ fn outcome(alloc: Global, text: &[u8]) -> Result<String, Fail> {
 #[test]
 fn reads_lines_and_blocks(rt: HostRuntime) -> Result<(), Fail> {
     let alloc = rt.alloc();
-    let table: [(&[u8], &str); 18] = [
+    let table: [(&[u8], &str); 19] = [
         // lines and comments
         (b"a: 1\r\nb: 2\r\n", "{'a':1,'b':2}"),
         (
@@ -71,6 +71,8 @@ fn reads_lines_and_blocks(rt: HostRuntime) -> Result<(), Fail> {
             "{'a':'x','b':'y#z'}",
         ),
         (b"a: 1", "{'a':1}"),
+        // pairs come in the document's order
+        (b"b: 1\na: 2\nc: 3\n", "{'b':1,'a':2,'c':3}"),
         // the start of a document
         (b"", "null"),
         (b"---\n", "null"),
@@ -229,6 +231,65 @@ fn refuses_scalars(rt: HostRuntime) -> Result<(), Fail> {
         (b"a: @b\n", "Malformed(1)"),
         (b"a: 1\n&b c: 2\n", "Unsupported(2)"),
         (b"a: 1\n   &x\n", "Unsupported(2)"),
+    ];
+    for row in table {
+        assert_eq!(rt; outcome(alloc, row.0)?.as_str(), row.1);
+    }
+    Ok(())
+}
+
+#[test]
+fn reads_whole_numbers_of_strings(rt: HostRuntime) -> Result<(), Fail> {
+    let table: [(&str, Option<i128>); 5] = [
+        ("0", Some(0)),
+        ("-5", Some(-5)),
+        ("007", None),
+        ("+1", None),
+        ("170141183460469231731687303715884105728", None),
+    ];
+    for (text, want) in table {
+        assert_eq!(rt; integer_of(text), want);
+        assert_eq!(rt; is_plain_string(text), want.is_none());
+    }
+    Ok(())
+}
+
+#[test]
+fn reads_and_refuses_what_is_near_the_rules(rt: HostRuntime) -> Result<(), Fail> {
+    let alloc = rt.alloc();
+    let table: [(&[u8], &str); 21] = [
+        // marks at column 0
+        (b"--- \n", "Unsupported(1)"),
+        (b"---a: 1\n", "Unsupported(1)"),
+        (b"\xef\xbb\xbf# c\na: 1\n", "Unsupported(1)"),
+        // more than one space
+        (b"a:   [ 1 ,  2 ]\n", "{'a':[1,2]}"),
+        (b"-   x\n", "['x']"),
+        // a colon and a sign of flow
+        (b"a: {a:, b: }\n", "{'a':{'a':null,'b':null}}"),
+        (b"a: [a:]\n", "Malformed(1)"),
+        (b"a: [a:[1]]\n", "Malformed(1)"),
+        (b"a: {a:[1]}\n", "Malformed(1)"),
+        // a sequence in a sequence
+        (b"- - \n", "Unsupported(1)"),
+        // a line that has stopped being an entry
+        (b"\"a\" : &x\n", "Malformed(1)"),
+        (b"a: [@, {x: 1, x: 2}]\n", "Malformed(1)"),
+        // a line at a column that fits nowhere, and flow on a line of its own
+        (b"a: 1\n  b: {x: 1, x: 2}\n", "DuplicateKey(2)"),
+        (b"a:\n  {x: 1, x: 2}\n", "DuplicateKey(2)"),
+        (
+            b"a: 1\n  b: [[[[[[[[[[[[[[[[[[[[[[[[[[[[[[[[[[[1]]]]]]]]]]]]]]]]]]]]]]]]]]]]]]]]]]]\n",
+            "Malformed(2)",
+        ),
+        // line ends
+        (b"a: b\rc\n", "{'a':'b\rc'}"),
+        (b"a: b\r", "{'a':'b\r'}"),
+        // escapes
+        (b"a: \"\\ud83d\\ude00\"\n", "Malformed(1)"),
+        (b"a: \"\\u12g4\"\n", "Malformed(1)"),
+        (b"a: \"\\x4g\"\n", "Malformed(1)"),
+        (b"a: \"\\u12\"\n", "Malformed(1)"),
     ];
     for row in table {
         assert_eq!(rt; outcome(alloc, row.0)?.as_str(), row.1);

@@ -6,7 +6,7 @@ use base_model::Str;
 use std::alloc::{AllocError, Global};
 
 /// The text of these bytes. Each text here is cut at signs below 0x80 from one in UTF-8, and so is in UTF-8; a body that
-/// finds another has no better answer than want of memory.
+/// finds another has no better answer than out of memory.
 pub fn owned(bytes: Vec<u8>) -> Result<Str, AllocError>
     ensures { IfOk result (λ text. text ≡ bytes.items) }
 {

@@ -1,4 +1,4 @@
--- What stands behind a key's colon or a dash is read again.
+-- What follows a key's colon or a dash is read again.
 use Rattle.std.proofs.Common.{◌≡◌, ◌∙◌, ℕ, suc, List, [], ◌∷◌, Bool, true, false, cond, eqb, refl, sym, ap, subst, arith, Option, Some, None, Result, Ok}
 use Rattle.std.specs.Prelude.{◌||◌, codes}
 use Rattle.std.specs.List.{list_any}

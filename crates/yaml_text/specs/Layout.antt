@@ -27,7 +27,7 @@ stands_below (text s) = false
 stands_below (list ts) = has_items ts
 stands_below (mapping ps) = has_pairs ps
 
--- what stands behind a key's colon or a dash, on its line
+-- what follows a key's colon or a dash, on its line
 abbrev pub behind : Shape → List ℕ
 behind t = if stands_below t then [] else space ∷ on_line t
 
@@ -54,7 +54,7 @@ abbrev mutual
   items_lines column (more t ts) = item_lines column t ++ items_lines column ts
 
   -- An item: a map begins on the line of its dash, and its further pairs stand two columns to the right of it; a list stands
-  -- below a lone dash, two columns to the right; anything else stands behind its dash.
+  -- below a lone dash, two columns to the right; anything else follows its dash.
   pub item_lines : ℕ → Shape → List (List ℕ)
   item_lines column nothing = (spaces column ++ (dash ∷ behind nothing)) ∷ []
   item_lines column (truth b) = (spaces column ++ (dash ∷ behind (truth b))) ∷ []

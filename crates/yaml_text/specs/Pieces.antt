@@ -5,7 +5,7 @@ use Rattle.yaml_read.specs.Bytes.{colon, space, dash}
 use Rattle.yaml_text.specs.Scalars.{printed}
 use Rattle.yaml_text.specs.Layout.{line_feed, spaces, behind, below_key, pairs_lines, items_lines, joined, has_pairs}
 
--- what stands behind a key's colon or a dash, and the end of the line
+-- what follows a key's colon or a dash, and the end of the line
 abbrev pub behind_text : Shape → List ℕ
 behind_text t = behind t ++ (line_feed ∷ [])
 

@@ -21,7 +21,7 @@ ends_with_colon (b ∷ []) = b == colon
 ends_with_colon (b ∷ c ∷ bs) = ends_with_colon (c ∷ bs)
 
 -- A text stands without quotes: it has only such bytes, begins with a letter or a digit, doesn't end with a colon, and what is
--- read of it is a text, and so no number, no truth value and no null.
+-- read of it is a text, and so no number, no boolean and no null.
 unfoldable pub is_plain : List ℕ → Bool
 is_plain s =
     (begins_with_letter_or_digit s && list_all is_plain_byte s)

@@ -12,7 +12,7 @@ ghost use Rattle.yaml_read.specs.Standing.{StandsFor};
 ghost use Rattle.yaml_text.specs.Layout.{is_filled_map, yaml_text_of};
 ghost use Rattle.yaml_text.specs.Scalars.{printed};
 
-/// The laws of what is printed. It does nothing.
+/// The laws of what is printed. It has no effect at run time.
 pub fn printing_laws()
     // A printed text is read as that text, and nothing is left of it ..
     ensures texts { (s : List ℕ) → scalar Block (printed s) ≡ Ok (text s, []) }

@@ -67,7 +67,7 @@ pub fn push_on_line(tree: &Tree, out: &mut String) -> Result<(), AllocError>
     }
 }
 
-// Appends what stands behind a key's colon or a dash, and the end of the line.
+// Appends what follows a key's colon or a dash, and the end of the line.
 fn push_behind(tree: &Tree, out: &mut String) -> Result<(), AllocError>
     ensures { OnOk result (string_bytes out.new ≡ string_bytes out.old ++ behind_text (shape tree.now)) }
 {
@@ -78,7 +78,7 @@ fn push_behind(tree: &Tree, out: &mut String) -> Result<(), AllocError>
     out.push('\n')
 }
 
-// Appends an item that stands behind its dash.
+// Appends an item that follows its dash.
 fn push_scalar_item(tree: &Tree, out: &mut String) -> Result<(), AllocError>
     ensures { OnOk result (string_bytes out.new ≡ string_bytes out.old ++ (dash ∷ behind_text (shape tree.now))) }
 {

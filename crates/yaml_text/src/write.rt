@@ -8,7 +8,7 @@ ghost use Rattle.doc_tree.specs.declared.limits.TheConstants.{MAX_BYTES, MAX_LEV
 ghost use Rattle.yaml_read.specs.Reading.{reading};
 ghost use Rattle.yaml_read.specs.Standing.{StandsFor};
 
-use crate::layout::{append_items, push_on_line, append_pairs};
+use crate::layout::{append_items, append_pairs, push_on_line};
 use base_model::OutOfMemory;
 use doc_tree::{Tree, integer_laws};
 use std::alloc::{AllocError, Global};

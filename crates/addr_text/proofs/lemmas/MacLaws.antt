@@ -1,4 +1,4 @@
--- Hardware addresses are read exactly by their grammar, and what is written is read again.
+-- MAC addresses are read exactly by their grammar, and what is written is read again.
 use Rattle.std.proofs.Common.{◌≡◌, ℕ, ◌/◌, ◌%◌, ◌<◌, ◌==◌, Bool, true, ◌&&◌, map, List, [], ◌∷◌, Some, None, length, refl, ap, sym, ◌∙◌, subst, arith, suc, eqb-true, slice_index}
 use Rattle.std.proofs.lemmas.List.{length-map}
 use Rattle.std.proofs.lemmas.Bool.{cond-true, lt-ltb, ltb-true, and_parts}

@@ -108,7 +108,7 @@ octets_complete (suc k) n h =
     let front = position-front 46 (decimal a) (octets_text k r) (decimal_lacks_dot a small) in
     rw (front, take-front 46 (decimal a) (octets_text k r), drop-front 46 (decimal a) (octets_text k r), octet_of-decimal a small, octets_complete k r less) (ap Some (div-add-mod' n w))
 
--- an octet and what stands behind it
+-- an octet and what follows it
 record Before (w : ℕ) (first rest : Option ℕ) (n : ℕ) : Type 0 where
   octet : ℕ
   number_behind : ℕ

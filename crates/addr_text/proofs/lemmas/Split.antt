@@ -21,7 +21,7 @@ whole_len : (s : ℕ) (p : List ℕ) → lacks s p ≡ true → prefix_len (λ x
 whole_len s [] h = refl
 whole_len s (x ∷ p) h = grind (arith, nat_tests, whole_len s p)
 
--- the sign stands behind a front that lacks it
+-- the sign follows a front that lacks it
 pub position-front : (s : ℕ) (p r : List ℕ) → lacks s p ≡ true → position (λ b. b == s) (p ++ s ∷ r) ≡ Some (length p)
 position-front s p r h =
     let e : prefix_len (λ x. not (x == s)) (p ++ s ∷ r) ≡ length p = front_len s p r h in
@@ -34,7 +34,7 @@ position-lacks s p h =
     let e : prefix_len (λ x. not (x == s)) p ≡ length p = whole_len s p h in
     rw e (grind (arith, nat_tests))
 
--- what stands before the place, the sign and what stands behind it are the text
+-- what stands before the place, the sign and what follows it are the text
 pub split-at : (s : ℕ) (t : List ℕ) (i : ℕ) → position (λ b. b == s) t ≡ Some i → take i t ++ s ∷ drop (i + 1) t ≡ t
 split-at s t i h =
     let f = position-Some (λ b. b == s) t i 0 h in
@@ -47,10 +47,10 @@ split-at s t i h =
 pub take-front : (s : ℕ) (p r : List ℕ) → take (length p) (p ++ s ∷ r) ≡ p
 take-front s p r = take-append_seam p (s ∷ r)
 
--- what stands behind the sign
+-- what follows the sign
 pub drop-front : (s : ℕ) (p r : List ℕ) → drop (length p + 1) (p ++ s ∷ r) ≡ r
 drop-front s p r = drop-append-add p (s ∷ r) 1
 
--- what stands behind two signs
+-- what follows two signs
 pub drop-gap : (s : ℕ) (p r : List ℕ) → drop (length p + 2) (p ++ s ∷ s ∷ r) ≡ r
 drop-gap s p r = drop-append-add p (s ∷ s ∷ r) 2
