@@ -1,4 +1,5 @@
 pub mod Place
 pub mod Hanging
 pub mod OneLink
+pub mod Clamped
 pub mod Calls

@@ -7,6 +7,8 @@
 mod refuse;
 
 
+// Ports that are detached.
+mod detach;
 // What hangs on a link.
 mod hanging;
 // Kinds of links.
@@ -14,8 +16,12 @@ mod kinds;
 // Links by name, in lists that rise by name.
 mod lookup;
 
+// Links that go down.
+mod lower;
 // Links that come and go.
 mod made;
+// New MTUs.
+mod mtu;
 // Calls that write on the link that they name.
 mod one_link;
 

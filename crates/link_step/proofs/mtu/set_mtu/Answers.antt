@@ -1,0 +1,19 @@
+use Rattle.std.proofs.Common.{◌≡◌, ◌∙◌, ℕ, List, true, map, ap, sym, subst}
+use Rattle.net_model.specs.Lists.{NetData}
+use Rattle.net_model.specs.Words.{rises}
+use Rattle.net_model.specs.Order.{link_cmp}
+use Rattle.net_model.specs.declared.link.Link.{Link}
+use Rattle.link_step.specs.Hanging.{hanging}
+use Rattle.link_step.specs.Clamped.{clamped}
+use Rattle.link_step.proofs.Clamping.{clamped_all}
+use Rattle.link_step.proofs.mtu.set_mtu.Goals as goal
+
+pub returns-clause-ok : goal.returns-clause-ok
+returns-clause-ok c =
+    let net : NetData = c.args.parts.now in
+    let root : List ℕ = c.args.name.now in
+    let mtu : ℕ = c.args.mtu in
+    let names : c.deref-2.result.now ≡ hanging net.links root =
+    c.deref-2.ensures.value ∙ c.in_ok-over.ensures.names ∙ ap (λ (ls : List Link). hanging ls root) (c.deref.ensures.value ∙ ap (λ (n : NetData). n.links) c.parts.view_is) in
+    c.clamp_all.ensures
+    ∙ ap (λ (ls : List Link). let n : NetData = record net { links = ls } in n) (ap (λ (ns : List (List ℕ)). map (clamped root mtu ns) net.links) names ∙ clamped_all net c.requires root mtu)
