@@ -8,7 +8,7 @@ use Rattle.std.proofs.lemmas.List.Elements.{filter-append}
 use Rattle.reach.specs.Reach.{is_reached}
 use Rattle.net_model.specs.Words.{apart, rises, sorted}
 use Rattle.net_model.specs.Order.{link_cmp}
-use Rattle.net_model.specs.Links.{find_link}
+use Rattle.net_model.specs.Links.{find_link, is_ethernet}
 use Rattle.net_model.specs.Valid.{names_differ}
 use Rattle.net_model.specs.declared.Link.{Link}
 use Rattle.net_model.specs.declared.Kind.{Kind}
@@ -20,7 +20,7 @@ use Rattle.document_model.specs.declared.LinkEntry.{LinkEntry}
 use Rattle.document_model.specs.declared.Wish.{Wish}
 use Rattle.document_model.specs.declared.Wish.TheVariants.{Absent}
 use Rattle.merge_model.specs.Stated.{find_entry, is_mentioned, is_absent}
-use Rattle.merge_model.specs.Kinds.{is_ethernet, merged_kind}
+use Rattle.merge_model.specs.Kinds.{merged_kind}
 use Rattle.merge_model.specs.Members.{Member, member, seats, entered, entered_over, retired, stays, is_gone, is_removed, goes_with, stated_wish, left_alone}
 use Rattle.merge_model.specs.Merge.{links_of}
 use Rattle.merge_laws.proofs.Each.{Each, each_of, each_all, all_of_each, each_two, each_weaker, each_map, each_filter, each_filter_map, map_map}

@@ -5,7 +5,7 @@ use Rattle.std.specs.Option.{option_map, option_map_or, option_to_list, unwrap_o
 use Rattle.net_model.specs.Name.{same_bytes}
 use Rattle.net_model.specs.Words.{apart, sorted, bool_eq}
 use Rattle.net_model.specs.Order.{link_cmp}
-use Rattle.net_model.specs.Links.{find_link}
+use Rattle.net_model.specs.Links.{find_link, is_ethernet}
 use Rattle.net_model.specs.Valid.{names_differ, is_bond_or_bridge_port}
 use Rattle.net_model.specs.declared.Link.{Link}
 use Rattle.net_model.specs.declared.Kind.{Kind}
@@ -15,7 +15,7 @@ use Rattle.document_model.specs.declared.Claim.{Claim}
 use Rattle.document_model.specs.declared.Claim.TheVariants.{Nobody, To}
 use Rattle.document_model.specs.declared.Wish.{Wish}
 use Rattle.merge_model.specs.Stated.{find_entry, is_absent}
-use Rattle.merge_model.specs.Kinds.{is_ethernet, merged_kind}
+use Rattle.merge_model.specs.Kinds.{merged_kind}
 use Rattle.merge_model.specs.Members.{Member, member, find_member, entered_over, retired, stated_wish}
 use Rattle.merge_model.specs.Controllers.{stated_ports, lists, own_claim, claims}
 use Rattle.merge_model.specs.Places.{at_entry, at_member, at_link}

@@ -8,7 +8,7 @@ use Rattle.reach.specs.Reach.{is_reached}
 use Rattle.net_model.specs.Name.{same_bytes}
 use Rattle.net_model.specs.Words.{rises, bool_eq}
 use Rattle.net_model.specs.Order.{name_cmp, link_cmp}
-use Rattle.net_model.specs.Links.{is_named, find_link, same_name}
+use Rattle.net_model.specs.Links.{is_named, find_link, same_name, is_ethernet}
 use Rattle.net_model.specs.Hardware.{device_of, hardware}
 use Rattle.net_model.specs.Standing.{has_base}
 use Rattle.net_model.specs.Valid.{names_differ}
@@ -24,7 +24,7 @@ use Rattle.document_model.specs.declared.Wish.TheVariants.{Absent}
 use Rattle.document_model.specs.declared.KindWord.{KindWord}
 use Rattle.document_model.specs.declared.KindWord.TheVariants.{Ethernet as AnEthernet, Bond as ABond, Bridge as ABridge, Vlan as AVlan, Vrf as AVrf}
 use Rattle.merge_model.specs.Stated.{find_entry, is_mentioned, is_absent}
-use Rattle.merge_model.specs.Kinds.{word_of, is_ethernet, kind_by, merged_kind}
+use Rattle.merge_model.specs.Kinds.{word_of, kind_by, merged_kind}
 use Rattle.merge_model.specs.Members.{Member, member, entered, retired, stays, is_removed, goes_with, stated_wish}
 use Rattle.merge_model.specs.BrokenEntries.{is_ethernet_word, changes_device}
 use Rattle.merge_laws.proofs.Searches.{apart_head, apart_tail, all_filter_map, not_and, negated}

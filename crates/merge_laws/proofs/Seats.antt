@@ -5,7 +5,7 @@ use Rattle.std.specs.Option.{option_map_or, option_map}
 use Rattle.std.proofs.lemmas.Cmp.{nat_list_eq_equiv}
 use Rattle.net_model.specs.Name.{same_bytes}
 use Rattle.net_model.specs.Words.{apart}
-use Rattle.net_model.specs.Links.{find_link, same_name}
+use Rattle.net_model.specs.Links.{find_link, same_name, is_ethernet}
 use Rattle.net_model.specs.Valid.{names_differ}
 use Rattle.net_model.specs.declared.Link.{Link}
 use Rattle.net_model.specs.declared.Kind.{Kind}
@@ -15,7 +15,7 @@ use Rattle.document_model.specs.declared.LinkEntry.{LinkEntry}
 use Rattle.document_model.specs.declared.Place.TheVariants.{Link as AtLink}
 use Rattle.document_model.specs.declared.Wish.TheVariants.{Absent}
 use Rattle.merge_model.specs.Stated.{find_entry, is_mentioned, is_absent}
-use Rattle.merge_model.specs.Kinds.{is_ethernet, merged_kind}
+use Rattle.merge_model.specs.Kinds.{merged_kind}
 use Rattle.merge_model.specs.Members.{Member, member, seats, entered, entered_over, retired, stays, is_gone, stated_wish, left_alone}
 use Rattle.merge_model.specs.Controllers.{with_controllers, with_controller}
 use Rattle.merge_model.specs.Lifted.{members, raised}

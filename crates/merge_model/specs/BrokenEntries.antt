@@ -3,14 +3,14 @@ use Rattle.std.specs.Prelude.{Bool, true, false, not, ◌&&◌, List, [], Option
 use Rattle.std.specs.Option.{option_map_or, option_map}
 use Rattle.net_model.specs.Name.{same_bytes}
 use Rattle.net_model.specs.Words.{bool_eq}
-use Rattle.net_model.specs.Links.{find_link}
+use Rattle.net_model.specs.Links.{find_link, is_ethernet}
 use Rattle.net_model.specs.declared.Link.{Link}
 use Rattle.document_model.specs.declared.LinkEntry.{LinkEntry}
 use Rattle.document_model.specs.declared.KindWord.{KindWord}
 use Rattle.document_model.specs.declared.KindWord.TheVariants.{Ethernet as AnEthernet}
 use Rattle.document_model.specs.declared.Place.{Place}
 use Rattle.merge_model.specs.Stated.{is_absent}
-use Rattle.merge_model.specs.Kinds.{is_ethernet, merged_kind}
+use Rattle.merge_model.specs.Kinds.{merged_kind}
 use Rattle.merge_model.specs.Places.{at_entry, first_second}
 
 -- 1: two entries have the same name; the place is the second

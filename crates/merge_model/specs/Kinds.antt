@@ -30,10 +30,6 @@ same_type (Vlan a i p) (Vlan b j q) = true
 same_type (Vrf a) (Vrf b) = true
 same_type _ _ = false
 
-abbrev pub is_ethernet : Kind → Bool
-is_ethernet (Ethernet permanent) = true
-is_ethernet _ = false
-
 -- the number of a mode in the Linux bonding documentation
 abbrev pub mode_number : BondMode → ℕ
 mode_number BalanceRr = 0

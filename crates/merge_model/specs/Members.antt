@@ -4,7 +4,7 @@ use Rattle.std.specs.List.{filter_map}
 use Rattle.std.specs.Option.{option_map_or, option_map, option_or}
 use Rattle.reach.specs.Reach.{is_reached}
 use Rattle.net_model.specs.Name.{same_bytes}
-use Rattle.net_model.specs.Links.{find_link}
+use Rattle.net_model.specs.Links.{find_link, is_ethernet}
 use Rattle.net_model.specs.Standing.{has_base}
 use Rattle.net_model.specs.declared.Link.{Link}
 use Rattle.net_model.specs.declared.Kind.{Kind}
@@ -12,7 +12,7 @@ use Rattle.document_model.specs.declared.LinkEntry.{LinkEntry}
 use Rattle.document_model.specs.declared.Wish.{Wish}
 use Rattle.document_model.specs.declared.Wish.TheVariants.{Up, Absent}
 use Rattle.merge_model.specs.Stated.{find_entry, is_mentioned, is_absent}
-use Rattle.merge_model.specs.Kinds.{is_ethernet, merged_kind}
+use Rattle.merge_model.specs.Kinds.{merged_kind}
 
 -- a link of the merged network: the link of this name in the running network, its entry unless that is absent, and the
 -- stated state; then, once they are known, the controller and whether the link is lifted
