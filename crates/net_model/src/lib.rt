@@ -7,6 +7,8 @@ mod dns;
 mod domain;
 mod hardware;
 mod id;
+#[cfg(test)]
+mod limit_tests;
 mod limits;
 mod link;
 mod lookup;

@@ -7,12 +7,12 @@ use crate::{
 use std::alloc::Global;
 use std::test::Fail;
 
-fn name(text: &str) -> Result<Name, Fail> {
+pub(crate) fn name(text: &str) -> Result<Name, Fail> {
     Ok(Name::of(text.as_bytes()).ok_or("no name")?)
 }
 
 // A link that is up, with everything at its default.
-fn link(alloc: Global, text: &str, kind: Kind) -> Result<Link, Fail> {
+pub(crate) fn link(alloc: Global, text: &str, kind: Kind) -> Result<Link, Fail> {
     let name = name(text)?;
     Ok(Link {
         name,
@@ -28,7 +28,7 @@ fn link(alloc: Global, text: &str, kind: Kind) -> Result<Link, Fail> {
     })
 }
 
-fn ethernet(alloc: Global, text: &str) -> Result<Link, Fail> {
+pub(crate) fn ethernet(alloc: Global, text: &str) -> Result<Link, Fail> {
     let permanent = Mac { bytes: [2; 6] };
     link(alloc, text, Kind::Ethernet { permanent })
 }
@@ -40,15 +40,15 @@ fn vlan(alloc: Global, text: &str, base: &str) -> Result<Link, Fail> {
     link(alloc, text, Kind::Vlan { base, id, proto })
 }
 
-fn bridge(alloc: Global) -> Result<Link, Fail> {
+pub(crate) fn bridge(alloc: Global) -> Result<Link, Fail> {
     link(alloc, "br0", Kind::Bridge)
 }
 
-fn address(bits: u32, len: u8) -> Result<Prefix, Fail> {
+pub(crate) fn address(bits: u32, len: u8) -> Result<Prefix, Fail> {
     Ok(Prefix::of(Addr::v4(bits), len).ok_or("no prefix")?)
 }
 
-fn no_dns(alloc: Global) -> Dns {
+pub(crate) fn no_dns(alloc: Global) -> Dns {
     Dns {
         servers: Items::of(Vec::new(alloc)),
         search: Items::of(Vec::new(alloc)),
@@ -56,7 +56,7 @@ fn no_dns(alloc: Global) -> Dns {
 }
 
 // The part that the lists broke, or 0.
-fn part(answer: Result<Net, NetFault>) -> Result<u8, Fail> {
+pub(crate) fn part(answer: Result<Net, NetFault>) -> Result<u8, Fail> {
     match answer {
         Ok(_) => Ok(0),
         Err(NetFault::Broken(part)) => Ok(part),
@@ -133,7 +133,7 @@ fn an_address_twice(alloc: Global) -> Result<u8, Fail> {
     part_of_one(alloc, link)
 }
 
-fn a_route(dev: &str, gateway: u32) -> Result<Route, Fail> {
+pub(crate) fn a_route(dev: &str, gateway: u32) -> Result<Route, Fail> {
     Ok(Route {
         dest: Subnet::of(address(0, 0)?),
         table: TableId::of(0),
@@ -151,7 +151,7 @@ fn a_gateway(alloc: Global, gateway: u32) -> Result<u8, Fail> {
     part(Net::new(alloc, links, routes, Vec::new(alloc), no_dns(alloc)))
 }
 
-fn a_rule(priority: u32) -> Rule {
+pub(crate) fn a_rule(priority: u32) -> Rule {
     Rule {
         priority,
         v6: false,
