@@ -45,7 +45,8 @@ impl Domain {
     }
 
     pub fn as_bytes(&self) -> &[u8]
-        ensures { result.now ≡ self.now }
+        ensures bytes { result.now ≡ self.now }
+        ensures domain { IsTrue (is_domain self.now) }
     {
         &self.bytes
     }
