@@ -2,22 +2,18 @@
 use Rattle.std.proofs.Common.{◌≡◌, ℕ, Bool, true, false, cond, eqb, leb, ◌&&◌, ◌||◌, List, [], ◌∷◌, ◌++◌, length, Option, Some, None, refl, sym, ap, subst, ◌∙◌, arith}
 use Rattle.std.specs.Option.{is_none, option_and_then}
 use Rattle.std.specs.List.{list_all}
-use Rattle.std.proofs.lemmas.Bool.{and_parts, and_from, eqb-true}
-use Rattle.std.proofs.lemmas.Option.{same_Some, cond_some}
+use Rattle.std.proofs.lemmas.Bool.{and_parts, and_from}
 use Rattle.net_model.specs.Links.{is_bond, is_bridge}
-use Rattle.net_model.specs.NetData.{NetData, IsNet, ordered}
+use Rattle.net_model.specs.NetData.{NetData, IsNet, is_net, is_in_order}
 use Rattle.net_model.specs.Options.{is_default_bond, is_default_bridge}
 use Rattle.net_model.specs.Valid.{least_broken, limits_hold, counts_fit, links_fit, unused_default, is_bridge_port, address_count}
 use Rattle.net_model.specs.Options.{is_default_port}
 use Rattle.net_model.specs.declared.link.Link.{Link}
-use Rattle.net_image.specs.Image.{is_in_order, is_net, lists, network, net_of, IsImage}
+use Rattle.net_image.specs.Image.{lists, network, net_of, IsImage}
 use Rattle.net_image.specs.Links.{is_writable}
-use Rattle.net_image.specs.Laws.{AreBytes}
 use Rattle.net_image.specs.Reading.{Fails}
 use Rattle.net_image.specs.declared.fault.ImageFault.{ImageFault}
 use Rattle.net_image.specs.declared.fault.ImageFault.TheVariants.{Damaged, OutOfMemory}
-use Rattle.net_image.proofs.Reading.{bind_some}
-use Rattle.net_image.proofs.Images.{found}
 
 -- what passes two tests passes a third
 both_pass : (p q r : Link → Bool) → ((l : Link) → p l ≡ true → q l ≡ true → r l ≡ true) → (ls : List Link) → list_all p ls ≡ true → list_all q ls ≡ true → list_all r ls ≡ true
@@ -47,18 +43,6 @@ writable net limits =
 pub from_net : (net : NetData) → IsNet net → is_net net ≡ true
 from_net net is = and_from (is_none (least_broken net)) (is_in_order net) (ap is_none is.valid) (and_from _ _ (and_from _ _ (and_from _ _ is.in_order.links is.in_order.addrs) is.in_order.routes) is.in_order.rules)
 
-nothing_broken : (o : Option ℕ) → is_none o ≡ true → o ≡ None
-nothing_broken None is = refl
-nothing_broken (Some n) is = absurd cc
-
-pub to_net : (net : NetData) → is_net net ≡ true → IsNet net
-to_net net is =
-    let parts = and_parts (is_none (least_broken net)) (is_in_order net) is in
-    let a = and_parts _ _ parts.1 in
-    let b = and_parts _ _ a.0 in
-    let c = and_parts _ _ b.0 in
-    record { valid = nothing_broken (least_broken net) parts.0; in_order = record { links = c.0; addrs = c.1; routes = b.1; rules = a.1 } }
-
 -- the image of a network, whose lists were written behind nothing
 pub written : (bytes old : List ℕ) (net : NetData) → IsNet net → old ≡ [] → bytes ≡ old ++ lists.write net → lists.fits net ≡ true → IsImage bytes net
 unfolding network
@@ -79,37 +63,18 @@ pub failed : (fault : ImageFault) (bytes : List ℕ) → Fails fault (lists.read
 failed Damaged bytes none is = no_lists bytes none
 failed OutOfMemory bytes none is = absurd cc
 
+none_over : (rest : List ℕ) (given : NetData) (b : Bool) → eqb (length rest) 0 ≡ true
+    → option_and_then (λ (x : NetData × List ℕ). cond (eqb (length x.1) 0) (Some x.0) None) (cond b (Some (given, rest)) None) ≡ cond b (Some given) None
+none_over rest given true none = rw none refl
+none_over rest given false none = refl
+
 module _ (bytes rest : List ℕ) (given : NetData) (read : lists.read bytes ≡ Some (given, rest)) where
   -- where bytes are left, there is no network
   pub more_behind : eqb (length rest) 0 ≡ false → net_of bytes ≡ None
   unfolding net_of network
   more_behind more = rw read (left_over rest given (is_net given) more)
 
-  -- nor where the lists are none of a network
-  pub no_network : is_net given ≡ false → net_of bytes ≡ None
+  -- else the network, if the lists are one
+  pub all_read : eqb (length rest) 0 ≡ true → net_of bytes ≡ cond (is_net given) (Some given) None
   unfolding net_of network
-  no_network is = rw (read, is) refl
-
-  -- the network is what was read
-  is_given : (net : NetData) → net_of bytes ≡ Some net → (given ≡ net) × (is_net net ≡ true)
-  unfolding net_of network
-  is_given net got =
-      let b = bind_some (network.read bytes) (λ (x : NetData × List ℕ). cond (eqb (length x.1) 0) (Some x.0) None) net got in
-      let c = cond_some (eqb (length b.0.1) 0) b.0.0 net b.2 in
-      let d = bind_some (lists.read bytes) (λ (x : NetData × List ℕ). cond (is_net x.0) (Some x) None) b.0 b.1 in
-      let e = cond_some (is_net d.0.0) d.0 b.0 d.2 in
-      let same : ◌≡◌ {A = NetData × List ℕ} (given, rest) d.0 = same_Some (given, rest) d.0 (sym read ∙ d.1) in
-      let net_is : d.0.0 ≡ net = ap (λ (x : NetData × List ℕ). x.0) e.1 ∙ c.1 in
-      (ap (λ (x : NetData × List ℕ). x.0) same ∙ net_is, ap is_net (sym net_is) ∙ e.0)
-
-  module _ (made : NetData) (are : AreBytes bytes) (in_order : (net : NetData) → IsNet net → ordered net ≡ net) (is : made ≡ ordered given) (differs : IsImage bytes made → ⊥) where
-    none_other : (o : Option NetData) → net_of bytes ≡ o → net_of bytes ≡ None
-    none_other None got = got
-    none_other (Some net) got =
-        let g = is_given net got in
-        let made_net : made ≡ net = is ∙ ap ordered g.0 ∙ in_order net (to_net net g.1) in
-        absurd (differs (subst (IsImage bytes) (sym made_net) (found bytes net are got)))
-
-    -- other bytes than the image of the network that they gave are no image
-    pub another_image : net_of bytes ≡ None
-    another_image = none_other (net_of bytes) refl
+  all_read none = rw read (none_over rest given (is_net given) none)

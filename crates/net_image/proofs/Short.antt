@@ -8,7 +8,7 @@ use Rattle.std.proofs.lemmas.List.{length-append}
 use Rattle.std.proofs.lemmas.List.Sums.{sum_by-cons}
 use Rattle.byteorder.specs.Numbers.{length-bytes_high_first}
 use Rattle.net_model.specs.Name.{is_name}
-use Rattle.net_model.specs.NetData.{NetData}
+use Rattle.net_model.specs.NetData.{NetData, is_net}
 use Rattle.net_model.specs.Standing.{no_cycle}
 use Rattle.net_model.specs.Valid.{least_broken, address_count, names_differ, bases_stand, controllers_take, bases_up, mtus_fit, ports_without_addresses, addresses_fit, routes_stand, rules_differ, options_fit, limits_hold, counts_fit, links_fit}
 use Rattle.net_model.specs.Words.{first_false}
@@ -21,7 +21,7 @@ use Rattle.net_model.specs.declared.link.Link.{Link}
 use Rattle.net_image.specs.Form.{Form, ◌⨾◌, byte, run, nothing, never, such_that, made, variant, linked, tagged, times, counted, number, some, none, held_none}
 use Rattle.net_image.specs.Fields.{up_to, flag, text, name, name_held, maybe_name, domain, mac, table, family, address_of, address_behind, address_form, gateway_number, gateway, prefix, subnet, maybe_subnet}
 use Rattle.net_image.specs.Links.{mode, rate, policy, proto, kind_behind, kind, ethernet_held, bond_held, bridge_held, vlan_held, vrf_held, vlan_id, bond_options, bridge_options, port_options, bond_part, bridge_part, front, back, link, link_parts}
-use Rattle.net_image.specs.Image.{route, action, target_behind, target, rule, dns, mark, lists, is_net, network, IsImage}
+use Rattle.net_image.specs.Image.{route, action, target_behind, target, rule, dns, mark, lists, network, IsImage}
 use Rattle.net_image.specs.Laws.{TakesAtMost}
 
 -- ---- what forms are made of
