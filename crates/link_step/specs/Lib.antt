@@ -3,3 +3,4 @@ pub mod Hanging
 pub mod OneLink
 pub mod Clamped
 pub mod Calls
+pub mod Pairs

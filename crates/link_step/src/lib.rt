@@ -1,12 +1,8 @@
 //! The kernel's calls on links, carried out in place.
 #![tactic(auto)]
 
-
-
-// Which links a call on links is refused for.
-mod refuse;
-
-
+// Whether attaching makes a cycle.
+mod cycle;
 // Ports that are detached.
 mod detach;
 // What hangs on a link.
@@ -15,7 +11,6 @@ mod hanging;
 mod kinds;
 // Links by name, in lists that rise by name.
 mod lookup;
-
 // Links that go down.
 mod lower;
 // Links that come and go.
@@ -24,5 +19,12 @@ mod made;
 mod mtu;
 // Calls that write on the link that they name.
 mod one_link;
+// The refusals of calls that make, delete and set links.
+mod refuse;
+// The refusals of calls on ports.
+mod refuse_port;
+// One call on links.
+mod step;
 
 pub use lookup::place_of;
+pub use step::step_link;

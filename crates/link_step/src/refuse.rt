@@ -68,7 +68,7 @@ pub(crate) fn add_link(net: &Net, name: &Name, kind: &Kind) -> Option<u8>
 }
 
 #[tactic(auto, using(net_model::proofs::lemmas::Found::named_passes_found))]
-fn is_named_ethernet(links: &[Link], name: &Name) -> bool
+pub(crate) fn is_named_ethernet(links: &[Link], name: &Name) -> bool
     requires { rises link_cmp links.now ≡ true }
     ensures { result ≡ named_passes (λ l. is_ethernet l.kind) links.now name.now }
 {
@@ -195,7 +195,7 @@ pub(crate) fn set_mac(net: &Net, name: &Name) -> Option<u8>
     None
 }
 
-fn is_port_of(link: &Link, controller: &Name) -> bool
+pub(crate) fn is_port_of(link: &Link, controller: &Name) -> bool
     ensures { result ≡ is_port_of controller.now link.now }
 {
     match &link.controller {
@@ -247,7 +247,7 @@ pub(crate) fn set_bond(net: &Net, name: &Name, opts: &BondOpts) -> Result<Option
 }
 
 #[tactic(auto, using(net_model::proofs::lemmas::Found::named_passes_found))]
-fn is_named_bridge(links: &[Link], name: &Name) -> bool
+pub(crate) fn is_named_bridge(links: &[Link], name: &Name) -> bool
     requires { rises link_cmp links.now ≡ true }
     ensures { result ≡ named_passes (λ l. is_bridge l.kind) links.now name.now }
 {
