@@ -2,7 +2,8 @@
 use Rattle.std.specs.Prelude.{ℕ, Bool, true, false, ◌&&◌, List, [], ◌∷◌, Option, Some, None, is_none, if◌then◌else◌, codes}
 use Rattle.std.specs.Str.{bytes_eq}
 use Rattle.net_model.specs.Valid.{mtu_in_range}
-use Rattle.document_model.specs.Entries.{passes, is_station, is_ip_entry, is_bridge_entry, is_short, has_short_addrs}
+use Rattle.base_model.specs.Lists.{is_short}
+use Rattle.document_model.specs.Entries.{passes, is_station, is_ip_entry, is_bridge_entry, has_short_addrs}
 use Rattle.document_model.specs.declared.KindWord.{KindWord}
 use Rattle.document_model.specs.declared.KindWord.TheVariants.{Ethernet, Bond, Bridge, Vlan, Vrf}
 use Rattle.document_model.specs.declared.Wish.{Wish}
@@ -11,7 +12,8 @@ use Rattle.document_model.specs.declared.LinkEntry.{LinkEntry}
 use Rattle.doc_tree.specs.Shape.{Shape}
 use Rattle.tree_schema.specs.declared.Reason.TheVariants.{Unsupported}
 use Rattle.tree_schema.specs.Reading.{Reading, given_over, with_value, and_then, read_list}
-use Rattle.tree_schema.specs.Values.{Looked, formed_or, word_in, one_of, name, number, is_string}
+use Rattle.net_text.specs.Words.{word_in}
+use Rattle.tree_schema.specs.Values.{Looked, formed_or, one_of, name, number, is_string}
 use Rattle.tree_schema.specs.Tables.{Table, value, part, read_map, needed, value_under, unknown}
 use Rattle.link_schema.specs.Words.{claim, station}
 use Rattle.link_schema.specs.Ip.{ip}

@@ -1,7 +1,8 @@
 //! `bridge` of an interface.
 ghost use Rattle.std.specs.Prelude.{◌≡◌, ◌&&◌, true, IfOk};
 ghost use Rattle.doc_tree.specs.Shape.{shape};
-ghost use Rattle.document_model.specs.Entries.{is_port_entry, is_bridge_entry, passes, is_short};
+ghost use Rattle.base_model.specs.Lists.{is_short};
+ghost use Rattle.document_model.specs.Entries.{is_port_entry, is_bridge_entry, passes};
 ghost use Rattle.tree_schema.specs.Reached.{Answers};
 ghost use Rattle.link_schema.specs.Bridge.{stp_table, bridge_option_table, port_table, is_port_draft, port, port_of, bridge_table, bridge, no_bridge};
 

@@ -2,7 +2,8 @@
 ghost use Rattle.std.specs.Prelude.{◌≡◌, ◌==◌, not, true, IfOk, IfSome};
 ghost use Rattle.std.specs.Prelude.{option_and_then};
 ghost use Rattle.std.specs.List.{list_any};
-ghost use Rattle.document_model.specs.Entries.{is_own, is_station, is_short};
+ghost use Rattle.base_model.specs.Lists.{is_short};
+ghost use Rattle.document_model.specs.Entries.{is_own, is_station};
 ghost use Rattle.net_text.specs.AddrText.{addr_of, hardware_of};
 ghost use Rattle.tree_schema.specs.Reached.{Answers};
 ghost use Rattle.tree_schema.specs.Reading.{item};

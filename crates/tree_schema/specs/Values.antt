@@ -4,10 +4,10 @@ use Rattle.std.specs.List.{list_all}
 use Rattle.std.specs.Option.{option_map_or}
 use Rattle.std.specs.Char.{digit_value}
 use Rattle.std.specs.Fmt.{signed_decimal}
-use Rattle.std.specs.Str.{bytes_eq}
 use Rattle.std.specs.Str.Parse.{digits_value, signed_digits_value}
 use Rattle.net_model.specs.Name.{is_name}
 use Rattle.net_model.specs.Options.{is_within}
+use Rattle.net_text.specs.Words.{word_in, booleans}
 use Rattle.doc_tree.specs.Shape.{Shape, nothing, truth, whole, text}
 use Rattle.yaml_read.specs.Plain.{is_integer}
 use Rattle.tree_schema.specs.declared.fault.Reason.{Reason}
@@ -48,10 +48,6 @@ abbrev pub formed : {X : Type 0} → (List ℕ → Option X) → Shape → Looke
 formed form s = formed_or OutOfRange form s
 
 -- one of these words
-abbrev pub word_in : {X : Type 0} → List (List ℕ × X) → List ℕ → Option X
-word_in [] t = None
-word_in ((word, x) ∷ words) t = if bytes_eq t word then Some x else word_in words t
-
 abbrev pub one_of : {X : Type 0} → List (List ℕ × X) → Shape → Looked X
 one_of words s = formed (word_in words) s
 
@@ -125,5 +121,5 @@ mark s = u32 s
 -- a boolean, or its word
 abbrev pub boolean : Shape → Looked Bool
 boolean (truth b) = Ok b
-boolean (text t) = ok_or (word_in ((codes "true", true) ∷ (codes "false", false) ∷ []) t) OutOfRange
+boolean (text t) = ok_or (word_in booleans t) OutOfRange
 boolean _ = Err WrongType

@@ -3,7 +3,6 @@
 
 mod check;
 mod fault;
-mod integers;
 mod list;
 mod map;
 mod marks;

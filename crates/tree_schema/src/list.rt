@@ -2,6 +2,7 @@
 ghost use Rattle.std.specs.Prelude.{◌≡◌, ◌<◌, ◌≤◌, ◌+◌, ◌^◌, nat_lt, length, ◌++◌, List, Option, map, option_to_list, OnOk, IfOk, IfErr, Bool, true};
 ghost use Rattle.std.specs.List.{list_all};
 ghost use Rattle.std.specs.Option.{option_map_or};
+ghost use Rattle.base_model.specs.Lists.{is_short};
 ghost use Rattle.base_model.specs.declared.PathStep.TheVariants.{At};
 ghost use Rattle.doc_tree.specs.Shape.{Shape, shape, shapes_of};
 ghost use Rattle.tree_schema.specs.Reached.{Answers, AnswersItems};
@@ -83,7 +84,7 @@ where
     I::Value: Drop,
     ensures read { Answers (read_list (I.reading item.now) (shape tree.now)) reader.old reader.new result }
     ensures right { IfOk result (λ values. list_all (I.holds item.now) values ≡ true) }
-    ensures short { IfOk result (λ values. nat_lt (length values) (2 ^ 31) ≡ true) }
+    ensures short { IfOk result (λ values. is_short values ≡ true) }
 {
     match tree {
         Tree::List(trees) => Ok(Items::of(read_items(item, reader, trees)?)),

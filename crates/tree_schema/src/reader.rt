@@ -6,8 +6,8 @@ ghost use Rattle.std.specs.Prelude.{List};
 ghost use Rattle.base_model.specs.declared.PathStep.{PathStep};
 ghost use Rattle.base_model.specs.declared.PathStep.TheVariants.{Key, At};
 
-use base_model::{Items, Path, PathStep, Str};
-use std::alloc::{AllocError, Global};
+use base_model::{Items, OutOfMemory, Path, PathStep, Str};
+use std::alloc::Global;
 use std::marker::Model;
 
 /// The most items that a list of a document has.
@@ -29,21 +29,12 @@ impl Model for Reader {
     ghost view = { λ r. record { here = r.here.items; notes = r.notes.items } };
 }
 
-fn copy_step(step: &PathStep) -> Result<PathStep, AllocError>
-    ensures { IfOk result (λ copy. copy ≡ step.now) }
-{
-    match step {
-        PathStep::Key(key) => Ok(PathStep::Key(key.copy()?)),
-        PathStep::At(position) => Ok(PathStep::At(*position)),
-    }
-}
-
-fn copy_steps(alloc: Global, steps: &[PathStep]) -> Result<Vec<PathStep>, AllocError>
+fn copy_steps(alloc: Global, steps: &[PathStep]) -> Result<Vec<PathStep>, OutOfMemory>
     ensures { IfOk result (λ copies. copies.items ≡ steps.now) }
 {
     let mut copies = Vec::new(alloc);
     for step in steps {
-        copies.push(copy_step(step)?)?;
+        copies.push(step.copy()?)?;
     }
     Ok(copies)
 }
@@ -65,7 +56,7 @@ impl Reader {
     }
 
     /// Goes down to the value of a key.
-    pub fn enter_key(&mut self, key: &str) -> Result<(), AllocError>
+    pub fn enter_key(&mut self, key: &str) -> Result<(), OutOfMemory>
         ensures { OnOk result (self.new ≡ entered (Key key.now) self.old) }
     {
         self.here
@@ -74,12 +65,12 @@ impl Reader {
     }
 
     /// Goes down to the item at a position. A position that no short list has is answered as out of memory.
-    pub fn enter_item(&mut self, position: usize) -> Result<(), AllocError>
+    pub fn enter_item(&mut self, position: usize) -> Result<(), OutOfMemory>
         ensures here { OnOk result (self.new ≡ entered (At position) self.old) }
         ensures short { OnOk result (position < 2147483647) }
     {
         if position >= MAX_ITEMS {
-            return Err(AllocError);
+            return Err(OutOfMemory);
         }
         self.here.push(PathStep::At(position as u32))?;
         Ok(())
@@ -93,7 +84,7 @@ impl Reader {
     }
 
     /// Notes that the node is read over.
-    pub fn note(&mut self) -> Result<(), AllocError>
+    pub fn note(&mut self) -> Result<(), OutOfMemory>
         ensures { OnOk result (self.new ≡ reached self.old.here (self.old.notes ++ path_of self.old.here ∷ [])) }
     {
         let steps = copy_steps(self.alloc, &self.here)?;

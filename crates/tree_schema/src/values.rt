@@ -9,10 +9,11 @@ ghost use Rattle.tree_schema.specs.Values.{is_null, integer, in_range, number, f
 ghost use Rattle.tree_schema.specs.declared.fault.Reason.TheVariants.{OutOfRange};
 
 use crate::Reason;
-use crate::integers::integer_of;
 use doc_tree::Tree;
 use itoa::Buffer;
 use net_model::Name;
+use net_text::read_bool;
+use yaml_read::integer_of;
 
 pub fn is_null(tree: &Tree) -> bool
     ensures { result ≡ is_null (shape tree.now) }
@@ -29,9 +30,7 @@ pub fn boolean(tree: &Tree) -> Result<bool, Reason>
 {
     match tree {
         Tree::Bool(b) => Ok(*b),
-        Tree::Text(text) if text.as_str() == "true" => Ok(true),
-        Tree::Text(text) if text.as_str() == "false" => Ok(false),
-        Tree::Text(_) => Err(Reason::OutOfRange),
+        Tree::Text(text) => read_bool(text.as_str()).ok_or(Reason::OutOfRange),
         _ => Err(Reason::WrongType),
     }
 }

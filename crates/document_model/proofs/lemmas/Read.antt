@@ -3,7 +3,8 @@ use Rattle.std.proofs.Common.{◌≡◌, List, [], ◌∷◌, Bool, true, refl}
 use Rattle.std.specs.Prelude.{◌&&◌}
 use Rattle.std.specs.List.{list_all}
 use Rattle.std.proofs.lemmas.Bool.{and_parts}
-use Rattle.document_model.specs.Entries.{is_link_entry, has_short_link, is_read_link, is_short, are_read_links}
+use Rattle.base_model.specs.Lists.{is_short}
+use Rattle.document_model.specs.Entries.{is_link_entry, has_short_link, is_read_link, are_read_links}
 use Rattle.document_model.specs.declared.link_entry.LinkEntry.{LinkEntry}
 
 -- two tests that all pass together are passed by all one by one

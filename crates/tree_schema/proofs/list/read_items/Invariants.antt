@@ -2,7 +2,7 @@ use Rattle.std.proofs.Common.{◌≡◌, ◌≤◌, ◌<◌, ◌^◌, true, leng
 use Rattle.std.specs.List.{list_all}
 use Rattle.tree_schema.specs.Reached.{from}
 use Rattle.tree_schema.specs.Reading.{read_items}
-use Rattle.tree_schema.proofs.Reaching.{items_left, after_values}
+use Rattle.tree_schema.proofs.lemmas.Reaching.{items_left, after_values}
 use Rattle.tree_schema.proofs.list.read_items.Given as goal
 
 -- the values so far and those of what is left are those of all items; they are as few, and what holds of each

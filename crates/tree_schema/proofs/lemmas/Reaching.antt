@@ -31,6 +31,7 @@ notes_below : (here : Steps) (step : PathStep) (notes : List Steps) → map (pat
 notes_below here step [] = refl
 notes_below here step (place ∷ notes) = ap₂ (λ (steps : Steps) (paths : List Path). path_of steps ∷ paths) (sym (append_assoc here (step ∷ []) place)) (notes_below here step notes)
 
+-- a reading one step down, seen from above
 pub from-below : {X : Type 0} (r : Reached) (step : PathStep) (reading : Reading X) → from r (below step reading) ≡ left_to r.here (from (entered step r) reading)
 from-below r step (Ok (x, notes)) = ap (λ paths. Ok (x, reached r.here (r.notes ++ paths))) (notes_below r.here step notes)
 from-below r step (Err (reason, place)) = ap (λ (steps : Steps). Err (reason, steps)) (sym (append_assoc r.here (step ∷ []) place))
@@ -44,28 +45,35 @@ from-after : {X : Type 0} (r : Reached) (notes : List Steps) (reading : Reading 
 from-after r notes (Ok (x, further)) = ap (λ paths. Ok (x, reached r.here paths)) (ap (λ paths. r.notes ++ paths) (map-append (path_below r.here) notes further) ∙ sym (append_assoc r.notes (map (path_below r.here) notes) (map (path_below r.here) further)))
 from-after r notes (Err (reason, place)) = refl
 
+-- two readings, the second from what the first reached
 pub from-and_then : {X Y : Type 0} (r : Reached) (reading : Reading X) (next : X → Reading Y) → from r (and_then reading next) ≡ goes_on next (from r reading)
 from-and_then r (Ok (x, notes)) next = from-after r notes (next x)
 from-and_then r (Err (reason, place)) next = refl
 
 -- ---- by what was reached
 
+-- a value that was read one step down
 pub below_ok : {X : Type 0} (r new : Reached) (step : PathStep) (reading : Reading X) (x : X) → from (entered step r) reading ≡ Ok (x, new) → from r (below step reading) ≡ Ok (x, reached r.here new.notes)
 below_ok r new step reading x h = from-below r step reading ∙ ap (left_to r.here) h
 
+-- a refusal one step down
 pub below_err : {X : Type 0} (r : Reached) (step : PathStep) (reading : Reading X) (refusal : Reason × Steps) → from (entered step r) reading ≡ Err refusal → from r (below step reading) ≡ Err refusal
 below_err r step reading refusal h = from-below r step reading ∙ ap (left_to r.here) h
 
+-- the second of two readings, once the first gave its value
 pub next_ok : {X Y : Type 0} (r mid : Reached) (reading : Reading X) (next : X → Reading Y) (x : X) → from r reading ≡ Ok (x, mid) → from r (and_then reading next) ≡ from mid (next x)
 next_ok r mid reading next x h = from-and_then r reading next ∙ ap (goes_on next) h
 
+-- a refusal of the first of two readings is that of both
 pub next_err : {X Y : Type 0} (r : Reached) (reading : Reading X) (next : X → Reading Y) (refusal : Reason × Steps) → from r reading ≡ Err refusal → from r (and_then reading next) ≡ Err refusal
 next_err r reading next refusal h = from-and_then r reading next ∙ ap (goes_on next) h
 
+-- the same of another value, from what was reached
 abbrev pub on_value : {X Y : Type 0} → (X → Y) → Result (X × Reached) (Reason × Steps) → Result (Y × Reached) (Reason × Steps)
 on_value f (Ok (x, r)) = Ok (f x, r)
 on_value f (Err refusal) = Err refusal
 
+-- another value reaches the same
 pub from-with_value : {X Y : Type 0} (r : Reached) (f : X → Y) (reading : Reading X) → from r (with_value f reading) ≡ on_value f (from r reading)
 from-with_value r f (Ok (x, notes)) = refl
 from-with_value r f (Err (reason, place)) = refl
@@ -81,9 +89,11 @@ ends_where_it_begins r (Err (reason, place)) = tt
 
 -- ---- a map's pairs
 
+-- leaving the node that was entered last
 abbrev pub LeavesTo : Reached → Reached → Type 0
 LeavesTo mid left = (here : Steps) (step : PathStep) → mid.here ≡ here ++ step ∷ [] → left ≡ reached here mid.notes
 
+-- a value that was read between entering a node and leaving it
 pub inside_ok : {X : Type 0} (r inside mid left : Reached) (step : PathStep) (reading : Reading X) (x : X) → inside ≡ entered step r → from inside reading ≡ Ok (x, mid) → LeavesTo mid left
     → from r (below step reading) ≡ Ok (x, left)
 inside_ok r inside mid left step reading x into read leaves =
@@ -113,6 +123,7 @@ pairs_err t r i pairs p e refusal h is_p read =
 
 -- ---- a list's items
 
+-- the items from position i on
 abbrev pub items_left : ℕ → List Tree → Shapes
 items_left i trees = shapes_of (map shape (drop i trees))
 
@@ -166,6 +177,7 @@ items_end read r i trees values past =
 
 -- ---- at the top
 
+-- what is told of a reading from the top, from what was reached
 abbrev pub told_from : {X Y : Type 0} → (X → List Path → Y) → Result (X × Reached) (Reason × Steps) → Result Y SchemaFault
 told_from make (Ok (x, r)) = Ok (make x r.notes)
 told_from make (Err refusal) = Err (fault_of refusal)
