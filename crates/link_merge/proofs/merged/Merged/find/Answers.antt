@@ -1,0 +1,20 @@
+use Rattle.std.proofs.Common.{◌≡◌, ℕ, List, [], Some, None, map, sym, ap, subst, ◌∙◌}
+use Rattle.std.specs.List.{find, position}
+use Rattle.net_model.specs.Name.{same_bytes}
+use Rattle.net_model.specs.Links.{find_link}
+use Rattle.net_model.specs.declared.Link.{Link}
+use Rattle.link_merge.proofs.Placed.{placed, unplaced}
+use Rattle.link_merge.proofs.merged.Merged.find.Goals as goal
+
+pub returns-in-Some : goal.returns-in-Some
+returns-in-Some c =
+    placed (λ (l : Link). l.name) (λ n. same_bytes n c.args.name.now) c.self.inside.links.items c.in-Some.at c.index.result.now []
+    (ap (position (λ n. same_bytes n c.args.name.now)) (sym c.self.invariant) ∙ sym c.place.ensures ∙ c.in-Some.is)
+    c.index.ensures
+    ∙ ap (find_link c.args.name.now) c.self.view_is
+
+pub returns-in-None : goal.returns-in-None
+returns-in-None c =
+    sym (unplaced (λ (l : Link). l.name) (λ n. same_bytes n c.args.name.now) c.self.inside.links.items
+    (ap (position (λ n. same_bytes n c.args.name.now)) (sym c.self.invariant) ∙ sym c.place.ensures ∙ c.in-None.is))
+    ∙ ap (find_link c.args.name.now) c.self.view_is

@@ -1,0 +1,13 @@
+use Rattle.std.proofs.Common.{◌≡◌, sym, subst, ◌∙◌}
+use Rattle.reach.specs.Reach.{IsGraph}
+use Rattle.merge_model.specs.Members.{goes_with, is_removed}
+use Rattle.link_merge.proofs.Marked.{all_marked, rows_graph}
+use Rattle.link_merge.proofs.seats.reached.Goals as goal
+
+pub closure-requires-clause-graph : goal.closure-requires-clause-graph
+closure-requires-clause-graph c = subst IsGraph (sym (c.deref.ensures.value ∙ c.in_ok-arrows.ensures)) (rows_graph (goes_with c.args.entries.now) (is_removed c.args.entries.now) c.args.links.now)
+
+pub returns : goal.returns
+returns c =
+    all_marked (goes_with c.args.entries.now) (is_removed c.args.entries.now) c.args.links.now c.deref.result.now c.args.starts.now c.in_ok-marks.marks.items
+    (c.deref.ensures.value ∙ c.in_ok-arrows.ensures) c.requires c.in_ok-marks.ensures

@@ -1,0 +1,239 @@
+//! The controllers of the merged links.
+ghost use Rattle.std.specs.Prelude.{◌≡◌, ◌∷◌, [], false, find, map, is_none, if◌then◌else◌, Some, None, option_copied, IfOk};
+ghost use Rattle.std.specs.List.{list_any};
+ghost use Rattle.std.specs.Option.{option_map_or, option_map, option_and_then};
+ghost use Rattle.net_model.specs.Words.{is_among};
+ghost use Rattle.document_model.specs.declared.PortEntry.{PortEntry};
+ghost use Rattle.net_model.specs.Name.{same_bytes};
+ghost use Rattle.merge_model.specs.Stated.{claimed};
+ghost use Rattle.merge_model.specs.Kinds.{same_type};
+ghost use Rattle.merge_model.specs.Members.{find_member};
+ghost use Rattle.merge_model.specs.Controllers.{ports_by, stated_ports, lists, own_claim, claims, decided, keeps_ports, kept_by, kept_controller, merged_controller, with_controller, with_controllers};
+
+use crate::kinds::same_type;
+use crate::members::Members;
+use crate::slot::{Slot, is_absent};
+use document_model::{Claim, LinkEntry, PortEntry};
+use net_model::{Items, Kind, Link, Name};
+use std::alloc::{AllocError, Global};
+
+fn among_names(ports: &Option<Items<Name>>, name: &Name) -> bool
+    ensures { result ≡ option_map_or (λ names. is_among names name.now) ports.now false }
+{
+    match ports {
+        Some(ports) => is_among(ports.items(), name),
+        None => false,
+    }
+}
+
+fn is_among(names: &[Name], name: &Name) -> bool
+    ensures { result ≡ is_among names.now name.now }
+{
+    names.iter().any(|n| n == name)
+}
+
+fn has_port(ports: &[PortEntry], name: &Name) -> bool
+    ensures { result ≡ list_any (λ p. same_bytes p.name name.now) ports.now }
+{
+    ports.iter().any(|port| port.name == *name)
+}
+
+fn is_among_entries(ports: &[PortEntry], name: &Name) -> bool
+    ensures { result ≡ is_among (map (λ (p : PortEntry). p.name) ports.now) name.now }
+{
+    has_port(ports, name)
+}
+
+fn among_entries(ports: &Option<Items<PortEntry>>, name: &Name) -> bool
+    ensures { result ≡ option_map_or (λ names. is_among names name.now) (option_map (map (λ (p : PortEntry). p.name)) ports.now) false }
+{
+    match ports {
+        Some(ports) => is_among_entries(ports.items(), name),
+        None => false,
+    }
+}
+
+// Whether the list that the entry states for a link of this kind names the link.
+fn entry_lists(kind: &Kind, entry: &LinkEntry, name: &Name) -> bool
+    ensures { result ≡ option_map_or (λ names. is_among names name.now) (ports_by kind.now entry.now) false }
+{
+    match kind {
+        Kind::Bond { .. } => among_names(&entry.bond.ports, name),
+        Kind::Bridge => among_entries(&entry.bridge.ports, name),
+        Kind::Vrf { .. } => among_names(&entry.vrf.ports, name),
+        _ => false,
+    }
+}
+
+/// Whether the stated list of ports names the link.
+pub(crate) fn lists(slot: &Slot, name: &Name) -> bool
+    ensures { result ≡ lists slot.now name.now }
+{
+    let kind = slot.kind();
+    match slot.entry() {
+        Some(entry) => entry_lists(&kind, entry, name),
+        None => false,
+    }
+}
+
+fn entry_lacks_list(kind: &Kind, entry: &LinkEntry) -> bool
+    ensures { result ≡ is_none (ports_by kind.now entry.now) }
+{
+    match kind {
+        Kind::Bond { .. } => entry.bond.ports.is_none(),
+        Kind::Bridge => entry.bridge.ports.is_none(),
+        Kind::Vrf { .. } => entry.vrf.ports.is_none(),
+        _ => true,
+    }
+}
+
+/// Whether no list of ports is stated.
+pub(crate) fn lacks_list(slot: &Slot) -> bool
+    ensures { result ≡ is_none (stated_ports slot.now) }
+{
+    let kind = slot.kind();
+    match slot.entry() {
+        Some(entry) => entry_lacks_list(&kind, entry),
+        None => true,
+    }
+}
+
+/// The controller that the link's own entry states.
+pub(crate) fn own_claim(slot: &Slot) -> Option<Claim>
+    ensures { result ≡ own_claim slot.now }
+{
+    match slot.entry() {
+        Some(entry) => entry.controller,
+        None => None,
+    }
+}
+
+fn claimed(claim: Claim) -> Option<Name>
+    ensures { result ≡ claimed claim }
+{
+    match claim {
+        Claim::Nobody => None,
+        Claim::To(name) => Some(name),
+    }
+}
+
+fn had_type(slot: &Slot) -> bool
+    ensures { result ≡ option_map_or (λ l. same_type l.kind slot.now.kind) slot.now.old false }
+{
+    let kind = slot.kind();
+    match slot.old() {
+        Some(link) => same_type(&link.kind, &kind),
+        None => false,
+    }
+}
+
+// Whether a controller is of the type that it was, and no list is stated for it.
+fn keeps_ports(slot: &Slot) -> bool
+    ensures { result ≡ keeps_ports slot.now }
+{
+    had_type(slot) && lacks_list(slot)
+}
+
+fn named_keeps_ports(members: &Members, name: &Name) -> bool
+    ensures { result ≡ option_map_or keeps_ports (find_member name.now members.now) false }
+{
+    match members.find(name) {
+        Some(slot) => keeps_ports(slot),
+        None => false,
+    }
+}
+
+fn kept_by(members: &Members, name: Name) -> Option<Name>
+    ensures { result ≡ kept_by members.now name }
+{
+    if named_keeps_ports(members, &name) {
+        Some(name)
+    } else {
+        None
+    }
+}
+
+fn current_controller(old: Option<&Link>) -> Option<Name>
+    ensures { result ≡ option_and_then (λ l. l.controller) (option_copied old.entry) }
+{
+    match old {
+        Some(link) => link.controller,
+        None => None,
+    }
+}
+
+// The current controller, where that keeps its ports.
+fn kept_controller(members: &Members, slot: &Slot) -> Option<Name>
+    ensures { result ≡ kept_controller members.now slot.now }
+{
+    match current_controller(slot.old()) {
+        Some(name) => kept_by(members, name),
+        None => None,
+    }
+}
+
+/// The first link whose stated list names the link.
+pub(crate) fn first_lister<'a, 'b>(slots: &'b [Slot<'a>], name: &Name) -> Option<&'b Slot<'a>>
+    ensures { option_copied result ≡ find (λ c. lists c name.now) slots.now }
+{
+    slots.iter().find(|slot| lists(slot, name))
+}
+
+fn name_of(found: Option<&Slot>) -> Option<Name>
+    ensures { result ≡ option_map (λ c. c.name) (option_copied found.entry) }
+{
+    match found {
+        Some(slot) => Some(slot.name()),
+        None => None,
+    }
+}
+
+// The first link whose list names the link, else the current controller.
+fn listed_controller(members: &Members, slot: &Slot) -> Option<Name>
+    ensures { result ≡ option_map_or (λ c. Some c.name) (find (λ c. lists c slot.now.name) members.now) (kept_controller members.now slot.now) }
+{
+    match name_of(first_lister(members.slots(), &slot.name())) {
+        Some(name) => Some(name),
+        None => kept_controller(members, slot),
+    }
+}
+
+#[tactic(auto, using(crate::proofs::Claims::decided_by_list, crate::proofs::Claims::decided_by_own))]
+fn live_controller(members: &Members, slot: &Slot) -> Option<Name>
+    ensures { result ≡ decided (claims members.now slot.now) (kept_controller members.now slot.now) }
+{
+    match own_claim(slot) {
+        Some(claim) => claimed(claim),
+        None => listed_controller(members, slot),
+    }
+}
+
+// The claim decides, else the current controller stays where it keeps its ports.
+fn merged_controller(members: &Members, slot: &Slot) -> Option<Name>
+    ensures { result ≡ merged_controller members.now slot.now }
+{
+    if is_absent(slot.wish()) {
+        return None;
+    }
+    live_controller(members, slot)
+}
+
+fn with_controller<'a>(members: &Members<'a>, slot: &Slot<'a>) -> Slot<'a>
+    ensures { result ≡ with_controller members.now slot.now }
+{
+    slot.under(merged_controller(members, slot))
+}
+
+/// The links with their controllers.
+pub(crate) fn with_controllers<'a>(
+    alloc: Global,
+    members: &Members<'a>,
+) -> Result<Vec<Slot<'a>>, AllocError>
+    ensures { IfOk result (λ slots. slots.items ≡ with_controllers members.now) }
+{
+    let mut slots = Vec::new(alloc);
+    for slot in members.slots() {
+        slots.push(with_controller(members, slot))?;
+    }
+    Ok(slots)
+}

@@ -1,0 +1,84 @@
+//! The merged links.
+ghost use Rattle.std.specs.Prelude.{◌≡◌, true, None, IfOk};
+ghost use Rattle.net_model.specs.Valid.{names_differ};
+ghost use Rattle.merge_model.specs.Lifted.{members};
+ghost use Rattle.merge_model.specs.Merged.{merged_links};
+ghost use Rattle.merge_model.specs.BrokenEntries.{duplicate_name};
+ghost use Rattle.merge_model.specs.Merge.{links_of};
+ghost use Rattle.merge_model.specs.Places.{at_rule, first_of};
+ghost use Rattle.merge_model.specs.Answers.{MergesLinks};
+ghost use Rattle.link_merge.specs.Rules.{entry_rules, port_rules, merged_rules};
+
+use crate::broken::{entries_broken, merged_broken, ports_broken};
+use crate::controllers::with_controllers;
+use crate::fields::merged_links;
+use crate::lifted::with_lifted;
+use crate::members::Members;
+use crate::merged::Merged;
+use crate::seats::seats;
+use document_model::{Doc, LinkEntry};
+use merge_laws::merge_laws;
+use merge_model::MergeFault;
+use net_model::{Link, Net};
+use std::alloc::{AllocError, Global};
+
+// The links of the merged state, with their controllers and with who is lifted.
+fn members<'a>(
+    alloc: Global,
+    net: &'a Net,
+    entries: &'a [LinkEntry],
+) -> Result<Members<'a>, AllocError>
+    ensures { IfOk result (λ ms. ms ≡ members net.now.links entries.now) }
+{
+    let seats = Members::of(alloc, seats(alloc, net, entries)?)?;
+    let slots = with_controllers(alloc, &seats)?;
+    let raised = with_lifted(alloc, &slots)?;
+    Members::of(alloc, raised)
+}
+
+fn merged(alloc: Global, members: &Members) -> Result<Merged, AllocError>
+    ensures { IfOk result (λ merged. merged ≡ merged_links members.now) }
+{
+    let links = merged_links(alloc, members)?;
+    Merged::of(alloc, links)
+}
+
+// The names of the merged links differ, where the entries break no rule.
+fn names_differ_laws(net: &Net, entries: &[LinkEntry], merged: &Merged)
+    requires rules { first_of at_rule (entry_rules net.now.links entries.now) ≡ None }
+    requires links { merged.now ≡ links_of net.now.links entries.now }
+    ensures { names_differ merged.now ≡ true }
+{
+    net.laws();
+    merge_laws();
+}
+
+// The merge where the entries break no rule.
+fn merge_entries(alloc: Global, net: &Net, doc: &Doc) -> Result<Vec<Link>, MergeFault>
+    requires { first_of at_rule (entry_rules net.now.links doc.now.links) ≡ None }
+    ensures { MergesLinks net.now doc.now result }
+{
+    let entries = doc.links.items().as_slice();
+    let members = members(alloc, net, entries)?;
+    let wrong = ports_broken(alloc, &members)?;
+    if let Some(refused) = wrong {
+        return Err(MergeFault::Refused(refused));
+    }
+    let merged = merged(alloc, &members)?;
+    names_differ_laws(net, entries, &merged);
+    let broken = merged_broken(alloc, &members, &merged)?;
+    if let Some(refused) = broken {
+        return Err(MergeFault::Refused(refused));
+    }
+    Ok(merged.into_links())
+}
+
+/// The merged links by rank, or the least of rules 1 to 17 that the document breaks, at its first place.
+pub fn merge_links(alloc: Global, net: &Net, doc: &Doc) -> Result<Vec<Link>, MergeFault>
+    ensures { MergesLinks net.now doc.now result }
+{
+    match entries_broken(net, doc.links.items()) {
+        Some(refused) => Err(MergeFault::Refused(refused)),
+        None => merge_entries(alloc, net, doc),
+    }
+}

@@ -1,0 +1,246 @@
+//! The options of the merged links: whose current ones and whose entries count.
+ghost use Rattle.std.specs.Prelude.{◌≡◌, ◌&&◌, [], false, find, map, filter, option_copied, IfOk};
+ghost use Rattle.std.specs.Option.{option_map_or, option_map, option_and_then, unwrap_or};
+ghost use Rattle.net_model.specs.Name.{same_bytes};
+ghost use Rattle.net_model.specs.Links.{is_bridge, is_port_of};
+ghost use Rattle.merge_model.specs.Members.{Member, find_member};
+ghost use Rattle.merge_model.specs.OptionRules.{merge_bond, merge_bridge, merge_port};
+ghost use Rattle.merge_model.specs.LinkOptions.{no_bond, no_bridge, merged_ports, if_same_mode, if_bridge, bond_of, bridge_of, controller_member, if_same_bridge, port_entry, port_under, port_of};
+
+use crate::kinds::same_mode;
+use crate::members::Members;
+use crate::slot::Slot;
+use document_model::{BondEntry, BridgeEntry, LinkEntry, PortEntry};
+use net_model::{BondOpts, BridgeOpts, Items, Kind, Link, Name, PortOpts};
+use option_rules::{merge_bond, merge_bridge, merge_port};
+use std::alloc::{AllocError, Global};
+
+pub(crate) fn is_bridge(kind: &Kind) -> bool
+    ensures { result ≡ is_bridge kind.now }
+{
+    matches!(kind, Kind::Bridge)
+}
+
+fn no_bond() -> BondEntry
+    ensures { result ≡ no_bond }
+{
+    BondEntry {
+        mode: None,
+        primary: None,
+        lacp_rate: None,
+        hash_policy: None,
+        miimon: None,
+        updelay: None,
+        downdelay: None,
+        ports: None,
+    }
+}
+
+fn no_bridge() -> BridgeEntry
+    ensures { result ≡ no_bridge }
+{
+    BridgeEntry {
+        stp: None,
+        priority: None,
+        forward_delay: None,
+        hello_time: None,
+        max_age: None,
+        mac_ageing: None,
+        ports: None,
+    }
+}
+
+fn is_under(slot: &Slot, name: &Name) -> bool
+    ensures { result ≡ option_map_or (λ c. same_bytes c name.now) slot.now.controller false }
+{
+    match slot.controller() {
+        Some(controller) => controller == *name,
+        None => false,
+    }
+}
+
+// The names of the merged ports.
+fn merged_ports(alloc: Global, slots: &[Slot], name: &Name) -> Result<Vec<Name>, AllocError>
+    ensures { IfOk result (λ ports. ports.items ≡ merged_ports slots.now name.now) }
+{
+    slots
+        .iter()
+        .filter(|slot| is_under(slot, name))
+        .map(|slot| slot.name())
+        .collect(alloc)
+}
+
+// The current options count for a bond that was one of the same mode.
+fn current_bond<'a>(old: Option<&'a Link>, kind: &Kind) -> Option<&'a BondOpts>
+    ensures { option_copied result ≡ option_and_then (if_same_mode kind.now) (option_copied old.entry) }
+{
+    match old {
+        Some(link) => {
+            if same_mode(&link.kind, kind) {
+                Some(&link.bond)
+            } else {
+                None
+            }
+        }
+        None => None,
+    }
+}
+
+// And for a bridge that was one.
+fn current_bridge<'a>(old: Option<&'a Link>) -> Option<&'a BridgeOpts>
+    ensures { option_copied result ≡ option_and_then if_bridge (option_copied old.entry) }
+{
+    match old {
+        Some(link) => {
+            if is_bridge(&link.kind) {
+                Some(&link.bridge)
+            } else {
+                None
+            }
+        }
+        None => None,
+    }
+}
+
+fn bond_by(current: Option<&BondOpts>, entry: Option<&LinkEntry>, ports: &Vec<Name>) -> BondOpts
+    ensures { result ≡ merge_bond (option_copied current.entry) (option_map_or (λ e. e.bond) (option_copied entry.entry) no_bond) ports.now.items }
+{
+    match entry {
+        Some(entry) => merge_bond(current, &entry.bond, ports),
+        None => merge_bond(current, &no_bond(), ports),
+    }
+}
+
+/// The options of a bond, the defaults for another kind.
+pub(crate) fn bond_of(alloc: Global, members: &Members, slot: &Slot) -> Result<BondOpts, AllocError>
+    ensures { IfOk result (λ opts. opts ≡ bond_of members.now slot.now slot.now.kind) }
+{
+    let kind = slot.kind();
+    match kind {
+        Kind::Bond { .. } => {
+            let ports = merged_ports(alloc, members.slots(), &slot.name())?;
+            Ok(bond_by(current_bond(slot.old(), &kind), slot.entry(), &ports))
+        }
+        _ => Ok(BondOpts::defaults()),
+    }
+}
+
+fn bridge_by(current: Option<&BridgeOpts>, entry: Option<&LinkEntry>) -> BridgeOpts
+    ensures { result ≡ merge_bridge (option_copied current.entry) (option_map_or (λ e. e.bridge) (option_copied entry.entry) no_bridge) }
+{
+    match entry {
+        Some(entry) => merge_bridge(current, &entry.bridge),
+        None => merge_bridge(current, &no_bridge()),
+    }
+}
+
+/// The options of a bridge, the defaults for another kind.
+pub(crate) fn bridge_of(slot: &Slot) -> BridgeOpts
+    ensures { result ≡ bridge_of slot.now slot.now.kind }
+{
+    match slot.kind() {
+        Kind::Bridge => bridge_by(current_bridge(slot.old()), slot.entry()),
+        _ => BridgeOpts::defaults(),
+    }
+}
+
+/// The link that is the controller.
+pub(crate) fn controller_member<'a, 'b>(
+    members: &'b Members<'a>,
+    slot: &Slot<'a>,
+) -> Option<&'b Slot<'a>>
+    ensures { option_copied result ≡ controller_member members.now slot.now }
+{
+    match slot.controller() {
+        Some(name) => members.find(&name),
+        None => None,
+    }
+}
+
+pub(crate) fn is_port_of(link: &Link, name: &Name) -> bool
+    ensures { result ≡ is_port_of name.now link.now }
+{
+    match &link.controller {
+        Some(controller) => controller == name,
+        None => false,
+    }
+}
+
+fn was_bridge(slot: &Slot) -> bool
+    ensures { result ≡ option_map_or (λ b. is_bridge b.kind) slot.now.old false }
+{
+    match slot.old() {
+        Some(link) => is_bridge(&link.kind),
+        None => false,
+    }
+}
+
+fn was_port_of_bridge(controller: &Slot, link: &Link) -> bool
+    ensures { result ≡ (is_port_of controller.now.name link.now && option_map_or (λ b. is_bridge b.kind) controller.now.old false) }
+{
+    is_port_of(link, &controller.name()) && was_bridge(controller)
+}
+
+// The current options count for a port of the same bridge.
+fn current_port<'a>(controller: &Slot, old: Option<&'a Link>) -> Option<&'a PortOpts>
+    ensures { option_copied result ≡ option_and_then (if_same_bridge controller.now) (option_copied old.entry) }
+{
+    match old {
+        Some(link) => {
+            if was_port_of_bridge(controller, link) {
+                Some(&link.port)
+            } else {
+                None
+            }
+        }
+        None => None,
+    }
+}
+
+fn find_port<'a>(ports: &'a [PortEntry], name: &Name) -> Option<&'a PortEntry>
+    ensures { option_copied result ≡ find (λ p. same_bytes p.name name.now) ports.now }
+{
+    ports.iter().find(|port| port.name == *name)
+}
+
+fn port_among<'a>(ports: &'a Option<Items<PortEntry>>, name: &Name) -> Option<&'a PortEntry>
+    ensures { option_copied result ≡ find (λ p. same_bytes p.name name.now) (unwrap_or ports.now []) }
+{
+    match ports {
+        Some(ports) => find_port(ports.items(), name),
+        None => None,
+    }
+}
+
+// What the entry of a bridge states of the port.
+fn port_entry<'a>(entry: Option<&'a LinkEntry>, name: &Name) -> Option<&'a PortEntry>
+    ensures { option_copied result ≡ option_and_then (port_entry name.now) (option_copied entry.entry) }
+{
+    match entry {
+        Some(entry) => port_among(&entry.bridge.ports, name),
+        None => None,
+    }
+}
+
+fn port_under(slot: &Slot, controller: &Slot) -> PortOpts
+    ensures { result ≡ port_under slot.now controller.now }
+{
+    if is_bridge(&controller.kind()) {
+        merge_port(
+            current_port(controller, slot.old()),
+            port_entry(controller.entry(), &slot.name()),
+        )
+    } else {
+        PortOpts::defaults()
+    }
+}
+
+/// The options of a bridge's port, the defaults under another controller.
+pub(crate) fn port_of(members: &Members, slot: &Slot) -> PortOpts
+    ensures { result ≡ port_of members.now slot.now }
+{
+    match controller_member(members, slot) {
+        Some(controller) => port_under(slot, controller),
+        None => PortOpts::defaults(),
+    }
+}

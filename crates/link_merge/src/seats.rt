@@ -1,0 +1,263 @@
+//! The links of the merged state, before their fields: which they are, and of what kind.
+ghost use Rattle.std.specs.Prelude.{◌≡◌, ◌&&◌, ◌||◌, ◌++◌, ◌∷◌, [], not, false, if◌then◌else◌, map, filter, length, option_copied, IfOk, OnOk};
+ghost use Rattle.std.specs.List.{filter_map};
+ghost use Rattle.std.specs.Option.{option_map, option_map_or, option_or, option_to_list};
+ghost use Rattle.reach.specs.Reach.{is_reached};
+ghost use Rattle.net_model.specs.Words.{positions};
+ghost use Rattle.net_model.specs.Links.{find_link};
+ghost use Rattle.net_model.specs.Standing.{has_base};
+ghost use Rattle.merge_model.specs.Stated.{find_entry, is_mentioned, is_absent};
+ghost use Rattle.merge_model.specs.Kinds.{is_ethernet};
+ghost use Rattle.merge_model.specs.Members.{is_removed, goes_with, is_gone, retired, stated_wish, entered, entered_over, stays, left_alone, seats};
+
+use crate::entries::{find_entry, kind_of};
+use crate::kinds::{is_ethernet, merged_kind};
+use crate::slot::{Slot, is_absent};
+use document_model::{LinkEntry, Wish};
+use net_model::{Items, Kind, Link, Name, Net};
+use reach::closure;
+use std::alloc::{AllocError, Global};
+
+/// Whether the kind is a VLAN over the named link.
+pub(crate) fn has_base(kind: &Kind, name: &Name) -> bool
+    ensures { result ≡ has_base kind.now name.now }
+{
+    match kind {
+        Kind::Vlan { base, .. } => base == name,
+        _ => false,
+    }
+}
+
+fn is_mentioned(entries: &[LinkEntry], link: &Link) -> bool
+    ensures { result ≡ is_mentioned entries.now link.now }
+{
+    find_entry(entries, &link.name).is_some()
+}
+
+fn is_stated_absent(entries: &[LinkEntry], name: &Name) -> bool
+    ensures { result ≡ option_map_or (λ e. is_absent e.wish) (find_entry name.now entries.now) false }
+{
+    match find_entry(entries, name) {
+        Some(entry) => is_absent(entry.wish),
+        None => false,
+    }
+}
+
+fn is_removed(entries: &[LinkEntry], link: &Link) -> bool
+    ensures { result ≡ is_removed entries.now link.now }
+{
+    is_stated_absent(entries, &link.name) && !is_ethernet(&link.kind)
+}
+
+// Whether the link is an unmentioned VLAN over this base.
+fn goes_with(entries: &[LinkEntry], base: &Link, link: &Link) -> bool
+    ensures { result ≡ goes_with entries.now base.now link.now }
+{
+    if !has_base(&link.kind, &base.name) {
+        return false;
+    }
+    !is_mentioned(entries, link)
+}
+
+// The places of the VLANs that go with this link.
+fn above(
+    alloc: Global,
+    entries: &[LinkEntry],
+    links: &[Link],
+    base: &Link,
+) -> Result<Vec<usize>, AllocError>
+    ensures { IfOk result (λ places. places.items ≡ positions (goes_with entries.now base.now) 0 links.now) }
+{
+    let mut places = Vec::new(alloc);
+    for (at, other) in links.iter().enumerate() {
+        if goes_with(entries, base, other) {
+            places.push(at)?;
+        }
+    }
+    Ok(places)
+}
+
+// For each link, the places of those that go with it.
+fn arrows(
+    alloc: Global,
+    entries: &[LinkEntry],
+    links: &[Link],
+) -> Result<Vec<Items<usize>>, AllocError>
+    ensures { IfOk result (λ arrows. arrows.items ≡ map (λ l. positions (goes_with entries.now l) 0 links.now) links.now) }
+{
+    let mut arrows = Vec::new(alloc);
+    for link in links {
+        let places = above(alloc, entries, links, link)?;
+        arrows.push(Items::of(places))?;
+    }
+    Ok(arrows)
+}
+
+fn removed(
+    alloc: Global,
+    entries: &[LinkEntry],
+    links: &[Link],
+) -> Result<Vec<bool>, AllocError>
+    ensures { IfOk result (λ marks. marks.items ≡ map (is_removed entries.now) links.now) }
+{
+    links
+        .iter()
+        .map(|link| is_removed(entries, link))
+        .collect(alloc)
+}
+
+// Which links are reached from those that are removed.
+fn reached(
+    alloc: Global,
+    entries: &[LinkEntry],
+    links: &[Link],
+    starts: &[bool],
+) -> Result<Vec<bool>, AllocError>
+    requires { starts.now ≡ map (is_removed entries.now) links.now }
+    ensures { IfOk result (λ marks. marks.items ≡ map (is_reached (goes_with entries.now) (is_removed entries.now) links.now (length links.now)) links.now) }
+{
+    let arrows = arrows(alloc, entries, links)?;
+    let marks = closure(alloc, &arrows, starts)?;
+    Ok(marks)
+}
+
+fn either(a: bool, b: bool) -> bool
+    ensures { result ≡ (a || b) }
+{
+    a || b
+}
+
+// Whether each link goes.
+fn gone(
+    alloc: Global,
+    entries: &[LinkEntry],
+    links: &[Link],
+) -> Result<Vec<bool>, AllocError>
+    ensures { IfOk result (λ marks. marks.items ≡ map (is_gone links.now entries.now) links.now) }
+{
+    let starts = removed(alloc, entries, links)?;
+    let reached = reached(alloc, entries, links, &starts)?;
+    let mut gone = Vec::new(alloc);
+    for at in 0..links.len() {
+        gone.push(either(starts[at], reached[at]))?;
+    }
+    Ok(gone)
+}
+
+// An Ethernet link that is stated absent stays, without settings; nothing else that is stated absent is there.
+fn retired<'a>(name: Name, old: Option<&'a Link>) -> Option<Slot<'a>>
+    ensures { result ≡ retired name (option_copied old.entry) }
+{
+    match old {
+        Some(link) => {
+            if is_ethernet(&link.kind) {
+                Some(Slot::of(name, link.kind, old, None, Some(Wish::Absent)))
+            } else {
+                None
+            }
+        }
+        None => None,
+    }
+}
+
+// What is stated of the state: a new link without one is to be up.
+fn stated_wish(entry: &LinkEntry, old: Option<&Link>) -> Option<Wish>
+    ensures { result ≡ stated_wish entry.now (option_copied old.entry) }
+{
+    match entry.wish {
+        Some(wish) => Some(wish),
+        None => {
+            if old.is_none() {
+                Some(Wish::Up)
+            } else {
+                None
+            }
+        }
+    }
+}
+
+// The link that an entry makes, where it makes one.
+fn entered<'a>(entry: &'a LinkEntry, old: Option<&'a Link>) -> Option<Slot<'a>>
+    ensures { result ≡ entered entry.now (option_copied old.entry) }
+{
+    if is_absent(entry.wish) {
+        return retired(entry.name, old);
+    }
+    let wish = stated_wish(entry, old);
+    match merged_kind(entry, kind_of(old)) {
+        Some(kind) => Some(Slot::of(entry.name, kind, old, Some(entry), wish)),
+        None => None,
+    }
+}
+
+fn entered_over<'a>(net: &'a Net, entry: &'a LinkEntry) -> Option<Slot<'a>>
+    ensures { result ≡ entered_over net.now.links entry.now }
+{
+    entered(entry, net.link(&entry.name))
+}
+
+fn push_entered<'a>(
+    slots: &mut Vec<Slot<'a>>,
+    net: &'a Net,
+    entry: &'a LinkEntry,
+) -> Result<(), AllocError>
+    ensures { OnOk result (slots.new.items ≡ slots.old.items ++ option_to_list (entered_over net.now.links entry.now)) }
+{
+    if let Some(slot) = entered_over(net, entry) {
+        slots.push(slot)?;
+    }
+    Ok(())
+}
+
+// The links that the entries make.
+fn all_entered<'a>(
+    alloc: Global,
+    net: &'a Net,
+    entries: &'a [LinkEntry],
+) -> Result<Vec<Slot<'a>>, AllocError>
+    ensures { IfOk result (λ slots. slots.items ≡ filter_map (entered_over net.now.links) entries.now) }
+{
+    let mut slots = Vec::new(alloc);
+    for entry in entries {
+        push_entered(&mut slots, net, entry)?;
+    }
+    Ok(slots)
+}
+
+fn left_alone<'a>(link: &'a Link) -> Slot<'a>
+    ensures { result ≡ left_alone link.now }
+{
+    Slot::of(link.name, link.kind, Some(link), None, None)
+}
+
+// An unmentioned link that doesn't go.
+fn push_staying<'a>(
+    slots: &mut Vec<Slot<'a>>,
+    entries: &[LinkEntry],
+    link: &'a Link,
+    gone: bool,
+) -> Result<(), AllocError>
+    ensures { OnOk result (slots.new.items ≡ slots.old.items ++ (if not (is_mentioned entries.now link.now) && not gone then left_alone link.now ∷ [] else [])) }
+{
+    if !is_mentioned(entries, link) && !gone {
+        slots.push(left_alone(link))?;
+    }
+    Ok(())
+}
+
+/// The links of the merged state by rank: in the order of the entries, then the unmentioned ones by name.
+pub(crate) fn seats<'a>(
+    alloc: Global,
+    net: &'a Net,
+    entries: &'a [LinkEntry],
+) -> Result<Vec<Slot<'a>>, AllocError>
+    ensures { IfOk result (λ slots. slots.items ≡ seats net.now.links entries.now) }
+{
+    let mut slots = all_entered(alloc, net, entries)?;
+    let links = net.links().as_slice();
+    let gone = gone(alloc, entries, links)?;
+    for at in 0..links.len() {
+        push_staying(&mut slots, entries, &links[at], gone[at])?;
+    }
+    Ok(slots)
+}
