@@ -87,3 +87,9 @@ valid_parts net doc p fits none =
 
 pub valid : (net : NetData) (doc : Doc) → IsNet net → is_document doc ≡ true → least_refusal net doc ≡ None → least_broken (merged net doc) ≡ None
 valid net doc is fits h = none_broken (merged net doc) (valid_parts net doc (all_parts net is.valid) fits (breaks_none net doc h))
+
+pub merged_names : (net : NetData) (doc : Doc) → IsNet net → links_broken net.links doc.links ≡ None → names_differ (links_of net.links doc.links) ≡ true
+merged_names net doc is h =
+    let ms : List Member = members net.links doc.links in
+    let q = all_none at_rule (link_rules net.links doc.links ms (links_of net.links doc.links)) h in
+    names_kept ms ms (members_differ net.links doc.links (all_parts net is.valid).names q.0)

@@ -1,1 +1,3 @@
+mod ByName
 mod Indexed
+mod SameKeys

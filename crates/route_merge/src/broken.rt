@@ -1,6 +1,5 @@
 //! The rules 18 to 20 of the merge, which are asked of the stated routes.
 ghost use Rattle.std.specs.Prelude.{◌≡◌, ◌&&◌, ◌++◌, ◌∷◌, not, [], find, IfOk, OnOk, option_copied};
-ghost use Rattle.std.specs.List.{list_any};
 ghost use Rattle.std.specs.Option.{option_map, option_to_list};
 ghost use Rattle.net_model.specs.Links.{named_passes};
 ghost use Rattle.net_model.specs.Valid.{same_key, route_stands};
@@ -10,12 +9,13 @@ ghost use Rattle.merge_model.specs.BrokenRoutes.{stated_at, route_device, route_
 ghost use Rattle.merge_model.specs.Merge.{routes_broken};
 ghost use Rattle.route_merge.specs.Rest.{rules_over};
 
-use crate::matching::{same_key, same_route};
+use crate::devices::Devices;
+use crate::keys::is_first_or_equal;
 use crate::routes::stated_route;
-use crate::standing::{is_up, route_stands};
 use document_model::{Place, Refused, RouteEntry};
-use net_model::{Link, Route};
+use net_model::Route;
 use std::alloc::{AllocError, Global};
+use std::collections::BTreeMap;
 use std::marker::Model;
 
 /// The number of the rule that a stated route's device is there and up.
@@ -98,41 +98,29 @@ fn at_route(found: Option<&Stated>) -> Option<Place>
     }
 }
 
-fn first_down<'a>(links: &[Link], stated: &'a [Stated]) -> Option<&'a Stated>
-    ensures { option_copied result ≡ find (λ s. not (named_passes (λ l. l.up) links.now s.1.dev)) stated.now }
+fn first_down<'a>(devices: &Devices, stated: &'a [Stated]) -> Option<&'a Stated>
+    ensures { option_copied result ≡ find (λ s. not (named_passes (λ l. l.up) devices.now s.1.dev)) stated.now }
 {
-    stated.iter().find(|s| !is_up(links, &s.route().dev))
+    stated.iter().find(|s| !devices.is_up(&s.route().dev))
 }
 
-fn first_off_link<'a>(links: &[Link], stated: &'a [Stated]) -> Option<&'a Stated>
-    ensures { option_copied result ≡ find (λ s. not (route_stands links.now s.1)) stated.now }
+fn first_off_link<'a>(devices: &Devices, stated: &'a [Stated]) -> Option<&'a Stated>
+    ensures { option_copied result ≡ find (λ s. not (route_stands devices.now s.1)) stated.now }
 {
-    stated.iter().find(|s| !route_stands(links, s.route()))
+    stated.iter().find(|s| !devices.stands(s.route()))
 }
 
-fn is_twin(a: &Route, b: &Route) -> bool
-    ensures { result ≡ (same_key a.now b.now && not (same_route a.now b.now)) }
+fn first_twin(alloc: Global, stated: &[Stated]) -> Result<Option<&Stated>, AllocError>
+    ensures { IfOk result (λ found. option_copied found ≡ first_second (λ a b. same_key a.1 b.1 && not (same_route a.1 b.1)) [] stated.now) }
 {
-    same_key(a, b) && !same_route(a, b)
-}
-
-// Whether one of these has the route's key and isn't equal to it.
-fn has_twin(seen: &[Stated], stated: &Stated) -> bool
-    ensures { result ≡ list_any (λ s. same_key s.1 stated.now.1 && not (same_route s.1 stated.now.1)) seen.now }
-{
-    seen.iter().any(|s| is_twin(s.route(), stated.route()))
-}
-
-fn first_twin(stated: &[Stated]) -> Option<&Stated>
-    ensures { option_copied result ≡ first_second (λ a b. same_key a.1 b.1 && not (same_route a.1 b.1)) [] stated.now }
-{
+    let mut firsts = BTreeMap::new(alloc);
     for i in 0..stated.len() {
         let route = &stated[i];
-        if has_twin(&stated[..i], route) {
-            return Some(route);
+        if !is_first_or_equal(&mut firsts, route.route())? {
+            return Ok(Some(route));
         }
     }
-    None
+    Ok(None)
 }
 
 fn refused(rule: u8, place: Place) -> Refused
@@ -157,23 +145,27 @@ fn least(device: Option<Place>, gateway: Option<Place>, twin: Option<Place>) -> 
     }
 }
 
-fn stated_broken(links: &[Link], stated: &[Stated]) -> Option<Refused>
-    ensures { result ≡ rules_over links.now stated.now }
+fn stated_broken(
+    alloc: Global,
+    devices: &Devices,
+    stated: &[Stated],
+) -> Result<Option<Refused>, AllocError>
+    ensures { IfOk result (λ broken. broken ≡ rules_over devices.now stated.now) }
 {
-    let device = at_route(first_down(links, stated));
-    let gateway = at_route(first_off_link(links, stated));
-    let twin = at_route(first_twin(stated));
-    least(device, gateway, twin)
+    let device = at_route(first_down(devices, stated));
+    let gateway = at_route(first_off_link(devices, stated));
+    let twin = at_route(first_twin(alloc, stated)?);
+    Ok(least(device, gateway, twin))
 }
 
 /// The least of the rules 18 to 20 that the stated routes break over these links, at its first entry.
 pub(crate) fn routes_broken(
     alloc: Global,
-    links: &[Link],
+    devices: &Devices,
     entries: &[RouteEntry],
 ) -> Result<Option<Refused>, AllocError>
-    ensures { IfOk result (λ broken. broken ≡ routes_broken links.now entries.now) }
+    ensures { IfOk result (λ broken. broken ≡ routes_broken devices.now entries.now) }
 {
     let stated = stated_at(alloc, entries)?;
-    Ok(stated_broken(links, &stated))
+    stated_broken(alloc, devices, &stated)
 }

@@ -3,8 +3,10 @@
 
 // Which routes and rules an entry speaks of, and which are one.
 mod matching;
-// Whether a route stands over links.
-mod standing;
+// Finding links by name, in whatever order they stand.
+mod devices;
+// Looking up stated routes by their keys and as a whole.
+mod keys;
 // The rules of the merge that are asked of stated routes.
 mod broken;
 // The merged routes.

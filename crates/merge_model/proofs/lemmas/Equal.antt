@@ -25,10 +25,12 @@ tie_equal Greater h = absurd cc
 pub one_rule : (a b : RuleParts) → same_rule a b ≡ true → a ≡ b
 one_rule a b h = exact_rules a b (tie_equal (rule_cmp a b) (sym (rules_tie a b) ∙ h))
 
-same_of : (a b : ℕ) → (a == b) ≡ true → a ≡ b
+-- numbers
+pub same_of : (a b : ℕ) → (a == b) ≡ true → a ≡ b
 same_of a b h = grind (arith, nat_tests)
 
-one_block : (a b : Block) → same_block a b ≡ true → a ≡ b
+-- subnets
+pub one_block : (a b : Block) → same_block a b ≡ true → a ≡ b
 one_block a b h = exact_blocks a b (tie_equal (block_cmp a b) (sym (blocks_tie a b) ∙ h))
 
 same_bit : (a b : Bool) → bool_eq a b ≡ true → a ≡ b

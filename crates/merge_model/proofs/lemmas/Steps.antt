@@ -11,7 +11,8 @@ use Rattle.net_model.specs.declared.Route.{Route}
 use Rattle.merge_model.specs.Routes.{same_route, once}
 use Rattle.merge_model.proofs.lemmas.Once.{once_rule, once_route}
 
-take_one : {X : Type 0} (xs : List X) (i : ℕ) (x : X) → i < length xs → x ≡ get_or xs i x → take (i + 1) xs ≡ take i xs ++ x ∷ []
+-- a further item comes last
+pub take_one : {X : Type 0} (xs : List X) (i : ℕ) (x : X) → i < length xs → x ≡ get_or xs i x → take (i + 1) xs ≡ take i xs ++ x ∷ []
 take_one xs i x lt is = rw add-one (take-suc xs i x lt ∙ ap (λ y. take i xs ++ y ∷ []) (sym is))
 
 filtered : {X Y : Type 0} (h : X → Option Y) (x : X) → filter_map h (x ∷ []) ≡ option_to_list (h x)
