@@ -24,3 +24,4 @@ pub mod Search
 pub mod Same
 pub mod SameLists
 pub mod InOrder
+pub mod Cycles

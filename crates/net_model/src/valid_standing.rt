@@ -1,14 +1,14 @@
 //! The part of validity that looks at which link stands on which.
-ghost use Rattle.std.specs.Prelude.{◌≡◌, ◌<◌, IfOk, length, map, slice_index_or};
-ghost use Rattle.net_model.specs.Words.{positions};
-ghost use Rattle.net_model.specs.Links.{is_named};
-ghost use Rattle.net_model.specs.Standing.{has_base, stands_on, on_cycle, no_cycle};
+ghost use Rattle.std.specs.Prelude.{◌≡◌, IfOk, map, true};
+ghost use Rattle.net_model.specs.Words.{positions, rises};
+ghost use Rattle.net_model.specs.Order.{link_cmp};
+ghost use Rattle.net_model.specs.Standing.{has_base, stands_on, no_cycle};
 
 use crate::link::{Kind, Link};
 use crate::lookup::is_port_of;
 use crate::name::Name;
 use base_model::{Items, OutOfMemory};
-use reach::closure;
+use reach::has_cycle;
 use std::alloc::{AllocError, Global};
 
 fn has_base(kind: &Kind, name: &Name) -> bool
@@ -51,38 +51,12 @@ fn arrows(alloc: Global, links: &[Link]) -> Result<Vec<Items<usize>>, AllocError
     Ok(arrows)
 }
 
-fn marks(alloc: Global, links: &[Link], name: &Name) -> Result<Vec<bool>, AllocError>
-    ensures { IfOk result (λ marks. marks.items ≡ map (is_named name.now) links.now) }
-{
-    links.iter().map(|link| link.name == *name).collect(alloc)
-}
-
-fn on_cycle(
-    alloc: Global,
-    links: &[Link],
-    arrows: &[Items<usize>],
-    at: usize,
-) -> Result<bool, OutOfMemory>
-    requires arrows { arrows.now ≡ map (λ l. positions (stands_on l) 0 links.now) links.now }
-    requires inside { at < length links.now }
-    ensures { IfOk result (λ on. (d : _) → on ≡ on_cycle links.now (slice_index_or links.now at d)) }
-{
-    let link = &links[at];
-    let starts = marks(alloc, links, &link.name)?;
-    let reached = closure(alloc, arrows, &starts)?;
-    Ok(reached[at])
-}
-
 /// Whether no link stands on itself, through any others: a VLAN stands on its base, and a controller on each of its
-/// ports.
+/// ports. The links are sorted by name.
 pub fn no_cycle(alloc: Global, links: &[Link]) -> Result<bool, OutOfMemory>
+    requires { rises link_cmp links.now ≡ true }
     ensures { IfOk result (λ none. none ≡ no_cycle links.now) }
 {
     let arrows = arrows(alloc, links)?;
-    for at in 0..links.len() {
-        if on_cycle(alloc, links, &arrows, at)? {
-            return Ok(false);
-        }
-    }
-    Ok(true)
+    Ok(!has_cycle(alloc, &arrows)?)
 }

@@ -1,10 +1,13 @@
 //! Which places of a graph are reachable.
 #![tactic(auto)]
 
+mod cycle;
+
 ghost use Rattle.std.specs.Prelude.{◌≡◌, ◌<◌, ℕ, length, get_or, IfOk, false};
 ghost use Rattle.reach.specs.Reach.{IsGraph, IsLeast, Grows, Passes, Steps, is_marked};
 
 use base_model::{Items, OutOfMemory};
+pub use cycle::has_cycle;
 use std::alloc::Global;
 
 // Marks the targets, and says whether one of them wasn't marked.

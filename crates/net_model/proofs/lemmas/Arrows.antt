@@ -100,3 +100,8 @@ one_place p (x ∷ xs) (suc k) d lt h = rw (one_place p xs k d (omega arith) h) 
 pub at_some : {X : Type 0} (xs : List X) (k : ℕ) → k < length xs → X
 at_some [] k lt = absurd (omega arith)
 at_some (x ∷ xs) k lt = x
+
+-- the places of those that each leads to are a graph
+pub rows_graph : {X : Type 0} (leads : X → X → Bool) (xs : List X) → IsGraph (map (λ x. positions (leads x) 0 xs) xs)
+rows_graph leads [] = λ i k lt below. absurd (omega arith)
+rows_graph leads (x ∷ xs) = rows-IsGraph leads (λ _. true) (x ∷ xs) x

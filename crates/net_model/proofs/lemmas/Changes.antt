@@ -1,18 +1,15 @@
 -- A change of each link.
-use Rattle.std.proofs.Common.{◌≡◌, ℕ, Bool, true, false, not, ◌&&◌, ◌||◌, List, map, Option, Some, None, refl, sym, ap, ◌∙◌}
+use Rattle.std.proofs.Common.{◌≡◌, ℕ, Bool, true, not, ◌&&◌, ◌||◌, List, map, Option, Some, None, refl, sym, ap, ◌∙◌}
 use Rattle.std.specs.Prelude.{option_map}
 use Rattle.std.specs.List.{list_all}
-use Rattle.net_model.specs.Name.{same_bytes}
 use Rattle.net_model.specs.Words.{is_among}
-use Rattle.net_model.specs.Links.{find_link, is_named}
+use Rattle.net_model.specs.Links.{find_link}
 use Rattle.net_model.specs.Options.{bond_ok, primary_ok, takes_primary, is_fast, is_802_3ad, delays_ok}
 use Rattle.net_model.specs.Valid.{names_differ}
 use Rattle.net_model.specs.declared.link.Link.{Link}
 use Rattle.net_model.specs.declared.options.BondMode.{BondMode}
 use Rattle.net_model.specs.declared.options.BondOpts.{BondOpts}
 use Rattle.net_model.proofs.lemmas.Truth.{and_left, and_right, and_both}
-use Rattle.net_model.proofs.lemmas.Found.{one_name}
-use Rattle.net_model.proofs.lemmas.Grounded.{found_named}
 use Rattle.net_model.proofs.lemmas.ByName.{all_map, all_found, by_name, some_same}
 use Rattle.net_model.proofs.lemmas.Maps.{find_map}
 

@@ -1,5 +1,5 @@
 -- The least closed marks are what is reached within as many steps as there are members.
-use Rattle.std.proofs.Common.{◌≡◌, ℕ, ◌+◌, ◌<◌, ◌≤◌, Bool, true, false, ◌||◌, ◌&&◌, List, [], ◌∷◌, length, get_or, zero, suc, refl, sym, ap, subst, ◌∙◌, arith}
+use Rattle.std.proofs.Common.{◌≡◌, ℕ, ◌<◌, Bool, true, false, ◌||◌, ◌&&◌, List, [], ◌∷◌, length, get_or, zero, suc, refl, sym, ap, ◌∙◌, arith}
 use Rattle.std.specs.List.{list_any}
 use Rattle.reach.specs.Reach.{is_reached, is_marked, IsClosed, IsGraph, IsLeast, Represents}
 use Rattle.reach.proofs.lemmas.Saturate.{AgreeOn, reached_all, and_left, and_right, and_both}
@@ -18,7 +18,8 @@ any_at p [] d i h here = absurd (omega arith)
 any_at p (x ∷ xs) d zero h here = rw here refl
 any_at p (x ∷ xs) d (suc i) h here = or_right (p x) (list_any p xs) (any_at p xs d i (omega arith) here)
 
-any_index : {X : Type 0} (p : X → Bool) (xs : List X) (d : X) → list_any p xs ≡ true → (i : ℕ) × (i < length xs) × (p (get_or xs i d) ≡ true)
+-- where one passes, there is a place of it
+pub any_index : {X : Type 0} (p : X → Bool) (xs : List X) (d : X) → list_any p xs ≡ true → (i : ℕ) × (i < length xs) × (p (get_or xs i d) ≡ true)
 any_index p [] d h = absurd cc
 any_index p (x ∷ xs) d h = elim (p x) as (λ v. p x ≡ v → (v || list_any p xs) ≡ true → (i : ℕ) × (i < suc (length xs)) × (p (get_or (x ∷ xs) i d) ≡ true)) [
   | true ↦ λ e _. (0, omega arith, e)

@@ -1,5 +1,5 @@
 -- As many steps as there are members reach all that any number of steps reaches.
-use Rattle.std.proofs.Common.{◌≡◌, ℕ, ◌+◌, ◌<◌, ◌≤◌, ◌⊎◌, Bool, true, false, ◌||◌, ◌&&◌, List, [], ◌∷◌, length, get_or, zero, suc, refl, sym, ap, ◌∙◌, inl, inr, arith}
+use Rattle.std.proofs.Common.{◌≡◌, ℕ, ◌+◌, ◌<◌, ◌≤◌, ◌⊎◌, Bool, true, false, ◌||◌, ◌&&◌, List, [], ◌∷◌, length, zero, suc, refl, inl, inr, arith}
 use Rattle.std.specs.List.{list_any}
 use Rattle.reach.specs.Reach.{is_reached}
 

@@ -1,5 +1,5 @@
 use Rattle.std.proofs.Common.{arith}
-use Rattle.reach.proofs.lemmas.Marks.{Marking, Marking-idle, Marking-set}
+use Rattle.reach.proofs.lemmas.Marks.{Marking-idle, Marking-set}
 use Rattle.reach.proofs.mark_all.Goals as goal
 use Rattle.reach.proofs.mark_all.Goals.{then-not-marks-target, else-not-marks-target}
 

@@ -1,6 +1,6 @@
-use Rattle.std.proofs.Common.{◌≡◌, Bool, subst}
+use Rattle.std.proofs.Common.{subst}
 use Rattle.reach.specs.Reach.{Steps}
-use Rattle.reach.proofs.lemmas.Marks.{Passing, Passing-grown, Passing-idle}
+use Rattle.reach.proofs.lemmas.Marks.{Passing-grown, Passing-idle}
 use Rattle.reach.proofs.pass.Goals as goal
 use Rattle.reach.proofs.pass.Goals.{then-step, else-step}
 

@@ -1,5 +1,5 @@
-use Rattle.std.proofs.Common.{◌≡◌, ◌||◌, true, refl, ℕ, ◌<◌, length, get_or, List, [], ap, ◌∙◌, sym, subst}
-use Rattle.reach.specs.Reach.{Grows, Steps, is_marked}
+use Rattle.std.proofs.Common.{◌≡◌, ◌||◌, true, refl, get_or, [], ◌∙◌, sym, subst}
+use Rattle.reach.specs.Reach.{Grows, is_marked}
 use Rattle.reach.proofs.lemmas.Marks.{Steps-marked, any_default}
 use Rattle.reach.proofs.step.Goals as goal
 use Rattle.reach.proofs.step.Goals.{then-starts-i, else-starts-i}

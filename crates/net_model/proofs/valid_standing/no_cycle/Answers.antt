@@ -1,12 +1,12 @@
-use Rattle.std.proofs.Common.{sym, ◌∙◌, arith}
-use Rattle.net_model.specs.Standing.{on_cycle}
-use Rattle.net_model.proofs.lemmas.Arrows.{all_places, one_place, at_some}
+use Rattle.std.proofs.Common.{◌∙◌, sym, subst}
+use Rattle.reach.specs.Reach.{IsGraph}
+use Rattle.net_model.specs.Standing.{stands_on}
+use Rattle.net_model.proofs.lemmas.Arrows.{rows_graph}
+use Rattle.net_model.proofs.lemmas.Cycles.{decided_links}
 use Rattle.net_model.proofs.valid_standing.no_cycle.Goals as goal
 
-pub returns-then-branch : goal.returns-then-branch
-returns-then-branch c =
-    let d = at_some c.args.links.now c.loop-at.at (omega (arith, c.loop-at-test.true)) in
-    sym (one_place (on_cycle c.args.links.now) c.args.links.now c.loop-at.at d (omega (arith, c.loop-at-test.true)) (sym (c.in_ok-on_cycle.ensures d) ∙ c.if-branch.true))
+pub has_cycle-requires : goal.has_cycle-requires
+has_cycle-requires c = subst IsGraph (sym (c.deref.ensures.value ∙ c.in_ok-arrows.ensures)) (rows_graph stands_on c.args.links.now)
 
 pub returns : goal.returns
-returns c = sym (all_places (on_cycle c.args.links.now) c.args.links.now (λ k d lt. c.loop-at.invariant k d (omega (arith, lt))))
+returns c = decided_links c.args.links.now c.requires c.in_ok-has_cycle.field-0 c.deref.result.now (c.deref.ensures.value ∙ c.in_ok-arrows.ensures) c.in_ok-has_cycle.ensures
