@@ -8,3 +8,4 @@ pub mod Taking
 pub mod InPlace
 pub mod Searched
 pub mod Carried
+pub mod MtuLaw

@@ -1,3 +1,2 @@
-pub mod MtuLaw
-pub mod OneLink
-pub mod RuleGap
+pub mod Searching
+pub mod Accepted

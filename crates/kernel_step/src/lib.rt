@@ -1,10 +1,18 @@
-//! What the kernel does to a network.
+//! The kernel's calls on a network, carried out in place.
 #![tactic(auto)]
 
-mod one_link;
-mod rules;
+// Addresses that come and go.
+mod addresses;
+// Places in lists that rise.
+mod places;
+// The refusals of calls on addresses, routes, rules and DNS.
+mod refuse;
+// Rules and DNS.
+mod rest;
+// Routes: what is on-link, and routes that come and go.
+mod routes;
+// One call on a network.
 mod stepping;
 
-pub use one_link::set_mac;
-pub use rules::add_rule;
-pub use stepping::{StepFault, step};
+pub use kernel_model::StepFault;
+pub use stepping::step;

@@ -26,5 +26,5 @@ mod refuse_port;
 // One call on links.
 mod step;
 
-pub use lookup::place_of;
+pub use lookup::{find_link, place_of};
 pub use step::step_link;

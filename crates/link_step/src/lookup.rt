@@ -19,8 +19,8 @@ pub fn place_of(links: &[Link], name: &Name) -> Option<usize>
     }
 }
 
-// The link of this name, by binary search.
-pub(crate) fn find_link<'a>(links: &'a [Link], name: &Name) -> Option<&'a Link>
+/// The link of this name, or `None` where no link has it, by binary search.
+pub fn find_link<'a>(links: &'a [Link], name: &Name) -> Option<&'a Link>
     requires { rises link_cmp links.now ≡ true }
     ensures { option_copied result ≡ find_link name.now links.now }
 {

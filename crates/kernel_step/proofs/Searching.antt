@@ -1,0 +1,39 @@
+-- What a binary search tells of a list that rises, by the test of what is the same.
+use Rattle.std.proofs.Common.{◌≡◌, ℕ, ◌<◌, ◌≤◌, Bool, true, false, List, length, get_or, Ordering, Less, Equal, Greater, sym, ◌∙◌, arith}
+use Rattle.std.specs.Prelude.{Ok, Err, insert}
+use Rattle.std.specs.List.{list_any}
+use Rattle.std.specs.Ordering.{is_eq}
+use Rattle.net_model.specs.Address.{Block}
+use Rattle.net_model.specs.Rule.{RuleParts}
+use Rattle.net_model.specs.Words.{put}
+use Rattle.net_model.specs.Order.{block_cmp, route_cmp, rule_cmp}
+use Rattle.net_model.specs.OrderLaws.{block_cmp_total, rule_cmp_total}
+use Rattle.net_model.specs.Valid.{same_block, same_key, same_rule}
+use Rattle.net_model.specs.declared.route.Route.{Route}
+use Rattle.net_model.proofs.lemmas.Orders.{route_cmp_total}
+use Rattle.net_model.proofs.lemmas.Ties.{blocks_tie, keys_tie, rules_tie}
+use Rattle.kernel_laws.proofs.lemmas.InPlace.{insert_is_put}
+use Rattle.kernel_laws.proofs.lemmas.Searched.{met, missed, tied_both}
+use Rattle.kernel_step.specs.Searches.{Searches}
+
+module _ {X : Type 0} (R : X → X → Ordering) (same : X → X → Bool) (tie : (x y : X) → same x y ≡ is_eq (R y x)) (x : X) (xs : List X) where
+  pub met_any : (i : ℕ) → Searches R x xs (Ok i) → list_any (same x) xs ≡ true
+  met_any i s = met (λ y. R y x) (same x) (tie x) xs i x s.0 (s.1 x)
+
+  pub missed_any : (i : ℕ) → Searches R x xs (Err i) → list_any (same x) xs ≡ false
+  missed_any i s = missed (λ y. R y x) (same x) (tie x) xs i s.1
+
+  pub met_puts : (i : ℕ) → Searches R x xs (Ok i) → list_any (same x) xs ≡ false → insert xs i x ≡ put R x xs
+  met_puts i s none = let no : true ≡ false = sym (met_any i s) ∙ none in absurd cc
+
+  pub missed_puts : (i : ℕ) → Searches R x xs (Err i) → insert xs i x ≡ put R x xs
+  missed_puts i s = insert_is_put R x xs i s.0 (λ k d lt. s.1.0 k d (omega (arith, s.0, lt)) lt) (λ k d above lt. s.1.1 k d above lt)
+
+pub address_tie : (a b : Block) → same_block a b ≡ is_eq (block_cmp b a)
+address_tie a b = blocks_tie a b ∙ tied_both block_cmp block_cmp_total a b
+
+pub key_tie : (a b : Route) → same_key a b ≡ is_eq (route_cmp b a)
+key_tie a b = keys_tie a b ∙ tied_both route_cmp route_cmp_total a b
+
+pub rule_tie : (a b : RuleParts) → same_rule a b ≡ is_eq (rule_cmp b a)
+rule_tie a b = rules_tie a b ∙ tied_both rule_cmp rule_cmp_total a b

@@ -1,0 +1,97 @@
+//! Places in lists that rise, by binary search.
+ghost use Rattle.std.specs.Prelude.{◌≡◌, ◌≤◌, true, false, length, insert};
+ghost use Rattle.std.specs.List.{list_any};
+ghost use Rattle.net_model.specs.Words.{rises, put};
+ghost use Rattle.net_model.specs.Order.{block_cmp, route_cmp, rule_cmp};
+ghost use Rattle.net_model.specs.Valid.{same_block, same_key, same_rule};
+ghost use Rattle.kernel_step.specs.Searches.{Searches};
+
+use net_model::{Prefix, Route, Rule};
+
+fn search_addresses(addrs: &[Prefix], addr: &Prefix) -> Result<usize, usize>
+    requires { rises block_cmp addrs.now ≡ true }
+    ensures { Searches block_cmp addr.now addrs.now result }
+{
+    match addrs.binary_search(addr) {
+        Ok(i) => Ok(i),
+        Err(i) => Err(i),
+    }
+}
+
+fn search_routes(routes: &[Route], route: &Route) -> Result<usize, usize>
+    requires { rises route_cmp routes.now ≡ true }
+    ensures { Searches route_cmp route.now routes.now result }
+{
+    let key = (route.dest, route.table, route.metric);
+    match routes.binary_search_by_key(&key, |route| (route.dest, route.table, route.metric)) {
+        Ok(i) => Ok(i),
+        Err(i) => Err(i),
+    }
+}
+
+fn search_rules(rules: &[Rule], rule: &Rule) -> Result<usize, usize>
+    requires { rises rule_cmp rules.now ≡ true }
+    ensures { Searches rule_cmp rule.now rules.now result }
+{
+    match rules.binary_search(rule) {
+        Ok(i) => Ok(i),
+        Err(i) => Err(i),
+    }
+}
+
+// Whether a route of this destination, table and metric is there.
+pub(crate) fn has_key(routes: &[Route], route: &Route) -> bool
+    requires { rises route_cmp routes.now ≡ true }
+    ensures { result ≡ list_any (same_key route.now) routes.now }
+{
+    match search_routes(routes, route) {
+        Ok(_) => true,
+        Err(_) => false,
+    }
+}
+
+pub(crate) fn has_rule(rules: &[Rule], rule: &Rule) -> bool
+    requires { rises rule_cmp rules.now ≡ true }
+    ensures { result ≡ list_any (same_rule rule.now) rules.now }
+{
+    match search_rules(rules, rule) {
+        Ok(_) => true,
+        Err(_) => false,
+    }
+}
+
+// Where an address belongs that isn't there.
+pub(crate) fn address_gap(addrs: &[Prefix], addr: &Prefix) -> usize
+    requires { rises block_cmp addrs.now ≡ true }
+    ensures inside { result ≤ length addrs.now }
+    ensures puts { list_any (same_block addr.now) addrs.now ≡ false → insert addrs.now result addr.now ≡ put block_cmp addr.now addrs.now }
+{
+    match search_addresses(addrs, addr) {
+        Ok(i) => i,
+        Err(i) => i,
+    }
+}
+
+// Where a route belongs whose key isn't there.
+pub(crate) fn route_gap(routes: &[Route], route: &Route) -> usize
+    requires { rises route_cmp routes.now ≡ true }
+    ensures inside { result ≤ length routes.now }
+    ensures puts { list_any (same_key route.now) routes.now ≡ false → insert routes.now result route.now ≡ put route_cmp route.now routes.now }
+{
+    match search_routes(routes, route) {
+        Ok(i) => i,
+        Err(i) => i,
+    }
+}
+
+// Where a rule belongs that isn't there.
+pub(crate) fn rule_gap(rules: &[Rule], rule: &Rule) -> usize
+    requires { rises rule_cmp rules.now ≡ true }
+    ensures inside { result ≤ length rules.now }
+    ensures puts { list_any (same_rule rule.now) rules.now ≡ false → insert rules.now result rule.now ≡ put rule_cmp rule.now rules.now }
+{
+    match search_rules(rules, rule) {
+        Ok(i) => i,
+        Err(i) => i,
+    }
+}

@@ -1,0 +1,64 @@
+//! Rules and DNS.
+ghost use Rattle.std.specs.Prelude.{◌≡◌, ◌≤◌, true, false, not, filter, insert, length, IfOk, OnOk, OnErr};
+ghost use Rattle.std.specs.List.{list_any};
+ghost use Rattle.net_model.specs.Words.{rises};
+ghost use Rattle.net_model.specs.Order.{rule_cmp};
+ghost use Rattle.net_model.specs.Valid.{same_rule};
+ghost use Rattle.kernel_model.specs.Rest.{after_add_rule, after_del_rule, after_set_dns};
+
+use crate::places::rule_gap;
+use net_model::{Dns, OutOfMemory, Parts, Rule};
+use std::alloc::AllocError;
+
+fn insert_rule(parts: &mut Parts, i: usize, rule: Rule) -> Result<(), OutOfMemory>
+    requires { i ≤ length parts.old.rules }
+    ensures ok { OnOk result (parts.new ≡ record parts.old { rules = insert parts.old.rules i rule }) }
+    ensures err { OnErr result (parts.new ≡ parts.old) }
+{
+    parts.rules.insert(i, rule)?;
+    Ok(())
+}
+
+// Adds a rule that isn't there.
+pub(crate) fn add_rule(parts: &mut Parts, rule: &Rule) -> Result<(), OutOfMemory>
+    requires in_order { rises rule_cmp parts.old.rules ≡ true }
+    requires new { list_any (same_rule rule.now) parts.old.rules ≡ false }
+    ensures ok { OnOk result (parts.new ≡ after_add_rule rule.now parts.old) }
+    ensures err { OnErr result (parts.new ≡ parts.old) }
+{
+    let i = rule_gap(&parts.rules, rule);
+    insert_rule(parts, i, *rule)
+}
+
+fn same_rule(a: &Rule, b: &Rule) -> bool
+    ensures { result ≡ same_rule a.now b.now }
+{
+    a == b
+}
+
+fn keep_rules(rules: &mut Vec<Rule>, rule: &Rule)
+    ensures { rules.new.items ≡ filter (λ r. not (same_rule rule.now r)) rules.old.items }
+{
+    rules.retain(|own| !same_rule(rule, own));
+}
+
+pub(crate) fn del_rule(parts: &mut Parts, rule: &Rule)
+    ensures { parts.new ≡ after_del_rule rule.now parts.old }
+{
+    keep_rules(&mut parts.rules, rule);
+}
+
+fn copy_dns(dns: &Dns) -> Result<Dns, AllocError>
+    ensures { IfOk result (λ copy. copy ≡ dns.now) }
+{
+    dns.clone()
+}
+
+// Replaces both lists. The copy is made first.
+pub(crate) fn set_dns(parts: &mut Parts, dns: &Dns) -> Result<(), OutOfMemory>
+    ensures ok { OnOk result (parts.new ≡ after_set_dns dns.now parts.old) }
+    ensures err { OnErr result (parts.new ≡ parts.old) }
+{
+    parts.dns = copy_dns(dns)?;
+    Ok(())
+}
