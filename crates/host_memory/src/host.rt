@@ -266,7 +266,7 @@ impl Host for MemoryHost {
                 self.last_call = self.calls;
                 Err(CallFault::Refused(number))
             }
-            Err(StepFault::NotYet | StepFault::OutOfMemory) => Err(CallFault::OutOfMemory),
+            Err(StepFault::OutOfMemory) => Err(CallFault::OutOfMemory),
         }
     }
 

@@ -8,4 +8,3 @@ pub mod Taking
 pub mod InPlace
 pub mod Searched
 pub mod Carried
-pub mod MtuLaw
