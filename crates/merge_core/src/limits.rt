@@ -13,7 +13,7 @@ use net_model::{
     MAX_SERVERS, Route, Rule,
 };
 
-/// The number of the rule on limits.
+// The number of the rule on limits.
 const LIMITS: u8 = 21;
 
 fn above(most: usize, count: usize) -> Option<Place>
@@ -106,7 +106,7 @@ fn or_later(which: u8, place: Option<Place>, later: Option<Refused>) -> Option<R
     }
 }
 
-/// The first limit that these lists pass, and where.
+// The first limit that these lists pass, and where.
 pub(crate) fn limit_passed(
     links: &[Link],
     routes: &[Route],

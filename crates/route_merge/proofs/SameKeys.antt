@@ -1,5 +1,5 @@
 -- Looking up routes by their keys and as a whole.
-use Rattle.std.proofs.Common.{◌≡◌, ℕ, Bool, true, false, not, ◌&&◌, ◌||◌, ◌==◌, cond, List, [], ◌∷◌, ◌++◌, Ordering, Option, Some, None, refl, sym, ap, subst, ◌∙◌}
+use Rattle.std.proofs.Common.{◌≡◌, ℕ, Bool, true, false, not, ◌&&◌, ◌==◌, cond, List, [], ◌∷◌, ◌++◌, Ordering, Option, Some, None, refl, sym, ap, subst, ◌∙◌}
 use Rattle.std.specs.List.{list_any}
 use Rattle.std.specs.Option.{option_eq, option_cmp, option_map_or}
 use Rattle.std.specs.Ordering.{is_eq, nat_cmp, ordering_then}
@@ -8,7 +8,7 @@ use Rattle.std.specs.Cmp.Lexicographic.{texts_ties}
 use Rattle.std.specs.BTreeMap.{BTreeMap, get, Updates as MapUpdates}
 use Rattle.std.specs.BTreeSet.{BTreeSet, contains, Updates}
 use Rattle.net_model.specs.Name.{same_bytes}
-use Rattle.net_model.specs.Address.{Address, Block}
+use Rattle.net_model.specs.Address.{Block}
 use Rattle.net_model.specs.Words.{bool_eq}
 use Rattle.net_model.specs.Order.{name_cmp, address_cmp, block_cmp}
 use Rattle.net_model.specs.Valid.{same_address, same_block, same_key}
@@ -39,9 +39,9 @@ routes_tied a b =
     let devices : Bool = same_bytes a.dev b.dev in
     five (same_block a.dest b.dest) (a.table == b.table) (a.metric == b.metric) gateways devices
     ∙ both_tied (same_block a.dest b.dest) ((a.table == b.table) && ((a.metric == b.metric) && (gateways && devices))) (block_cmp a.dest b.dest) (ordering_then (nat_cmp a.table b.table) (ordering_then (nat_cmp a.metric b.metric) (ordering_then (option_cmp address_cmp a.gateway b.gateway) (name_cmp a.dev b.dev)))) (blocks_tie a.dest b.dest)
-      (both_tied (a.table == b.table) ((a.metric == b.metric) && (gateways && devices)) (nat_cmp a.table b.table) (ordering_then (nat_cmp a.metric b.metric) (ordering_then (option_cmp address_cmp a.gateway b.gateway) (name_cmp a.dev b.dev))) (unsigned_ties a.table b.table)
-       (both_tied (a.metric == b.metric) (gateways && devices) (nat_cmp a.metric b.metric) (ordering_then (option_cmp address_cmp a.gateway b.gateway) (name_cmp a.dev b.dev)) (unsigned_ties a.metric b.metric)
-        (both_tied gateways devices (option_cmp address_cmp a.gateway b.gateway) (name_cmp a.dev b.dev) (options_tie same_address address_cmp addresses_tie a.gateway b.gateway) (texts_ties a.dev b.dev))))
+    (both_tied (a.table == b.table) ((a.metric == b.metric) && (gateways && devices)) (nat_cmp a.table b.table) (ordering_then (nat_cmp a.metric b.metric) (ordering_then (option_cmp address_cmp a.gateway b.gateway) (name_cmp a.dev b.dev))) (unsigned_ties a.table b.table)
+    (both_tied (a.metric == b.metric) (gateways && devices) (nat_cmp a.metric b.metric) (ordering_then (option_cmp address_cmp a.gateway b.gateway) (name_cmp a.dev b.dev)) (unsigned_ties a.metric b.metric)
+    (both_tied gateways devices (option_cmp address_cmp a.gateway b.gateway) (name_cmp a.dev b.dev) (options_tie same_address address_cmp addresses_tie a.gateway b.gateway) (texts_ties a.dev b.dev))))
 
 one_key : (a b : Route) → same_key a b ≡ true → key_of a ≡ key_of b
 one_key a b h =

@@ -1,5 +1,5 @@
--- What is looked up of stated routes.
-use Rattle.std.specs.Prelude.{◌≡◌, ℕ, Bool, false, not, ◌&&◌, List}
+-- Sets of routes and of their keys.
+use Rattle.std.specs.Prelude.{◌≡◌, ℕ, false, not, ◌&&◌, List}
 use Rattle.std.specs.List.{list_any}
 use Rattle.std.specs.Option.{option_map_or, option_cmp}
 use Rattle.std.specs.Ordering.{nat_cmp, ordering_then}

@@ -1,4 +1,4 @@
-//! The rules 18 to 20 of the merge, which are asked of the stated routes.
+//! Rules 18 to 20 of the merge, which look at the stated routes.
 ghost use Rattle.std.specs.Prelude.{◌≡◌, ◌&&◌, ◌++◌, ◌∷◌, not, [], find, IfOk, OnOk, option_copied};
 ghost use Rattle.std.specs.Option.{option_map, option_to_list};
 ghost use Rattle.net_model.specs.Links.{named_passes};
@@ -18,14 +18,14 @@ use std::alloc::{AllocError, Global};
 use std::collections::BTreeMap;
 use std::marker::Model;
 
-/// The number of the rule that a stated route's device is there and up.
+// The number of the rule that the device of a stated route is there and up.
 const ROUTE_DEVICE: u8 = 18;
-/// The number of the rule that a stated route's gateway is on-link.
+// The number of the rule that the gateway of a stated route is on-link.
 const ROUTE_GATEWAY: u8 = 19;
-/// The number of the rule that stated routes of one key are equal.
+// The number of the rule that stated routes of one key are equal.
 const ROUTE_TWIN: u8 = 20;
 
-/// A stated route and the position of its entry.
+// A stated route and the position of its entry.
 #[derive(Debug, Drop)]
 struct Stated {
     at: u32,
@@ -133,7 +133,7 @@ fn refused(rule: u8, place: Place) -> Refused
     }
 }
 
-// The least rule that has a place.
+// The refusal for the first rule that has a place.
 fn least(device: Option<Place>, gateway: Option<Place>, twin: Option<Place>) -> Option<Refused>
     ensures { result ≡ first_of at_rule ((18, device) ∷ (19, gateway) ∷ (20, twin) ∷ []) }
 {
@@ -158,7 +158,7 @@ fn stated_broken(
     Ok(least(device, gateway, twin))
 }
 
-/// The least of the rules 18 to 20 that the stated routes break over these links, at its first entry.
+// The first of rules 18 to 20 that the stated routes break over these links, at its first entry.
 pub(crate) fn routes_broken(
     alloc: Global,
     devices: &Devices,

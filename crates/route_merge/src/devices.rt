@@ -1,4 +1,4 @@
-//! Finding links by name, in whatever order they stand.
+//! Links with an index by name.
 ghost use Rattle.std.specs.Prelude.{◌≡◌, true, option_copied, IfOk};
 ghost use Rattle.net_model.specs.Links.{find_link, named_passes};
 ghost use Rattle.net_model.specs.Valid.{names_differ, route_stands};
@@ -8,7 +8,7 @@ use std::alloc::{AllocError, Global};
 use std::collections::BTreeMap;
 use std::marker::Model;
 
-/// Links with an index by name.
+// Links with an index by name.
 #[derive(Debug, Drop)]
 pub(crate) struct Devices<'a> {
     links: &'a [Link],
@@ -51,7 +51,7 @@ impl<'a> Devices<'a> {
         }
     }
 
-    /// Whether a link of this name is there and up.
+    // Whether a link of this name is there and up.
     #[tactic(auto, using(crate::proofs::ByName::found_passes))]
     pub(crate) fn is_up(&self, name: &Name) -> bool
         ensures { result ≡ named_passes (λ l. l.up) self.now name.now }
@@ -59,11 +59,12 @@ impl<'a> Devices<'a> {
         self.find(name).is_some_and(|link| link.up)
     }
 
-    /// Whether the route's device is there and up, and its gateway on-link at it.
+    // Whether the route's device is there and up, and its gateway on-link there.
     #[tactic(auto, using(crate::proofs::ByName::found_passes))]
     pub(crate) fn stands(&self, route: &Route) -> bool
         ensures { result ≡ route_stands self.now route.now }
     {
-        self.find(&route.dev).is_some_and(|link| link.up && route_on_link(link, route))
+        self.find(&route.dev)
+            .is_some_and(|link| link.up && route_on_link(link, route))
     }
 }

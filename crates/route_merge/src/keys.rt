@@ -1,4 +1,4 @@
-//! Looking up stated routes by their keys and as a whole.
+//! Sets of routes and of their keys.
 ghost use Rattle.std.specs.Prelude.{◌≡◌, ℕ, List, ◌++◌, ◌∷◌, [], true, not, IfOk, OnOk};
 ghost use Rattle.std.specs.List.{list_any};
 ghost use Rattle.std.specs.Option.{option_map_or};
@@ -21,8 +21,11 @@ fn key_of(route: &Route) -> (Subnet, TableId, u32)
     (route.dest, route.table, route.metric)
 }
 
-/// The keys of the routes.
-pub(crate) fn keys_of(alloc: Global, routes: &[Route]) -> Result<BTreeSet<(Subnet, TableId, u32)>, AllocError>
+// The keys of the routes.
+pub(crate) fn keys_of(
+    alloc: Global,
+    routes: &[Route],
+) -> Result<BTreeSet<(Subnet, TableId, u32)>, AllocError>
     ensures { IfOk result (λ keys. HasKeys keys routes.now) }
 {
     let mut keys = BTreeSet::new(alloc);
@@ -32,14 +35,14 @@ pub(crate) fn keys_of(alloc: Global, routes: &[Route]) -> Result<BTreeSet<(Subne
     Ok(keys)
 }
 
-/// Whether one of these routes, of which the set has the keys, has the key of the route.
+// Whether one of these routes, of which the set has the keys, has the key of the route.
 pub(crate) fn has_key(keys: &BTreeSet<(Subnet, TableId, u32)>, route: &Route) -> bool
     ensures { (routes : List Route) → HasKeys keys.now routes → result ≡ list_any (same_key route.now) routes }
 {
     keys.contains(&key_of(route))
 }
 
-/// A route as an item of a set.
+// A route as an item of a set.
 #[derive(Clone, Copy, Debug, PartialEq, Eq, PartialOrd, Ord)]
 pub(crate) struct Whole {
     route: Route,
@@ -55,7 +58,7 @@ impl Model for Whole {
     ghost inverse = { λ r. record { route = r } };
 }
 
-/// Puts a route into the set, and says whether it is new there.
+// Puts a route into the set, and says whether it is new there.
 pub(crate) fn is_new(seen: &mut BTreeSet<Whole>, route: &Route) -> Result<bool, AllocError>
     ensures new { IfOk result (λ new. new ≡ not (contains whole_cmp seen.old route.now)) }
     ensures updates { OnOk result (Updates whole_cmp seen.old seen.new route.now true) }
@@ -64,8 +67,11 @@ pub(crate) fn is_new(seen: &mut BTreeSet<Whole>, route: &Route) -> Result<bool, 
     Ok(new)
 }
 
-/// Whether the route equals the first one of its key. Where there is none, the route becomes that one.
-pub(crate) fn is_first_or_equal(firsts: &mut BTreeMap<(Subnet, TableId, u32), Route>, route: &Route) -> Result<bool, AllocError>
+// Whether the route equals the first one of its key. Where there is none, the route becomes that one.
+pub(crate) fn is_first_or_equal(
+    firsts: &mut BTreeMap<(Subnet, TableId, u32), Route>,
+    route: &Route,
+) -> Result<bool, AllocError>
     ensures equal { IfOk result (λ equal. equal ≡ option_map_or (λ f. same_route f route.now) (get key_cmp firsts.old (key_of route.now)) true) }
     ensures firsts { IfOk result (λ equal. equal ≡ true → (seen : List (ℕ × Route)) (at : ℕ) → HasFirsts firsts.old seen → HasFirsts firsts.new (seen ++ (at, route.now) ∷ [])) }
 {

@@ -1,23 +1,23 @@
-//! The merge of routes, rules and DNS, over links that are merged.
+//! The merge of routes, rules and DNS, over merged links.
 #![tactic(auto)]
 
-// Which routes and rules an entry speaks of, and which are one.
+// Which routes and rules an entry matches, and which routes are the same.
 mod matching;
-// Finding links by name, in whatever order they stand.
+// Links with an index by name.
 mod devices;
-// Looking up stated routes by their keys and as a whole.
+// Sets of routes and of their keys.
 mod keys;
-// The rules of the merge that are asked of stated routes.
+// The rules of the merge that look at stated routes.
 mod broken;
 // The merged routes.
 mod routes;
-// Rules that are taken one after another.
+// Merged rules with an index, and the numbers of those without a priority.
 mod taken;
-// The merged rules and their numbers.
+// The merged rules.
 mod rules;
 // The merged settings of DNS.
 mod resolver;
-// All of it together.
+// All of these together.
 mod rest;
 
 pub use rest::{Rest, merge_rest};

@@ -1,4 +1,4 @@
-//! Rules that are taken one after another.
+//! Merged rules with an index, and the numbers of those without a priority.
 ghost use Rattle.std.specs.Prelude.{◌≡◌, ◌++◌, ◌∷◌, [], if◌then◌else◌, length, IfOk, IfSome};
 ghost use Rattle.std.specs.List.{list_any};
 ghost use Rattle.net_model.specs.Valid.{same_body, same_rule};
@@ -10,10 +10,10 @@ use std::alloc::{AllocError, Global};
 use std::collections::BTreeSet;
 use std::marker::Model;
 
-/// Where the numbers of rules without a priority begin.
+// Where the numbers of rules without a priority begin.
 const FIRST_NUMBER: u32 = 30000;
 
-/// Rules in the order in which they were taken, with an index of what is looked for among them.
+// Rules in the order in which they were taken, with an index.
 #[derive(Debug, Drop)]
 pub(crate) struct Taken {
     rules: Vec<Rule>,
@@ -21,7 +21,7 @@ pub(crate) struct Taken {
     // The rules, each with the priority 0.
     bodies: BTreeSet<Rule>,
     numbers: BTreeSet<u32>,
-    // All numbers from the first one up to this one are taken.
+    // All numbers from the first one up to this are taken.
     next: u32,
 }
 
@@ -94,7 +94,7 @@ impl Taken {
         })
     }
 
-    /// Takes a rule, unless an equal one is there.
+    // Takes a rule, unless an equal one was taken.
     pub(crate) fn add(self, rule: &Rule) -> Result<Taken, AllocError>
         ensures { IfOk result (λ taken. taken ≡ (if list_any (λ t. same_rule t rule.now) self then self else self ++ rule.now ∷ [])) }
     {
@@ -105,7 +105,7 @@ impl Taken {
         }
     }
 
-    // The least number from 30000 on that no rule has, or none where all numbers are taken.
+    // The least number from 30000 on that no rule has, or none where all are taken.
     fn free_number(&mut self) -> Option<u32>
         ensures stays { self.new ≡ self.old }
         ensures number { IfSome result (λ number. number ≡ free_from self.old (length self.old) 30000) }
@@ -118,8 +118,8 @@ impl Taken {
         Some(number)
     }
 
-    /// Takes a rule without a priority, unless its body was taken; it gets the least free number. Where all numbers are
-    /// taken there is no memory for it.
+    // Takes a rule without a priority, unless one that equals it in all but the priority was taken. It gets the least free
+    // number; where none is free, there is no memory for it.
     pub(crate) fn take_unnumbered(mut self, rule: &Rule) -> Result<Taken, AllocError>
         ensures { IfOk result (λ taken. taken ≡ take_unnumbered self rule.now) }
     {

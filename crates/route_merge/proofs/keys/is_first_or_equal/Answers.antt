@@ -1,4 +1,4 @@
-use Rattle.std.proofs.Common.{◌≡◌, Some, None, sym, ap, ◌∙◌}
+use Rattle.std.proofs.Common.{◌≡◌, Some, sym, ap, ◌∙◌}
 use Rattle.std.specs.BTreeMap.{get}
 use Rattle.route_merge.specs.Keys.{key_of, key_cmp}
 use Rattle.route_merge.proofs.SameKeys.{one_equal_more, one_first_more}

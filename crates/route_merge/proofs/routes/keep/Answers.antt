@@ -1,4 +1,4 @@
-use Rattle.std.proofs.Common.{Bool, true, false, not, sym, ◌∙◌}
+use Rattle.std.proofs.Common.{sym, ◌∙◌}
 use Rattle.route_merge.proofs.SameKeys.{one_route_more, same_route_more, not_new}
 use Rattle.route_merge.proofs.routes.keep.Goals as goal
 
