@@ -1,0 +1,85 @@
+//! A whole document.
+ghost use Rattle.std.specs.Prelude.{◌≡◌, ◌&&◌, true, IfOk};
+ghost use Rattle.std.specs.List.{list_all};
+ghost use Rattle.doc_tree.specs.Shape.{shape};
+ghost use Rattle.base_model.specs.Lists.{is_short};
+ghost use Rattle.document_model.specs.Entries.{is_document, is_route_entry, is_rule_entry, passes, has_short_dns, has_short_doc, are_read_links};
+ghost use Rattle.tree_schema.specs.Reached.{Answers};
+ghost use Rattle.tree_schema.specs.Faults.{Tells};
+ghost use Rattle.route_schema.specs.Document.{routes_under, rules_under, dns_under, document, doc};
+
+use crate::dns::DnsSection;
+use crate::draft::Parts;
+use crate::routes::RouteSection;
+use crate::rules::RuleSection;
+use doc_tree::Tree;
+use document_model::{DnsEntry, Doc, LinkEntry, RouteEntry, RuleEntry};
+use link_schema::read_links;
+use net_model::Items;
+use std::alloc::Global;
+use tree_schema::{Reader, SchemaFault, Stop, fault_of, read_under};
+
+fn read_routes(reader: &mut Reader, tree: &Tree) -> Result<Items<RouteEntry>, Stop>
+    ensures read { Answers (routes_under (shape tree.now)) reader.old reader.new result }
+    ensures right { IfOk result (λ routes. is_short routes && list_all is_route_entry routes ≡ true) }
+{
+    let none = Items::of(Vec::new(reader.alloc()));
+    read_under(&RouteSection, "routes", none, reader, tree)
+}
+
+fn read_rules(reader: &mut Reader, tree: &Tree) -> Result<Items<RuleEntry>, Stop>
+    ensures read { Answers (rules_under (shape tree.now)) reader.old reader.new result }
+    ensures right { IfOk result (λ rules. is_short rules && list_all is_rule_entry rules ≡ true) }
+{
+    let none = Items::of(Vec::new(reader.alloc()));
+    read_under(&RuleSection, "route-rules", none, reader, tree)
+}
+
+fn read_dns(reader: &mut Reader, tree: &Tree) -> Result<Option<DnsEntry>, Stop>
+    ensures read { Answers (dns_under (shape tree.now)) reader.old reader.new result }
+    ensures right { IfOk result (λ dns. passes has_short_dns dns ≡ true) }
+{
+    read_under(&DnsSection, "dns-resolver", None, reader, tree)
+}
+
+fn read_parts(reader: &mut Reader, tree: &Tree) -> Result<Parts, Stop>
+    ensures read { Answers (document (shape tree.now)) reader.old reader.new result }
+    ensures right_links { IfOk result (λ p. are_read_links p.links ≡ true) }
+    ensures right_routes { IfOk result (λ p. is_short p.routes && list_all is_route_entry p.routes ≡ true) }
+    ensures right_rules { IfOk result (λ p. is_short p.rules && list_all is_rule_entry p.rules ≡ true) }
+    ensures right_dns { IfOk result (λ p. passes has_short_dns p.dns ≡ true) }
+{
+    let links = read_links(reader, tree)?;
+    let routes = read_routes(reader, tree)?;
+    let rules = read_rules(reader, tree)?;
+    let dns = read_dns(reader, tree)?;
+    Ok(Parts {
+        links,
+        routes,
+        rules,
+        dns,
+    })
+}
+
+/// The document of a tree: each entry with what it states and the places of what was read over, or the first refusal with
+/// its place. The top keys and the interfaces come first, then the routes, the rules and DNS.
+pub fn doc_of(alloc: Global, tree: &Tree) -> Result<Doc, SchemaFault>
+    ensures read { Tells doc (document (shape tree.now)) result }
+    ensures right { IfOk result (λ d. is_document d ≡ true) }
+    ensures short { IfOk result (λ d. has_short_doc d ≡ true) }
+{
+    let mut reader = Reader::new(alloc);
+    match read_parts(&mut reader, tree) {
+        Ok(parts) => {
+            let (_, notes) = reader.into_parts();
+            Ok(Doc {
+                links: parts.links,
+                routes: parts.routes,
+                rules: parts.rules,
+                dns: parts.dns,
+                notes,
+            })
+        }
+        Err(stop) => Err(fault_of(stop, reader)),
+    }
+}
