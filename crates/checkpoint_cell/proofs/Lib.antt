@@ -1,0 +1,6 @@
+pub mod lemmas
+pub mod Records
+pub mod Marks
+pub mod Puts
+pub mod Heads
+pub mod Loads
