@@ -1,0 +1,7 @@
+use Rattle.std.proofs.Common.{◌≡◌, map, take}
+use Rattle.doc_tree.specs.Shape.{shape}
+use Rattle.show_core.specs.Links.{link_tree}
+use Rattle.show_core.proofs.network.all_links.Given as goal
+
+abbrev pub invariant-loop-link : goal.invariant-loop-link
+invariant-loop-link l = map shape l.trees.items ≡ map (link_tree l.links) (take l.link-index l.links)

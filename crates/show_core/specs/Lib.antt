@@ -1,0 +1,4 @@
+pub mod Fields
+pub mod Pairs
+pub mod Links
+pub mod Network

@@ -1,0 +1,12 @@
+//! The state of a network as it is printed.
+#![tactic(auto)]
+
+mod links;
+mod network;
+mod pairs;
+#[cfg(test)]
+mod tests;
+mod values;
+
+pub use base_model::OutOfMemory;
+pub use network::tree_of_net;
