@@ -1,3 +1,4 @@
+mod Absent
 mod ByName
 mod Indexed
 mod SameKeys

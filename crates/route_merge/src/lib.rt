@@ -19,5 +19,7 @@ mod rules;
 mod resolver;
 // All of these together.
 mod rest;
+#[cfg(test)]
+mod tests;
 
 pub use rest::{Rest, merge_rest};
