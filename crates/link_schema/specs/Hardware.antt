@@ -2,6 +2,7 @@
 use Rattle.std.specs.Prelude.{ℕ, suc, false, List, [], ◌∷◌, ◌++◌, nat_lt, Some, None, Ok, Err, if◌then◌else◌, codes}
 use Rattle.std.specs.List.{list_any}
 use Rattle.net_model.specs.Links.{is_named}
+use Rattle.net_model.specs.declared.limits.TheConstants.{MAX_LINKS}
 use Rattle.net_model.specs.Options.{default_bond, default_bridge, default_port}
 use Rattle.net_model.specs.declared.Mac.{Mac}
 use Rattle.net_model.specs.declared.Link.{Link}
@@ -52,9 +53,9 @@ abbrev pub devices : List Link → ℕ → Shapes → Reading (List Link)
 devices links i no_shapes = given links
 devices links i (more s ss) = and_then (below (At i) (device links s)) (λ l. devices (links ++ l ∷ []) (suc i) ss)
 
--- at most 512 entries, which are counted before one is looked at
+-- at most as many entries as a network has links; they are counted before one is looked at
 abbrev pub hardware_list : Shape → Reading (List Link)
-hardware_list (list ss) = if nat_lt 512 (item_count ss) then refuse OutOfRange else devices [] 0 ss
+hardware_list (list ss) = if nat_lt MAX_LINKS (item_count ss) then refuse OutOfRange else devices [] 0 ss
 hardware_list _ = refuse WrongType
 
 abbrev pub hardware_top : Table (Unit {0})

@@ -2,6 +2,7 @@
 use Rattle.std.specs.Prelude.{ℕ, Bool, true, false, ◌&&◌, List, [], ◌∷◌, Option, Some, None, is_none, if◌then◌else◌, codes}
 use Rattle.std.specs.Str.{bytes_eq}
 use Rattle.net_model.specs.Valid.{mtu_in_range}
+use Rattle.net_model.specs.declared.limits.TheConstants.{MIN_MTU, MAX_MTU}
 use Rattle.base_model.specs.Lists.{is_short}
 use Rattle.document_model.specs.Entries.{passes, is_station, is_ip_entry, is_bridge_entry, has_short_addrs}
 use Rattle.document_model.specs.declared.KindWord.{KindWord}
@@ -52,7 +53,7 @@ interface_table = record {
       ∷ value "type" kind_word (λ (e : LinkDraft) word. record e { word = Some word })
       ∷ value "state" (one_of states) (λ (e : LinkDraft) wish. record e { wish = wish; ignored = is_none wish })
       ∷ value "mac-address" station (λ (e : LinkDraft) mac. record e { mac = Some mac })
-      ∷ value "mtu" (number 68 65535) (λ (e : LinkDraft) mtu. record e { mtu = Some mtu })
+      ∷ value "mtu" (number MIN_MTU MAX_MTU) (λ (e : LinkDraft) mtu. record e { mtu = Some mtu })
       ∷ value "controller" claim (λ (e : LinkDraft) controller. record e { controller = Some controller })
       ∷ part "ipv4" (ip false) (λ (e : LinkDraft) v4. record e { v4 = Some v4 })
       ∷ part "ipv6" (ip true) (λ (e : LinkDraft) v6. record e { v6 = Some v6 })

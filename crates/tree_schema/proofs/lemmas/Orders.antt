@@ -1,12 +1,12 @@
 -- The order of a map's pairs has no effect on the entry, where the rows of its table commute.
 use Rattle.std.proofs.Common.{◌≡◌, ◌∙◌, ℕ, List, [], ◌∷◌, Bool, true, false, not, Option, Some, None, ◌⊎◌, inl, inr, refl, sym, ap, ap₂, subst}
-use Rattle.std.specs.Prelude.{Ok, Err, ◌&&◌, bytes_eq, option_and_then, if◌then◌else◌}
+use Rattle.std.specs.Prelude.{Ok, Err, bytes_eq, option_and_then, if◌then◌else◌}
 use Rattle.std.proofs.lemmas.Bool.{and_parts, false≢true, false_from_ne_true}
 use Rattle.std.proofs.lemmas.Slice.Eq.{bytes_eq-Decides}
 use Rattle.base_model.specs.declared.PathStep.{PathStep}
 use Rattle.base_model.specs.declared.PathStep.TheVariants.{Key}
 use Rattle.doc_tree.specs.Shape.{Shape, nothing, truth, whole, text, list, mapping, Pairs, no_pairs, pair, lacks}
-use Rattle.tree_schema.specs.Reading.{Steps, Reading, given, below, with_value, after, and_then}
+use Rattle.tree_schema.specs.Reading.{Steps, Reading, below, with_value, after, and_then}
 use Rattle.tree_schema.specs.Values.{is_null}
 use Rattle.tree_schema.specs.Tables.{Row, Table, read_row, is_listed, read_other, read_key, read_pair, read_pairs, read_map, value_in}
 use Rattle.tree_schema.specs.Order.{value_of, keys_differ, SameValues, IsReadInAnyOrder}
@@ -374,3 +374,21 @@ puts-at p q (Err refusal) (Err other) swap e = refl
 -- two values that are put into an entry in either order
 pub puts : {E X Y : Type 0} (p : E → X → E) (q : E → Y → E) (a : Shape → Reading X) (b : Shape → Reading Y) → Swap p q → (s u : Shape) → Commute (λ e. value_of (with_value (p e) (a s))) (λ e. value_of (with_value (q e) (b u)))
 puts p q a b swap s u = puts-at p q (a s) (b u) swap
+
+abbrev refused_value : {Y : Type 0} → Option Y
+refused_value = None
+
+-- after a value that is refused nothing is read
+pub nothing_after : {X Y : Type 0} (o : Option X) → option_and_then (λ (x : X). refused_value {Y = Y}) o ≡ refused_value {Y = Y}
+nothing_after None = refl
+nothing_after (Some x) = refl
+
+-- a value that is passed by changes nothing
+pub kept : {X : Type 0} (o : Option X) → option_and_then (λ x. Some x) o ≡ o
+kept None = refl
+kept (Some x) = refl
+
+-- a row that commutes with each of these, at one of its values
+pub each_with : {E : Type 0} (row : Row E) (rs : List (Row E)) (u : Shape) → CommutesWith row rs → EachCommutes (read_by row u) rs
+each_with row [] u all = tt
+each_with row (r ∷ rs) u all = ((λ s. turned_round (read_by row u) (read_by r s) (all.0 u s)), each_with row rs u all.1)
