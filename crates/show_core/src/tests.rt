@@ -1,14 +1,12 @@
 //! The printed state of one Ethernet link.
 
 use crate::tree_of_net;
-use doc_tree::json_of_tree;
+use doc_tree::Tree;
 use net_model::{
     Addr, BondOpts, BridgeOpts, Dns, Items, Kind, Link, Mac, Name, Net, PortOpts, Prefix,
 };
 use std::alloc::Global;
 use std::test::Fail;
-
-const LINK: &[u8] = br#"{"interfaces":[{"name":"eth1","type":"ethernet","state":"down","mac-address":"52:54:00:00:00:01","mtu":1500,"ipv4":{"enabled":true,"address":[{"ip":"192.0.2.1","prefix-length":24}]},"ipv6":{"enabled":false}}]}"#;
 
 fn no_dns(alloc: Global) -> Dns {
     Dns {
@@ -36,16 +34,44 @@ fn one_link(alloc: Global) -> Result<Net, Fail> {
         port: PortOpts::defaults(),
         addrs: Items::of(addrs),
     })?;
-    Ok(Net::new(alloc, links, Vec::new(alloc), Vec::new(alloc), no_dns(alloc))?)
+    Ok(Net::new(
+        alloc,
+        links,
+        Vec::new(alloc),
+        Vec::new(alloc),
+        no_dns(alloc),
+    )?)
+}
+
+// The only interface of a tree.
+fn interface(tree: &Tree) -> Option<&Tree> {
+    match tree.get("interfaces") {
+        Some(Tree::List(links)) => links.first(),
+        _ => None,
+    }
 }
 
 #[test]
 fn a_link_is_shown(rt: HostRuntime) -> Result<(), Fail> {
     let alloc = rt.alloc();
     let net = one_link(alloc)?;
-    let tree = tree_of_net(alloc, &net, Some(b"eth1"))?;
-    let mut text = Vec::new(alloc);
-    json_of_tree(&tree, &mut text).ok().ok_or("no text")?;
-    assert!(rt; text.as_slice() == LINK);
+    let whole = tree_of_net(alloc, &net, None)?;
+    let named = tree_of_net(alloc, &net, Some(b"eth1".as_slice()))?;
+    let other = tree_of_net(alloc, &net, Some(b"eth2".as_slice()))?;
+    assert!(rt; interface(&other).is_none());
+    let link = interface(&named).ok_or("no link")?;
+    assert!(rt; interface(&whole) == Some(link));
+    assert!(rt; link.get("mtu") == Some(&Tree::Int(1500)));
+    for (key, text) in [
+        ("name", "eth1"),
+        ("type", "ethernet"),
+        ("state", "down"),
+        ("mac-address", "52:54:00:00:00:01"),
+    ] {
+        match link.get(key) {
+            Some(Tree::Text(found)) => assert!(rt; found.as_str() == text),
+            _ => assert!(rt; false),
+        }
+    }
     Ok(())
 }
