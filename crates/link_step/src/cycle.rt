@@ -8,7 +8,7 @@ ghost use Rattle.kernel_model.specs.Ports.{attached};
 
 use crate::lookup::place_of;
 use crate::refuse::{is_named_ethernet, is_port_of};
-use net_model::{Items, Kind, Link, Name, Net};
+use net_model::{Items, Kind, Link, Name, Net, OutOfMemory};
 use reach::closure;
 use std::alloc::{AllocError, Global};
 
@@ -59,7 +59,7 @@ fn marks(alloc: Global, links: &[Link], name: &Name) -> Result<Vec<bool>, AllocE
 }
 
 // Whether the link at this place is reached from the port.
-fn reaches(alloc: Global, links: &[Link], port: &Name, at: usize) -> Result<bool, AllocError>
+fn reaches(alloc: Global, links: &[Link], port: &Name, at: usize) -> Result<bool, OutOfMemory>
     requires { at < length links.now }
     ensures { IfOk result (λ is. (d : _) → is ≡ reaches links.now (length links.now) port.now (slice_index_or links.now at d)) }
 {
@@ -71,7 +71,7 @@ fn reaches(alloc: Global, links: &[Link], port: &Name, at: usize) -> Result<bool
 
 // Whether standing on has a cycle once the port is attached: where the port is the controller, or stands on it. An
 // Ethernet link stands on none.
-pub(crate) fn makes_cycle(net: &Net, port: &Name, controller: &Name) -> Result<bool, AllocError>
+pub(crate) fn makes_cycle(net: &Net, port: &Name, controller: &Name) -> Result<bool, OutOfMemory>
     requires { (has_link port.now net.now.links && has_link controller.now net.now.links) ≡ true }
     ensures { IfOk result (λ makes. makes ≡ not (no_cycle (edit_link port.now (attached controller.now) net.now.links))) }
 {

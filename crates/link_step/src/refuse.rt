@@ -17,7 +17,7 @@ use crate::lookup::{find_link, has_link};
 use kernel_model::refusal::{
     BAD_BASE, BAD_MTU, BAD_OPTIONS, BASE_DOWN, LIMIT, LINK_EXISTS, NO_LINK, PHYSICAL, VLAN_TWIN,
 };
-use net_model::{BondOpts, BridgeOpts, Kind, Link, MAX_LINKS, Name, Net, bond_ok};
+use net_model::{BondOpts, BridgeOpts, Kind, Link, MAX_LINKS, Name, Net, OutOfMemory, bond_ok};
 use std::alloc::{AllocError, Global};
 
 #[tactic(auto, using(net_model::proofs::lemmas::Found::named_passes_found))]
@@ -231,7 +231,7 @@ fn named_bond_takes(links: &[Link], name: &Name, opts: &BondOpts, ports: &Vec<Na
     find_link(links, name).is_some_and(|link| bond_takes(&link.kind, opts, ports))
 }
 
-pub(crate) fn set_bond(net: &Net, name: &Name, opts: &BondOpts) -> Result<Option<u8>, AllocError>
+pub(crate) fn set_bond(net: &Net, name: &Name, opts: &BondOpts) -> Result<Option<u8>, OutOfMemory>
     ensures { IfOk result (λ number. number ≡ first_true (set_bond_refusals name.now opts.now net.now)) }
 {
     net.laws();

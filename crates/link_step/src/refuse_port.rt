@@ -17,8 +17,8 @@ use crate::refuse::is_named_bridge;
 use kernel_model::refusal::{
     BAD_OPTIONS, CYCLE, HAS_CONTROLLER, NO_CONTROLLER, NO_LINK, PORT_ADDRESS, PORT_KIND, PORT_UP,
 };
-use net_model::{Kind, Link, Name, Net, PortOpts};
-use std::alloc::AllocError;
+use net_model::{Kind, Link, Name, Net, OutOfMemory, PortOpts};
+
 
 #[tactic(auto, using(net_model::proofs::lemmas::Found::named_passes_found))]
 fn has_controller(links: &[Link], port: &Name) -> bool
@@ -108,7 +108,7 @@ fn are_there(links: &[Link], port: &Name, controller: &Name) -> bool
     has_link(links, port) && has_link(links, controller)
 }
 
-pub(crate) fn attach(net: &Net, port: &Name, controller: &Name) -> Result<Option<u8>, AllocError>
+pub(crate) fn attach(net: &Net, port: &Name, controller: &Name) -> Result<Option<u8>, OutOfMemory>
     ensures { IfOk result (λ number. number ≡ first_true (attach_refusals port.now controller.now net.now)) }
 {
     net.laws();

@@ -19,10 +19,10 @@ use crate::one_link::write_on;
 use crate::{refuse, refuse_port};
 use kernel_model::StepFault;
 use net_model::{Call, Name, Net, OutOfMemory, Parts};
-use std::alloc::{AllocError, Global};
+use std::alloc::Global;
 
 // The least number with which the call is refused.
-fn refusal(net: &Net, call: &Call) -> Result<Option<u8>, AllocError>
+fn refusal(net: &Net, call: &Call) -> Result<Option<u8>, OutOfMemory>
     requires { is_on_links call.now ≡ true }
     ensures { IfOk result (λ number. number ≡ first_true (refusals call.now net.now)) }
 {
