@@ -29,5 +29,4 @@ pub fn order_laws()
     ensures vrf { IsReadInAnyOrder vrf_table }
     ensures hardware { IsReadInAnyOrder hardware_top }
     ensures device { (links : List Link) → IsReadInAnyOrder (device_table links) }
-{
-}
+{}

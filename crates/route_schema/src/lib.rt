@@ -8,6 +8,7 @@ mod document;
 mod draft;
 #[cfg(test)]
 mod examples;
+mod order;
 mod routes;
 mod rules;
 #[cfg(test)]
@@ -15,3 +16,4 @@ mod tests;
 mod words;
 
 pub use document::doc_of;
+pub use order::order_laws;

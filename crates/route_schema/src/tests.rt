@@ -106,7 +106,10 @@ fn a_document_has_the_values_that_it_states(rt: HostRuntime) -> Result<(), Fail>
 fn the_examples_are_read_whole(rt: HostRuntime) -> Result<(), Fail> {
     let alloc = rt.alloc();
     for example in EXAMPLES.split('%') {
-        assert!(rt; outcome(alloc, example)?.as_slice() == b"read".as_slice(), "{example}");
+        assert!(rt;
+            outcome(alloc, example)?.as_slice() == b"read".as_slice(),
+            "{example}"
+        );
     }
     Ok(())
 }

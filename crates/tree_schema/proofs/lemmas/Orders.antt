@@ -287,7 +287,7 @@ module _ {E : Type 0} (t : Table E) (inert : IsInert (λ e. value_of (t.others e
   run_commutes no_pairs g each = inert_commutes (run no_pairs) g (inl (λ e. refl))
   run_commutes (pair k s ps) g each =
       like (λ e. option_and_then (run ps) (step k s e)) g (run (pair k s ps)) g (λ e. run-pair k s ps e) (λ e. refl)
-          (both_commute (step k s) (run ps) g (step_commutes-at k s g (is_null s) refl each) (run_commutes ps g each))
+      (both_commute (step k s) (run ps) g (step_commutes-at k s g (is_null s) refl each) (run_commutes ps g each))
 
   -- a map that is read into an entry commutes with a step with which each row of its table commutes
   pub map_commutes : (g : E → Option E) → EachCommutes g t.keys → (s : Shape) → Commute (λ e. value_of (read_map t e s)) g
