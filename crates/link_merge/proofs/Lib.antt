@@ -6,3 +6,4 @@ mod Least
 mod Marked
 mod More
 mod Placed
+mod Positions

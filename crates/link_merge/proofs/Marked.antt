@@ -21,8 +21,8 @@ all_marked leads starts (x ∷ xs) arrows ss marks e f least =
     ext_get_or false marks (map (is_reached leads starts (x ∷ xs) (length (x ∷ xs))) (x ∷ xs))
     ((first 0 (omega arith)).1 ∙ sym (length-map (x ∷ xs) (is_reached leads starts (x ∷ xs) (length (x ∷ xs)))))
     (λ i lt.
-        let inside : i < length (x ∷ xs) = omega (arith, lt, (first 0 (omega arith)).1) in
-        (first i inside).0 ∙ sym (get_or-map (is_reached leads starts (x ∷ xs) (length (x ∷ xs))) (x ∷ xs) i x false inside))
+    let inside : i < length (x ∷ xs) = omega (arith, lt, (first 0 (omega arith)).1) in
+    (first i inside).0 ∙ sym (get_or-map (is_reached leads starts (x ∷ xs) (length (x ∷ xs))) (x ∷ xs) i x false inside))
 
 -- and the places that the arrows lead to are the list's
 pub rows_graph : {X : Type 0} (leads : X → X → Bool) (starts : X → Bool) (xs : List X) → IsGraph (map (λ x. positions (leads x) 0 xs) xs)

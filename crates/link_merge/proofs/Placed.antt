@@ -19,8 +19,8 @@ placed f q xs i x e at is =
     let s = position-Some q (map f xs) i e at in
     let inside : i < length xs = omega (arith, s.0, length-map xs f) in
     ap Some is ∙ sym (find_first (λ y. q (f y)) xs i x inside
-        (ap q (sym (get_or-map f xs i x e inside)) ∙ s.1)
-        (λ k below. ap q (sym (get_or-map f xs k x e (omega (arith, below, inside)))) ∙ s.2 k below))
+    (ap q (sym (get_or-map f xs i x e inside)) ∙ s.1)
+    (λ k below. ap q (sym (get_or-map f xs k x e (omega (arith, below, inside)))) ∙ s.2 k below))
 
 same_place : {X Y : Type 0} (f : X → Y) (q : Y → Bool) (xs : List X) → position_or_len q (map f xs) ≡ position_or_len (λ y. q (f y)) xs
 same_place f q [] = refl
@@ -34,6 +34,6 @@ pub unplaced : {X Y : Type 0} (f : X → Y) (q : Y → Bool) (xs : List X) → p
 unplaced f q xs = elim (nat_lt (position_or_len q (map f xs)) (length (map f xs))) as (λ v. nat_lt (position_or_len q (map f xs)) (length (map f xs)) ≡ v → cond v (Some (position_or_len q (map f xs))) None ≡ None → find (λ y. q (f y)) xs ≡ None) [
   | true ↦ λ e h. absurd cc
   | false ↦ λ e h.
-    let beyond : length (map f xs) ≤ position_or_len q (map f xs) = past (position_or_len q (map f xs)) (length (map f xs)) e in
-    find_at (λ y. q (f y)) xs ∙ slice_get_past xs (position_or_len (λ y. q (f y)) xs) (omega (arith, beyond, length-map xs f, same_place f q xs))
+      let beyond : length (map f xs) ≤ position_or_len q (map f xs) = past (position_or_len q (map f xs)) (length (map f xs)) e in
+      find_at (λ y. q (f y)) xs ∙ slice_get_past xs (position_or_len (λ y. q (f y)) xs) (omega (arith, beyond, length-map xs f, same_place f q xs))
 ] refl

@@ -159,12 +159,7 @@ fn v6_if_up(
     }
 }
 
-fn both(
-    alloc: Global,
-    members: &Members,
-    slot: &Slot,
-    up: bool,
-) -> Result<Vec<Prefix>, AllocError>
+fn both(alloc: Global, members: &Members, slot: &Slot, up: bool) -> Result<Vec<Prefix>, AllocError>
     ensures { IfOk result (λ addrs. addrs.items ≡ v4_of members.now slot.now ++ (if up then v6_of members.now slot.now else [])) }
 {
     let mut addrs = v4_of(alloc, members, slot)?;

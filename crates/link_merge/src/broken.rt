@@ -22,21 +22,37 @@ use net_model::Net;
 use std::alloc::{AllocError, Global};
 
 const DUPLICATE_NAME: u8 = 1;
+
 const NO_TYPE: u8 = 2;
+
 const NO_DEVICE: u8 = 3;
+
 const PHYSICAL_KIND: u8 = 4;
+
 const MISSING_DETAIL: u8 = 5;
+
 const PORT_MISSING: u8 = 6;
+
 const PORT_TWICE: u8 = 7;
+
 const PORT_CONFLICT: u8 = 8;
+
 const PORT_KIND: u8 = 9;
+
 const BAD_BASE: u8 = 10;
+
 const CYCLE: u8 = 11;
+
 const VLAN_TWIN: u8 = 12;
+
 const BASE_DOWN: u8 = 13;
+
 const VLAN_MTU: u8 = 14;
+
 const BOND_OPTIONS: u8 = 15;
+
 const PORT_ADDRESS: u8 = 16;
+
 const ADDRESS_TWICE: u8 = 17;
 
 fn refused(rule: u8, place: Place) -> Refused

@@ -68,7 +68,9 @@ fn named_can_be_base(merged: &Merged, base: &Name) -> bool
     requires { names_differ merged.now ≡ true }
     ensures { result ≡ named_passes (λ b. can_be_base b.kind) merged.now base.now }
 {
-    merged.find(base).is_some_and(|link| can_be_base(&link.kind))
+    merged
+        .find(base)
+        .is_some_and(|link| can_be_base(&link.kind))
 }
 
 fn base_stands(merged: &Merged, kind: &Kind) -> bool

@@ -9,10 +9,10 @@ ghost use Rattle.merge_model.specs.Kinds.{merged_kind};
 ghost use Rattle.merge_model.specs.Places.{at_entry, first_second};
 ghost use Rattle.merge_model.specs.BrokenEntries.{duplicate_name, is_new, no_type, is_ethernet_word, no_device, changes_device, physical_kind, missing_detail};
 
-use crate::kinds::{is_ethernet, merged_kind};
+use crate::kinds::merged_kind;
 use crate::slot::is_absent;
 use document_model::{KindWord, LinkEntry, Place};
-use net_model::{Kind, Link, Name, Net};
+use net_model::{Kind, Link, Name, Net, is_ethernet};
 
 /// The entry of this name.
 pub(crate) fn find_entry<'a>(entries: &'a [LinkEntry], name: &Name) -> Option<&'a LinkEntry>

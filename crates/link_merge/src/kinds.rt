@@ -2,7 +2,7 @@
 ghost use Rattle.std.specs.Prelude.{◌≡◌, Some, option_copied};
 ghost use Rattle.std.specs.Option.{option_map, option_or, option_and_then};
 ghost use Rattle.document_model.specs.declared.KindWord.TheVariants.{Bond as ABond, Vlan as AVlan, Vrf as AVrf};
-ghost use Rattle.merge_model.specs.Kinds.{word_of, same_type, is_ethernet, mode_number, same_mode, permanent_of, mode_of, base_of, id_of, proto_of, table_of, vlan_of, kind_by, merged_kind};
+ghost use Rattle.merge_model.specs.Kinds.{word_of, same_type, mode_number, same_mode, permanent_of, mode_of, base_of, id_of, proto_of, table_of, vlan_of, kind_by, merged_kind};
 
 use document_model::{KindWord, LinkEntry};
 use net_model::{BondMode, Kind, Mac, Name, Proto, TableId, VlanId};
@@ -17,12 +17,6 @@ pub(crate) fn word_of(kind: &Kind) -> KindWord
         Kind::Vlan { .. } => KindWord::Vlan,
         Kind::Vrf { .. } => KindWord::Vrf,
     }
-}
-
-pub(crate) fn is_ethernet(kind: &Kind) -> bool
-    ensures { result ≡ is_ethernet kind.now }
-{
-    matches!(kind, Kind::Ethernet { .. })
 }
 
 /// Whether both are of one type, whatever their details.

@@ -10,10 +10,10 @@ ghost use Rattle.merge_model.specs.Lifted.{is_unstated, was_up, lifts, starts, i
 use crate::controllers::lists;
 use crate::kinds::base_of;
 use crate::members::Members;
+use crate::reached::closure;
 use crate::seats::has_base;
 use crate::slot::{Slot, is_stated_up};
 use net_model::{Items, Name};
-use reach::closure;
 use std::alloc::{AllocError, Global};
 
 fn holds(slot: &Slot, name: &Name) -> bool

@@ -7,15 +7,14 @@ ghost use Rattle.net_model.specs.Words.{positions};
 ghost use Rattle.net_model.specs.Links.{find_link};
 ghost use Rattle.net_model.specs.Standing.{has_base};
 ghost use Rattle.merge_model.specs.Stated.{find_entry, is_mentioned, is_absent};
-ghost use Rattle.merge_model.specs.Kinds.{is_ethernet};
 ghost use Rattle.merge_model.specs.Members.{is_removed, goes_with, is_gone, retired, stated_wish, entered, entered_over, stays, left_alone, seats};
 
 use crate::entries::{find_entry, kind_of};
-use crate::kinds::{is_ethernet, merged_kind};
+use crate::kinds::merged_kind;
+use crate::reached::closure;
 use crate::slot::{Slot, is_absent};
 use document_model::{LinkEntry, Wish};
-use net_model::{Items, Kind, Link, Name, Net};
-use reach::closure;
+use net_model::{Items, Kind, Link, Name, Net, is_ethernet};
 use std::alloc::{AllocError, Global};
 
 /// Whether the kind is a VLAN over the named link.
@@ -93,11 +92,7 @@ fn arrows(
     Ok(arrows)
 }
 
-fn removed(
-    alloc: Global,
-    entries: &[LinkEntry],
-    links: &[Link],
-) -> Result<Vec<bool>, AllocError>
+fn removed(alloc: Global, entries: &[LinkEntry], links: &[Link]) -> Result<Vec<bool>, AllocError>
     ensures { IfOk result (λ marks. marks.items ≡ map (is_removed entries.now) links.now) }
 {
     links
@@ -128,11 +123,7 @@ fn either(a: bool, b: bool) -> bool
 }
 
 // Whether each link goes.
-fn gone(
-    alloc: Global,
-    entries: &[LinkEntry],
-    links: &[Link],
-) -> Result<Vec<bool>, AllocError>
+fn gone(alloc: Global, entries: &[LinkEntry], links: &[Link]) -> Result<Vec<bool>, AllocError>
     ensures { IfOk result (λ marks. marks.items ≡ map (is_gone links.now entries.now) links.now) }
 {
     let starts = removed(alloc, entries, links)?;
@@ -166,13 +157,7 @@ fn stated_wish(entry: &LinkEntry, old: Option<&Link>) -> Option<Wish>
 {
     match entry.wish {
         Some(wish) => Some(wish),
-        None => {
-            if old.is_none() {
-                Some(Wish::Up)
-            } else {
-                None
-            }
-        }
+        None => { if old.is_none() { Some(Wish::Up) } else { None } }
     }
 }
 

@@ -10,10 +10,10 @@ ghost use Rattle.merge_model.specs.BrokenLinks.{cycle};
 ghost use Rattle.link_merge.specs.Rules.{least_of};
 
 use crate::options::is_port_of;
+use crate::reached::closure;
 use crate::seats::has_base;
 use document_model::Place;
 use net_model::{Items, Link, Name};
-use reach::closure;
 use std::alloc::{AllocError, Global};
 
 fn stands_on(a: &Link, b: &Link) -> bool
@@ -74,13 +74,7 @@ fn lesser(name: Name, least: Option<Name>) -> Name
     ensures { result ≡ least_of name least }
 {
     match least {
-        Some(other) => {
-            if other < name {
-                other
-            } else {
-                name
-            }
-        }
+        Some(other) => { if other < name { other } else { name } }
         None => name,
     }
 }

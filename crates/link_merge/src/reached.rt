@@ -1,0 +1,22 @@
+//! What arrows lead to, with a refused allocation as this crate's calls answer one.
+ghost use Rattle.std.specs.Prelude.{◌≡◌, length, IfOk};
+ghost use Rattle.reach.specs.Reach.{IsGraph, IsLeast};
+
+use net_model::Items;
+use std::alloc::{AllocError, Global};
+
+/// The places that are reachable from the sources.
+pub(crate) fn closure(
+    alloc: Global,
+    arrows: &[Items<usize>],
+    starts: &[bool],
+) -> Result<Vec<bool>, AllocError>
+    requires starts { length starts.now ≡ length arrows.now }
+    requires graph { IsGraph arrows.now }
+    ensures { IfOk result (λ marks. IsLeast arrows.now starts.now marks.items) }
+{
+    match reach::closure(alloc, arrows, starts) {
+        Ok(marks) => Ok(marks),
+        Err(_) => Err(AllocError),
+    }
+}
