@@ -61,11 +61,7 @@ fn give_named(links: &mut [Link], name: &Name, addr: &Prefix) -> Result<(), OutO
 }
 
 // Gives the named link an address that it doesn't have.
-pub(crate) fn add_address(
-    parts: &mut Parts,
-    name: &Name,
-    addr: &Prefix,
-) -> Result<(), OutOfMemory>
+pub(crate) fn add_address(parts: &mut Parts, name: &Name, addr: &Prefix) -> Result<(), OutOfMemory>
     requires names { rises link_cmp parts.old.links ≡ true }
     requires in_order { list_all (λ l. rises block_cmp l.addrs) parts.old.links ≡ true }
     requires new { named_passes (λ l. has_block addr.now l.addrs) parts.old.links name.now ≡ false }

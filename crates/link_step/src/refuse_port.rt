@@ -19,7 +19,6 @@ use kernel_model::refusal::{
 };
 use net_model::{Kind, Link, Name, Net, OutOfMemory, PortOpts};
 
-
 #[tactic(auto, using(net_model::proofs::lemmas::Found::named_passes_found))]
 fn has_controller(links: &[Link], port: &Name) -> bool
     requires { rises link_cmp links.now ≡ true }
