@@ -1,15 +1,17 @@
 //! A host in memory.
-ghost use Rattle.std.specs.Prelude.{◌≡◌, ◌≢◌, ◌⊎◌, ◌<◌, ◌+◌, ◌^◌, ℕ, [], ◌∷◌, length, get_or, reverse, None, Some, false, IfOk, OnOk, OnErr, IsErrOf, IsSome, option_map};
+ghost use Rattle.std.specs.Prelude.{◌≡◌, ◌≢◌, ◌⊎◌, ◌<◌, ◌≤◌, ◌+◌, ◌^◌, ℕ, [], ◌∷◌, length, get_or, reverse, None, Some, false, IfOk, OnOk, OnErr, IsErrOf, IsSome, option_map};
 ghost use Rattle.host_core.specs.Bytes.{Torn, Written, Filled};
 ghost use Rattle.host_core.specs.Faults.{HasCause, HasFault, one_more};
 ghost use Rattle.host_core.specs.HostView.{State, HasCell, Accepts, Refuses, MaybeCalled, SameCell, SameKernel, Untouched, CellTorn, IsFirst, IsMade, MaybeMade, counted, refused, dumped};
 ghost use Rattle.host_core.specs.Stops.{Steps, Stays};
 ghost use Rattle.host_memory.specs.HostMemory.{IsUnfused, told_of};
+ghost use Rattle.host_memory.specs.HostPicked.{state_stopped};
 ghost use Rattle.host_memory.specs.HostRecord.{Left, stops_of, IsAsBefore};
 
 use crate::bytes::{fill, rewritten};
 use crate::fuse::{Fuse, Fuses, counted, is_carried_out};
-use crate::record::{HostEvent, called, sync, write};
+use crate::record::{HostEvent, called, net_before, sync, write};
+use crate::touch::stopped;
 use base_model::OutOfMemory;
 use host_core::{CallFault, DumpFault, Failed, Host, MakeFault, raised};
 use kernel_step::StepFault;
@@ -83,6 +85,26 @@ impl MemoryHost {
         ensures { result ≡ (⟦<MemoryHost as Host>⟧.told self.now).stops.moment }
     {
         self.events.len() as u64
+    }
+
+    /// The host after a stop behind so many kernel calls, writes and syncs, with the network of that moment, nothing in
+    /// doubt and no call that is to fail. The pick says which of what may be left of the checkpoint area: 0 the bytes of
+    /// its last sync, 1 the bytes as they read then, 2 these with each byte 7 in a range that was written since, 3 the
+    /// same in the second half of each range.
+    pub fn stopped(&self, alloc: Global, after: u64, pick: u8) -> Result<MemoryHost, OutOfMemory>
+        requires after { after ≤ (⟦<MemoryHost as Host>⟧.told self.now).stops.moment }
+        requires pick { pick < 4 }
+        ensures state { IfOk result (λ host. (⟦<MemoryHost as Host>⟧.told host).state ≡ state_stopped after pick self.now) }
+        ensures sure { IfOk result (λ host. (s : State) → (⟦<MemoryHost as Host>⟧.told host).stops.may_leave s → s ≡ (⟦<MemoryHost as Host>⟧.told host).state) }
+        ensures faults { IfOk result (λ host. (⟦<MemoryHost as Host>⟧.told host).faults ≡ 0) }
+        ensures unfused { IfOk result IsUnfused }
+    {
+        let cell = stopped(alloc, &self.events, 0, &self.cell, after, pick)?;
+        let net = match net_before(&self.events[after as usize..], &self.net) {
+            Some(net) => Some(net.copy()?),
+            None => None,
+        };
+        Ok(MemoryHost::new(alloc, net, cell, Vec::new(alloc)))
     }
 
     /// Counts a kernel call that isn't made.
