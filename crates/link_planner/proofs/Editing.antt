@@ -1,0 +1,70 @@
+-- A call that changes one link, towards target.
+use Rattle.std.proofs.Common.{◌≡◌, ℕ, true, false, List, Some, refl, sym, ap, subst, ◌∙◌}
+use Rattle.std.specs.Prelude.{option_map}
+use Rattle.net_model.specs.Name.{same_bytes}
+use Rattle.net_model.specs.Links.{find_link}
+use Rattle.net_model.specs.Lists.{NetData}
+use Rattle.net_model.specs.declared.link.Link.{Link}
+use Rattle.net_model.proofs.lemmas.Found.{one_name}
+use Rattle.kernel_laws.specs.Frames.{ChangesLink, KeepsRest}
+use Rattle.net_model.proofs.lemmas.ByName.{some_same}
+use Rattle.plan_model.specs.Touched.{IsCalm}
+use Rattle.plan_model.specs.Undisturbed.{IsUndisturbed, has_route}
+use Rattle.link_planner.specs.Growing.{IsOnWay, IsToward, IsAsNear, IsNearer}
+use Rattle.link_planner.proofs.Nearer.{near_itself}
+
+module _ (target old new : NetData) (n : List ℕ) (change : Link → Link) (frame : ChangesLink n change old new) (rest : KeepsRest old new) (link there : Link) (found : find_link n old.links ≡ Some link) (at : find_link n target.links ≡ Some there) where
+  here : find_link n new.links ≡ Some (change link)
+  here = frame.named ∙ ap (option_map change) found
+
+  -- untouched links stay, where this one is touched
+  pub edit_quiet : (start : NetData) → (IsCalm start target n → ⊥) → IsUndisturbed start target old → IsUndisturbed start target new
+  edit_quiet start touched quiet = record {
+    links = λ m calm. elim (same_bytes m n) as (λ v. same_bytes m n ≡ v → find_link m new.links ≡ find_link m start.links) [
+      | true ↦ λ e. absurd (touched (subst (IsCalm start target) (one_name m n e) calm))
+      | false ↦ λ e. frame.others m e ∙ quiet.links m calm
+    ] refl;
+    routes = λ r calm a b. ap (has_route r) rest.routes ∙ quiet.routes r calm a b;
+  }
+
+  pub edit_toward : IsOnWay target (change link) there → IsToward target old → IsToward target new
+  edit_toward way toward = record {
+    links = λ m l found'. elim (same_bytes m n) as (λ v. same_bytes m n ≡ v → (t : Link) × (find_link m target.links ≡ Some t) × IsOnWay target l t) [
+      | true ↦ λ e.
+          let one : m ≡ n = one_name m n e in
+          let is : change link ≡ l = some_same (change link) l (sym here ∙ ap (λ x. find_link x new.links) (sym one) ∙ found') in
+          (there, ap (λ x. find_link x target.links) one ∙ at, subst (λ x. IsOnWay target x there) is way)
+      | false ↦ λ e. toward.links m l (sym (frame.others m e) ∙ found')
+    ] refl;
+    routes = λ r h. toward.routes r (ap (has_route r) (sym rest.routes) ∙ h);
+  }
+
+  pub edit_nearer : IsAsNear there link (change link) → IsNearer target old new
+  edit_nearer near = record {
+    links = λ m k found'. elim (same_bytes m n) as (λ v. same_bytes m n ≡ v → (l : Link) × (find_link m new.links ≡ Some l) × ((t : Link) → find_link m target.links ≡ Some t → IsAsNear t k l)) [
+      | true ↦ λ e.
+          let one : m ≡ n = one_name m n e in
+          let is : link ≡ k = some_same link k (sym found ∙ ap (λ x. find_link x old.links) (sym one) ∙ found') in (
+            change link,
+            ap (λ x. find_link x new.links) one ∙ here,
+            λ t at'.
+                let t_is : there ≡ t = some_same there t (sym at ∙ ap (λ x. find_link x target.links) (sym one) ∙ at') in
+                subst (λ x. IsAsNear x k (change link)) t_is (subst (λ x. IsAsNear there x (change link)) is near),
+          )
+      | false ↦ λ e. (k, frame.others m e ∙ found', λ t at'. near_itself t k)
+    ] refl;
+    routes = λ r h. ap (has_route r) rest.routes ∙ h;
+    rules = rest.rules;
+    dns = rest.dns;
+  }
+
+  -- what the link reaches by it
+  pub edit_reaches : (R : Link → Link → Type 0) → R (change link) there → (l t : Link) → find_link n new.links ≡ Some l → find_link n target.links ≡ Some t → R l t
+  edit_reaches R reached l t found' at' =
+      subst (λ x. R l x) (some_same there t (sym at ∙ at')) (subst (λ x. R x there) (some_same (change link) l (sym here ∙ found')) reached)
+
+-- the link on its way, by target's link
+pub way_of : (target net : NetData) → IsToward target net → (n : List ℕ) (l t : Link) → find_link n net.links ≡ Some l → find_link n target.links ≡ Some t → IsOnWay target l t
+way_of target net toward n l t found at =
+    let w = toward.links n l found in
+    subst (λ x. IsOnWay target l x) (some_same w.0 t (sym w.1 ∙ at)) w.2

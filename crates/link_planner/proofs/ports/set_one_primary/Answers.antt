@@ -1,0 +1,28 @@
+use Rattle.std.proofs.Common.{rules, ◌≡◌, Some, inl, refl}
+use Rattle.net_model.specs.Links.{find_link}
+use Rattle.link_planner.proofs.Bonds.{bond_safe, bond_toward, bond_nearer, bond_reached, primary_attached}
+use Rattle.link_planner.proofs.ports.set_one_primary.Goals as goal
+
+pub make-requires-clause-safe : goal.make-requires-clause-safe
+make-requires-clause-safe c =
+    let found : find_link c.args.name.now c.args.work.now.links ≡ Some c.in-Some-Some.link.now = search rules in
+    let at : find_link c.args.name.now c.args.target.now.links ≡ Some c.in-Some-Some.there.now = search rules in
+    bond_safe c.args.start.now c.args.target.now c.args.work.now c.laws.ensures.net c.laws-then-has_other_bond.ensures.net c.requires.draft.undisturbed c.requires.toward c.args.name.now c.in-Some-Some.link.now c.in-Some-Some.there.now found at c.in-Some-Some.there.now.bond (inl refl) (primary_attached c.args.target.now c.args.work.now c.laws.ensures.net c.requires.whole c.requires.attached c.args.name.now c.in-Some-Some.there.now at) (λ _. refl) c.if-has_other_bond.ensures.yes
+
+pub returns-in_ok-make-clause-toward : goal.returns-in_ok-make-clause-toward
+returns-in_ok-make-clause-toward c =
+    let found : find_link c.args.name.now c.args.work.now.links ≡ Some c.in-Some-Some.link.now = search rules in
+    let at : find_link c.args.name.now c.args.target.now.links ≡ Some c.in-Some-Some.there.now = search rules in
+    rw c.in_ok-make.ensures.next (bond_toward c.args.start.now c.args.target.now c.args.work.now c.laws.ensures.net c.laws-then-has_other_bond.ensures.net c.requires.draft.undisturbed c.requires.toward c.args.name.now c.in-Some-Some.link.now c.in-Some-Some.there.now found at c.in-Some-Some.there.now.bond (inl refl) (primary_attached c.args.target.now c.args.work.now c.laws.ensures.net c.requires.whole c.requires.attached c.args.name.now c.in-Some-Some.there.now at) (λ _. refl) c.if-has_other_bond.ensures.yes)
+
+pub returns-in_ok-make-clause-nearer : goal.returns-in_ok-make-clause-nearer
+returns-in_ok-make-clause-nearer c =
+    let found : find_link c.args.name.now c.args.work.now.links ≡ Some c.in-Some-Some.link.now = search rules in
+    let at : find_link c.args.name.now c.args.target.now.links ≡ Some c.in-Some-Some.there.now = search rules in
+    rw c.in_ok-make.ensures.next (bond_nearer c.args.start.now c.args.target.now c.args.work.now c.laws.ensures.net c.laws-then-has_other_bond.ensures.net c.requires.draft.undisturbed c.requires.toward c.args.name.now c.in-Some-Some.link.now c.in-Some-Some.there.now found at c.in-Some-Some.there.now.bond (inl refl) (primary_attached c.args.target.now c.args.work.now c.laws.ensures.net c.requires.whole c.requires.attached c.args.name.now c.in-Some-Some.there.now at) (λ _. refl) c.if-has_other_bond.ensures.yes)
+
+pub returns-in_ok-make-clause-done : goal.returns-in_ok-make-clause-done
+returns-in_ok-make-clause-done c =
+    let found : find_link c.args.name.now c.args.work.now.links ≡ Some c.in-Some-Some.link.now = search rules in
+    let at : find_link c.args.name.now c.args.target.now.links ≡ Some c.in-Some-Some.there.now = search rules in
+    rw c.in_ok-make.ensures.next (bond_reached c.args.start.now c.args.target.now c.args.work.now c.laws.ensures.net c.laws-then-has_other_bond.ensures.net c.requires.draft.undisturbed c.requires.toward c.args.name.now c.in-Some-Some.link.now c.in-Some-Some.there.now found at c.in-Some-Some.there.now.bond (inl refl) (primary_attached c.args.target.now c.args.work.now c.laws.ensures.net c.requires.whole c.requires.attached c.args.name.now c.in-Some-Some.there.now at) (λ _. refl) c.if-has_other_bond.ensures.yes refl)
