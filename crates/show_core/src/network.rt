@@ -1,6 +1,7 @@
 //! The tree of a network.
-ghost use Rattle.std.specs.Prelude.{◌≡◌, ◌++◌, ◌&&◌, ◌==◌, not, codes, IfOk, OnOk, option_map, map, filter};
-ghost use Rattle.doc_tree.specs.Shape.{shape, text, list, shapes_of};
+ghost use Rattle.std.specs.Prelude.{◌≡◌, ◌≤◌, true, ◌++◌, ◌&&◌, ◌==◌, not, codes, IfOk, OnOk, option_map, map, filter};
+ghost use Rattle.doc_tree.specs.Shape.{shape, text, list, shapes_of, is_distinct, has_short_lists, levels};
+ghost use Rattle.doc_tree.specs.declared.limits.TheConstants.{MAX_LEVELS};
 ghost use Rattle.net_model.specs.Links.{is_named};
 ghost use Rattle.show_core.specs.Fields.{fields, field, field_of, address, prefix, each};
 ghost use Rattle.show_core.specs.Pairs.{held};
@@ -225,10 +226,15 @@ fn named_tree(alloc: Global, net: &Net, name: &[u8]) -> Result<Tree, OutOfMemory
 }
 
 /// The tree of a network as its state is printed, or of the link of this name alone, whose list is empty where no link
-/// has the name.
+/// has the name. Writers of JSON and YAML take it: the keys of each map differ, each list is short, and there are no more
+/// than [`MAX_LEVELS`](doc_tree::MAX_LEVELS) levels.
 pub fn tree_of_net(alloc: Global, net: &Net, only: Option<&[u8]>) -> Result<Tree, OutOfMemory>
     ensures tree { IfOk result (λ tree. shape tree ≡ network_tree net.now (option_map (λ name. name.now) only.entry)) }
+    ensures distinct { IfOk result (λ tree. is_distinct (shape tree) ≡ true) }
+    ensures short { IfOk result (λ tree. has_short_lists (shape tree) ≡ true) }
+    ensures depth { IfOk result (λ tree. levels (shape tree) ≤ MAX_LEVELS) }
 {
+    net.laws();
     match only {
         None => whole_tree(alloc, net),
         Some(name) => named_tree(alloc, net, name),
