@@ -1,5 +1,5 @@
 -- The tree of a link is writable.
-use Rattle.std.proofs.Common.{◌≡◌, ◌<◌, ◌^◌, ◌≤◌, ℕ, List, [], ◌∷◌, length, Bool, true, false, refl, arith}
+use Rattle.std.proofs.Common.{ℕ, List, [], ◌∷◌, Bool, true, false, refl, arith}
 use Rattle.std.specs.Prelude.{pos, codes, filter}
 use Rattle.addr_text.specs.Mac.{mac_text}
 use Rattle.std.proofs.lemmas.List.{length-map}
@@ -15,10 +15,9 @@ use Rattle.net_model.specs.declared.link.Link.{Link}
 use Rattle.net_model.specs.declared.options.BondMode.{BondMode}
 use Rattle.net_model.specs.declared.options.BondOpts.{BondOpts}
 use Rattle.net_model.specs.declared.options.BridgeOpts.{BridgeOpts}
-use Rattle.net_model.specs.declared.options.Proto.{Proto}
 use Rattle.net_text.specs.Line.{rate_word, policy_word}
 use Rattle.show_core.specs.Fields.{fields}
-use Rattle.show_core.specs.Links.{type_word, state_word, address_tree, ip_tree, of_family, bond_options, stp_options, bridge_options, bridge_port, bond_section, bridge_section, vlan_section, vrf_section, section, link_tree}
+use Rattle.show_core.specs.Links.{type_word, state_word, address_tree, ip_tree, of_family, bond_options, stp_options, bridge_options, bridge_port, section, link_tree}
 use Rattle.show_core.proofs.Writable.{IsWritable, IsShort, AddsKeys, text_writable, whole_writable, truth_writable, none, skip, one, key, key_of, keys_if, keys_then, map_writable, fields_writable, each_writable}
 
 -- what a filter keeps of a short list is short
@@ -40,12 +39,12 @@ family_writable v6 l few = ip_writable (of_family v6 l.addrs) (filter_short (λ 
 bond_keys : (mode : BondMode) (o : BondOpts) → AddsKeys 2 (codes "primary" ∷ codes "lacp_rate" ∷ codes "xmit_hash_policy" ∷ codes "miimon" ∷ codes "updelay" ∷ codes "downdelay" ∷ []) (bond_options mode o)
 bond_keys mode o =
     keys_then (keys_then (keys_then (keys_then (keys_then
-        (key_of (codes "primary") text o.primary (λ name. text_writable))
-        (keys_if (is_802_3ad mode) (key (codes "lacp_rate") (text_writable {s = rate_word o.lacp_rate}))))
-        (key (codes "xmit_hash_policy") (text_writable {s = policy_word o.hash_policy})))
-        (key (codes "miimon") (whole_writable {z = pos o.miimon})))
-        (key (codes "updelay") (whole_writable {z = pos o.updelay})))
-        (key (codes "downdelay") (whole_writable {z = pos o.downdelay}))
+    (key_of (codes "primary") text o.primary (λ name. text_writable))
+    (keys_if (is_802_3ad mode) (key (codes "lacp_rate") (text_writable {s = rate_word o.lacp_rate}))))
+    (key (codes "xmit_hash_policy") (text_writable {s = policy_word o.hash_policy})))
+    (key (codes "miimon") (whole_writable {z = pos o.miimon})))
+    (key (codes "updelay") (whole_writable {z = pos o.updelay})))
+    (key (codes "downdelay") (whole_writable {z = pos o.downdelay}))
 
 bond_writable : (mode : BondMode) (o : BondOpts) → IsWritable 3 (fields (bond_options mode o))
 bond_writable mode o = fields_writable (bond_keys mode o) refl
@@ -87,13 +86,13 @@ module _ (links : List Link) (few : IsShort links) where
   unfolding link_tree
   link_writable l addrs =
       fields_writable (keys_then (keys_then (keys_then (keys_then (keys_then (keys_then (keys_then (keys_then
-          (key (codes "name") (text_writable {s = l.name}))
-          (key (codes "type") (text_writable {s = type_word l.kind})))
-          (key (codes "state") (text_writable {s = state_word l.up})))
-          (key (codes "mac-address") (text_writable {s = mac_text l.mac.bytes})))
-          (key (codes "mtu") (whole_writable {z = pos l.mtu})))
-          (key_of (codes "controller") text l.controller (λ name. text_writable)))
-          (key (codes "ipv4") (family_writable false l addrs)))
-          (key (codes "ipv6") (family_writable true l addrs)))
-          (section_keys l l.kind))
-          refl
+      (key (codes "name") (text_writable {s = l.name}))
+      (key (codes "type") (text_writable {s = type_word l.kind})))
+      (key (codes "state") (text_writable {s = state_word l.up})))
+      (key (codes "mac-address") (text_writable {s = mac_text l.mac.bytes})))
+      (key (codes "mtu") (whole_writable {z = pos l.mtu})))
+      (key_of (codes "controller") text l.controller (λ name. text_writable)))
+      (key (codes "ipv4") (family_writable false l addrs)))
+      (key (codes "ipv6") (family_writable true l addrs)))
+      (section_keys l l.kind))
+      refl

@@ -1,6 +1,6 @@
 -- The tree of a network is writable. It has at most 7 levels: the whole, the list of links, a link, the section of a
 -- bridge, its options, those of STP, and each of these.
-use Rattle.std.proofs.Common.{◌≡◌, ◌<◌, ◌^◌, ◌≤◌, ℕ, List, [], ◌∷◌, ◌++◌, length, Bool, true, false, Option, Some, None, Result, refl, sym, subst, arith}
+use Rattle.std.proofs.Common.{◌≡◌, ◌≤◌, ℕ, List, [], ◌∷◌, true, Option, Some, None, Result, refl, sym, subst, arith}
 use Rattle.std.specs.Prelude.{pos, not, IfOk, ◌&&◌, ◌==◌, codes, filter, slice_index_or}
 use Rattle.std.specs.List.{All}
 use Rattle.std.proofs.lemmas.List.Elements.{All-filter}
@@ -13,7 +13,6 @@ use Rattle.net_model.specs.Links.{is_named}
 use Rattle.net_model.specs.NetData.{NetData}
 use Rattle.net_model.specs.Rule.{RuleParts}
 use Rattle.net_model.specs.declared.dns.Dns.{Dns}
-use Rattle.net_model.specs.declared.link.Link.{Link}
 use Rattle.net_model.specs.declared.route.Route.{Route}
 use Rattle.net_model.specs.declared.rule.Target.{Target}
 use Rattle.net_model.specs.declared.rule.Target.TheVariants.{Table, Blackhole, Unreachable, Prohibit}
@@ -28,12 +27,12 @@ use Rattle.show_core.proofs.LinkTrees.{filter_short, link_writable}
 route_writable : (r : Route) → IsWritable 4 (route_tree r)
 route_writable r =
     fields_writable (keys_then (keys_then (keys_then (keys_then
-        (key (codes "destination") (text_writable {s = prefix_text r.dest}))
-        (key (codes "next-hop-interface") (text_writable {s = r.dev})))
-        (key_of (codes "next-hop-address") address r.gateway (λ a. text_writable)))
-        (key (codes "metric") (whole_writable {z = pos r.metric})))
-        (key (codes "table-id") (whole_writable {z = pos r.table})))
-        refl
+    (key (codes "destination") (text_writable {s = prefix_text r.dest}))
+    (key (codes "next-hop-interface") (text_writable {s = r.dev})))
+    (key_of (codes "next-hop-address") address r.gateway (λ a. text_writable)))
+    (key (codes "metric") (whole_writable {z = pos r.metric})))
+    (key (codes "table-id") (whole_writable {z = pos r.table})))
+    refl
 
 target_keys : (t : Target) → AddsKeys 3 (codes "route-table" ∷ codes "action" ∷ []) (target_fields t)
 target_keys (Table t) = record { before = λ ls gs rest. one whole_writable (skip rest) }
@@ -47,14 +46,14 @@ mark_keys r = keys_if (not ((r.mark == 0) && (r.mask == 0))) (keys_then (key (co
 rule_writable : (r : RuleParts) → IsWritable 4 (rule_tree r)
 rule_writable r =
     fields_writable (keys_then (keys_then (keys_then (keys_then (keys_then (keys_then
-        (key (codes "priority") (whole_writable {z = pos r.priority}))
-        (key (codes "family") (text_writable {s = family_word r.v6})))
-        (key_of (codes "ip-from") prefix r.src (λ b. text_writable)))
-        (key_of (codes "ip-to") prefix r.dst (λ b. text_writable)))
-        (key_of (codes "iif") text r.iif (λ name. text_writable)))
-        (mark_keys r))
-        (target_keys r.target))
-        refl
+    (key (codes "priority") (whole_writable {z = pos r.priority}))
+    (key (codes "family") (text_writable {s = family_word r.v6})))
+    (key_of (codes "ip-from") prefix r.src (λ b. text_writable)))
+    (key_of (codes "ip-to") prefix r.dst (λ b. text_writable)))
+    (key_of (codes "iif") text r.iif (λ name. text_writable)))
+    (mark_keys r))
+    (target_keys r.target))
+    refl
 
 dns_writable : (d : Dns) → IsShort d.servers → IsShort d.search → IsWritable 5 (dns_tree d)
 dns_writable d servers search =

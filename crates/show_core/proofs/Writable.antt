@@ -5,7 +5,7 @@ use Rattle.std.specs.List.{All, list_any}
 use Rattle.std.proofs.lemmas.Bool.{and_from, and_parts, or_parts, not-true, not_from_false, lt-ltb}
 use Rattle.std.proofs.lemmas.List.{append-nil}
 use Rattle.std.proofs.lemmas.List.Elements.{All-head, All-tail}
-use Rattle.doc_tree.specs.Shape.{Shape, truth, whole, text, list, mapping, Pairs, no_pairs, pair, shapes_of, pairs_of, lacks, is_distinct, shapes_are_distinct, pairs_are_distinct, levels, shapes_levels, pairs_levels, item_count, has_short_lists, shapes_have_short_lists, pairs_have_short_lists}
+use Rattle.doc_tree.specs.Shape.{Shape, truth, whole, text, mapping, Pairs, no_pairs, pair, shapes_of, pairs_of, lacks, is_distinct, shapes_are_distinct, pairs_are_distinct, levels, shapes_levels, pairs_levels, item_count, has_short_lists, shapes_have_short_lists, pairs_have_short_lists}
 use Rattle.doc_tree.proofs.lemmas.Trees.{item_count-map}
 use Rattle.net_model.specs.Words.{apart}
 use Rattle.show_core.specs.Fields.{Fields, fields, field, field_of, fields_if, each}
