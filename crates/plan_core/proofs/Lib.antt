@@ -1,0 +1,9 @@
+pub mod Members
+pub mod Exact
+pub mod PartOf
+pub mod Places
+pub mod Dropping
+pub mod Adding
+pub mod AddingAddress
+pub mod Same
+pub mod Short
