@@ -8,9 +8,10 @@ use Rattle.net_model.specs.Address.{Block}
 use Rattle.net_model.specs.Links.{find_link, is_named}
 use Rattle.net_model.specs.Hardware.{hardware}
 use Rattle.net_model.specs.Valid.{address_count}
-use Rattle.net_model.specs.NetData.{NetData}
+use Rattle.net_model.specs.NetData.{NetData, IsNet}
 use Rattle.net_model.specs.declared.link.Link.{Link}
 use Rattle.net_model.proofs.lemmas.ByName.{some_same}
+use Rattle.net_model.proofs.lemmas.FactsHold.{facts}
 use Rattle.net_model.proofs.lemmas.Grounded.{found_named}
 use Rattle.net_model.proofs.lemmas.Parts.{le_of, not_le}
 use Rattle.kernel_model.specs.Addresses.{has_block}
@@ -18,7 +19,7 @@ use Rattle.plan_model.specs.Undisturbed.{has_route}
 use Rattle.link_planner.specs.Kept.{is_kept}
 use Rattle.link_planner.specs.Shrinking.{IsLess, IsShrunk, KeepsPorts}
 use Rattle.link_planner.specs.LinkPlans.{without_addrs, IsReady}
-use Rattle.plan_core.specs.Parts.{has_address, HasAddress, HasRoute, HasRule, IsPartOf, EachLink, EachRoute, EachRule, LinkFits, RouteFits, RuleFits}
+use Rattle.plan_core.specs.Parts.{has_address, HasAddress, HasRoute, HasRule, IsPartOf, EachLink, EachRoute, EachRule, LinkFits, LinkIsFilled, RouteFits, RuleFits}
 
 pub part_itself : (net : NetData) → IsPartOf net net
 part_itself net = record { links = λ n. refl; addrs = λ n b h. h; routes = λ r h. h; rules = λ r h. h }
@@ -134,3 +135,16 @@ ready start target net devices part rules routes links = record {
       let at_name : HasAddress target k.0.name b = fits (ap (is_kept start target) name ∙ kept) b was (ap (λ m. has_address net m b) name ∙ has) in
       sym (has_of target n t b at) ∙ ap (λ m. has_address target m b) (sym name) ∙ at_name;
 }
+
+-- the addresses of a link of target stand in target
+pub filled_target : (target : NetData) → IsNet target → (i : ℕ) (x : Link) → i < length target.links → x ≡ get_or target.links i x → LinkIsFilled target x
+filled_target target good i x within is b among =
+    let found : find_link x.name target.links ≡ Some x = ap (λ (l : Link). find_link l.name target.links) is ∙ (facts target good).link_at i x within ∙ ap Some (sym is) in
+    has_of target x.name x b found ∙ among
+
+-- where the addresses of each link of target are there, each address is
+pub all_filled : (target net : NetData) → EachLink (length target.links) target.links (LinkIsFilled net) → (n : List ℕ) (b : Block) → HasAddress target n b → HasAddress net n b
+all_filled target net done n b h =
+    let l = link_with target n b h in
+    let filled : LinkIsFilled net l.0 = link_done (LinkIsFilled net) target.links n l.0 done l.1 in
+    ap (λ m. has_address net m b) (sym (found_named target.links n l.0 l.1)) ∙ filled b l.2

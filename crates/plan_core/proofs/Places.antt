@@ -28,3 +28,7 @@ as_there K E x key xs i stands y is = of (E x y) refl
           absurd cc
       | false ↦ λ _. refl
     ] refl))
+
+-- an element of a list is there
+pub item_there : {X : Type 0} (E : X → X → Bool) → ((x : X) → E x x ≡ true) → (xs : List X) (i : ℕ) (x : X) → i < length xs → x ≡ get_or xs i x → list_any (E x) xs ≡ true
+item_there E itself xs i x within is = any_at (E x) xs i x within (ap (E x) (sym is) ∙ itself x)

@@ -2,8 +2,8 @@
 #![tactic(auto)]
 
 mod has;
-mod plan;
+mod phases;
 mod put_on;
 mod take_off;
 
-pub use plan::plan;
+pub use phases::plan;

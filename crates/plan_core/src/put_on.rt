@@ -145,6 +145,7 @@ fn add_rule(
     requires draft { IsDraft start.now target.now calls.old.items work.old }
     ensures within { OnOk result (IsPartOf work.new target.now) }
     ensures part { OnOk result (IsPartOf work.old work.new) }
+    ensures links { OnOk result (work.new.links ≡ work.old.links) }
     ensures done { OnOk result (HasRule work.new rule.now) }
     ensures draft { OnOk result (IsDraft start.now target.now calls.new.items work.new) }
     ensures count { OnOk result (length calls.new.items ≤ length calls.old.items + 1) }
@@ -167,6 +168,7 @@ fn add_rules(
     requires draft { IsDraft start.now target.now calls.old.items work.old }
     ensures within { OnOk result (IsPartOf work.new target.now) }
     ensures part { OnOk result (IsPartOf work.old work.new) }
+    ensures links { OnOk result (work.new.links ≡ work.old.links) }
     ensures done { OnOk result (EachRule target.now.rules (HasRule work.new)) }
     ensures draft { OnOk result (IsDraft start.now target.now calls.new.items work.new) }
     ensures count { OnOk result (length calls.new.items ≤ length calls.old.items + length target.now.rules) }

@@ -1,0 +1,35 @@
+use Rattle.std.proofs.Common.{arith, rules, ◌≡◌, ◌+◌, ◌<◌, ◌≤◌, List, length, get_or, ap, subst, ◌∙◌}
+use Rattle.net_model.specs.Rule.{RuleParts}
+use Rattle.net_model.specs.Valid.{same_rule}
+use Rattle.plan_core.specs.Parts.{HasRule}
+use Rattle.plan_core.proofs.Exact.{one_rule, rule_itself}
+use Rattle.plan_core.proofs.Members.{one_more_done, all_done}
+use Rattle.plan_core.proofs.PartOf.{part_more}
+use Rattle.plan_core.proofs.Places.{item_there}
+use Rattle.plan_core.proofs.put_on.add_rules.Goals as goal
+
+pub loop-rule-preserved : goal.loop-rule-preserved
+loop-rule-preserved c =
+    let list : c.deref-rule-items.result.now ≡ c.args.target.now.rules = search rules in
+    let within : c.loop-rule.rule-index < length c.deref-rule-items.result.now = omega arith in
+    record {
+      within = c.in_ok-add_rule.ensures.within;
+      part = part_more c.args.work.now c.loop-rule.work c.add_rule.new.work c.loop-rule.invariant.part c.in_ok-add_rule.ensures.part;
+      links = c.in_ok-add_rule.ensures.links ∙ c.loop-rule.invariant.links;
+      done = one_more_done same_rule one_rule rule_itself (HasRule c.loop-rule.work) (HasRule c.add_rule.new.work) (c.args.target.now.rules) c.loop-rule.rule-index c.rule-item.result c.rule-item.result (subst (λ (xs : List RuleParts). c.loop-rule.rule-index < length xs) list within)
+          (c.rule-item.is ∙ ap (λ (xs : List RuleParts). get_or xs c.loop-rule.rule-index c.rule-item.result) list) (c.in_ok-add_rule.ensures.part.rules) c.in_ok-add_rule.ensures.done c.loop-rule.invariant.done;
+      count = omega (arith, c.in_ok-add_rule.ensures.count, c.loop-rule.invariant.count);
+      draft = c.in_ok-add_rule.ensures.draft;
+    }
+
+pub returns-clause-done : goal.returns-clause-done
+returns-clause-done c =
+    let list : c.deref-rule-items.result.now ≡ c.args.target.now.rules = search rules in
+    all_done same_rule one_rule rule_itself (HasRule c.loop-rule.work) (c.args.target.now.rules) c.loop-rule.rule-index (subst (λ (xs : List RuleParts). length xs ≤ c.loop-rule.rule-index) list c.loop-rule-test.false) c.loop-rule.invariant.done
+
+pub add_rule-requires-clause-there : goal.add_rule-requires-clause-there
+add_rule-requires-clause-there c =
+    let list : c.deref-rule-items.result.now ≡ c.args.target.now.rules = search rules in
+    let within : c.loop-rule.rule-index < length c.deref-rule-items.result.now = omega arith in
+    item_there same_rule rule_itself (c.args.target.now.rules) c.loop-rule.rule-index c.rule-item.result (subst (λ (xs : List RuleParts). c.loop-rule.rule-index < length xs) list within)
+    (c.rule-item.is ∙ ap (λ (xs : List RuleParts). get_or xs c.loop-rule.rule-index c.rule-item.result) list)
