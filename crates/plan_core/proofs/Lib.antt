@@ -7,3 +7,4 @@ pub mod Adding
 pub mod AddingAddress
 pub mod Same
 pub mod Short
+pub mod OneDns
