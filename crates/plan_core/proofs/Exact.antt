@@ -21,6 +21,7 @@ number a b h = grind (arith, nat_tests)
 number_itself : (a : ℕ) → (a == a) ≡ true
 number_itself a = grind (arith, nat_tests)
 
+-- what passes as the same is equal, and each passes as itself
 pub one_rule : (a b : RuleParts) → same_rule a b ≡ true → a ≡ b
 one_rule a b h = (same_rule_exact a b).0 h
 

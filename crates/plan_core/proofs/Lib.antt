@@ -6,5 +6,4 @@ pub mod Dropping
 pub mod Adding
 pub mod AddingAddress
 pub mod Same
-pub mod Short
 pub mod OneDns

@@ -44,6 +44,7 @@ one_fewer p (x ∷ xs) some = elim (p x) as (λ v. (v || list_any p xs) ≡ true
   | false ↦ λ later. let less = one_fewer p xs later in omega (arith, less)
 ] some
 
+-- nothing is found where none passes
 pub find_none : {X : Type 0} (p : X → Bool) (xs : List X) → list_any p xs ≡ false → find p xs ≡ None
 find_none p [] none = refl
 find_none p (x ∷ xs) none = elim (p x) as (λ v. (v || list_any p xs) ≡ false → cond v (Some x) (find p xs) ≡ None) [
@@ -51,6 +52,7 @@ find_none p (x ∷ xs) none = elim (p x) as (λ v. (v || list_any p xs) ≡ fals
   | false ↦ λ h. find_none p xs h
 ] none
 
+-- and something where one does
 pub find_some : {X : Type 0} (p : X → Bool) (xs : List X) → list_any p xs ≡ true → (x : X) × (find p xs ≡ Some x)
 find_some p [] some = absurd cc
 find_some p (x ∷ xs) some = elim (p x) as (λ v. (v || list_any p xs) ≡ true → (y : _) × (cond v (Some x) (find p xs) ≡ Some y)) [
@@ -67,6 +69,7 @@ module _ {X : Type 0} (E : X → X → Bool) (exact : (x y : X) → E x y ≡ tr
     | false ↦ λ e later. or_right (p y) (list_any p ys) (any_by x p ys later h)
   ] refl among
 
+  -- one that passes is a member
   pub member_of : (p : X → Bool) (xs : List X) → list_any p xs ≡ true → (x : X) × (list_any (E x) xs ≡ true) × (p x ≡ true)
   member_of p [] some = absurd cc
   member_of p (y ∷ ys) some = elim (p y) as (λ v. p y ≡ v → (v || list_any p ys) ≡ true → (x : X) × (list_any (E x) (y ∷ ys) ≡ true) × (p x ≡ true)) [
@@ -74,6 +77,7 @@ module _ {X : Type 0} (E : X → X → Bool) (exact : (x y : X) → E x y ≡ tr
     | false ↦ λ e later. let m = member_of p ys later in (m.0, or_right (E m.0 y) (list_any (E m.0) ys) m.1, m.2)
   ] refl some
 
+  -- and so is one that is found
   pub found_member : (p : X → Bool) (xs : List X) (x : X) → find p xs ≡ Some x → (list_any (E x) xs ≡ true) × (p x ≡ true)
   found_member p [] x found = absurd cc
   found_member p (y ∷ ys) x found = elim (p y) as (λ v. p y ≡ v → cond v (Some y) (find p ys) ≡ Some x → ((E x y || list_any (E x) ys) ≡ true) × (p x ≡ true)) [

@@ -21,9 +21,8 @@ use Rattle.link_planner.specs.Shrinking.{IsLess, IsShrunk, KeepsPorts}
 use Rattle.link_planner.specs.LinkPlans.{without_addrs, IsReady}
 use Rattle.plan_core.specs.Parts.{has_address, HasAddress, HasRoute, HasRule, IsPartOf, EachLink, EachRoute, EachRule, LinkFits, LinkIsFilled, RouteFits, RuleFits}
 
-pub part_itself : (net : NetData) → IsPartOf net net
-part_itself net = record { links = λ n. refl; addrs = λ n b h. h; routes = λ r h. h; rules = λ r h. h }
 
+-- and of what it is part of in steps
 pub part_more : (a b c : NetData) → IsPartOf a b → IsPartOf b c → IsPartOf a c
 part_more a b c first second = record {
   links = λ n. first.links n ∙ second.links n;
@@ -39,6 +38,7 @@ found_other a None l same e =
     absurd cc
 found_other a (Some k) l same e = (k, refl, some_same (without_addrs l) (without_addrs k) (ap (option_map without_addrs) (sym e) ∙ same))
 
+-- so of a part
 pub part_link : (few all : NetData) → IsPartOf few all → (n : List ℕ) (l : Link) → find_link n few.links ≡ Some l → (k : Link) × (find_link n all.links ≡ Some k) × (without_addrs l ≡ without_addrs k)
 part_link few all part n l found = found_other (find_link n few.links) (find_link n all.links) l (part.links n) found
 
@@ -64,6 +64,7 @@ less_of k l same addrs = record {
   addrs = addrs;
 }
 
+-- a part is a network of which some was taken away
 pub shrunk : (start net : NetData) → IsPartOf net start → IsShrunk start net
 shrunk start net part = record {
   links = λ n l found.
@@ -114,6 +115,7 @@ link_done P xs n l done found = let p = found_place xs n l l found in subst P p.
 pub one_more_count : (xs : List Link) (i : ℕ) (x : Link) → i < length xs → x ≡ get_or xs i x → address_count (take (i + 1) xs) ≡ address_count (take i xs) + length x.addrs
 one_more_count xs i x within is = sum_by_more (λ (l : Link). length l.addrs) xs i x within ∙ ap (λ (l : Link). address_count (take i xs) + length l.addrs) (sym is)
 
+-- and of all
 pub all_count : (xs : List Link) (i : ℕ) → length xs ≤ i → address_count (take i xs) ≡ address_count xs
 all_count xs i end = ap address_count (take_all i xs end)
 

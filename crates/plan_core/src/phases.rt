@@ -22,7 +22,6 @@ pub fn plan(alloc: Global, now_net: &Net, to_net: &Net) -> Result<Vec<Call>, Out
     take_off(now_net, to_net, &mut work, &mut calls)?;
     link_phases(alloc, now_net, to_net, &mut work, &mut calls)?;
     put_on(now_net, to_net, &mut work, &mut calls)?;
-    to_net.laws();
     plan_laws();
     Ok(calls)
 }

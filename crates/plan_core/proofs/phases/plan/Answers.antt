@@ -1,16 +1,13 @@
-use Rattle.std.proofs.Common.{arith, ◌≡◌, ◌≤◌, ◌+◌, ℕ, length, ap, sym, subst, ◌∙◌}
+use Rattle.std.proofs.Common.{arith, ◌≡◌, length, ap, subst}
 use Rattle.link_planner.specs.Drafts.{IsDraft}
-use Rattle.plan_model.specs.Plans.{most_calls, name_count}
-use Rattle.plan_core.proofs.Short.{few_names}
 use Rattle.plan_core.proofs.phases.plan.Goals as goal
 
 pub returns : goal.returns
 returns c =
     let draft : IsDraft c.args.now_net.now c.args.to_net.now c.put_on.new.calls.items c.args.to_net.now = subst (IsDraft c.args.now_net.now c.args.to_net.now c.put_on.new.calls.items) c.in_ok-put_on.ensures.done c.in_ok-put_on.ensures.draft in
-    let few : length c.args.to_net.now.links ≤ name_count c.args.now_net.now c.args.to_net.now = few_names c.args.now_net.now c.args.to_net.now c.laws.ensures.net in
     let none = ap length c.new-calls.ensures.items in
     record {
       run = c.plan_laws.ensures.run c.args.now_net.now c.args.to_net.now c.put_on.new.calls.items c.args.to_net.now draft.led;
       gentle = c.plan_laws.ensures.gentle c.args.now_net.now c.args.to_net.now c.put_on.new.calls.items c.args.to_net.now draft.led;
-      short = omega (arith, few, none, c.in_ok-take_off.ensures.count, c.in_ok-link_phases.ensures.count, c.in_ok-put_on.ensures.count);
+      short = omega (arith, none, c.in_ok-take_off.ensures.count, c.in_ok-link_phases.ensures.short, c.in_ok-put_on.ensures.count);
     }
