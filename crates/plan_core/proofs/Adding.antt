@@ -19,8 +19,8 @@ use Rattle.kernel_laws.specs.Takes.{TakesRoute}
 use Rattle.kernel_laws.proofs.lemmas.Taking.{is_accepted}
 use Rattle.plan_model.specs.Undisturbed.{IsUndisturbed, has_route}
 use Rattle.link_planner.specs.Drafts.{IsSafe}
-use Rattle.plan_core.specs.Parts.{has_address, HasAddress, HasRoute, HasRule, IsPartOf}
-use Rattle.plan_core.proofs.Members.{any_by, member_of, one_key, shorter}
+use Rattle.plan_core.specs.Parts.{HasRoute, HasRule, IsPartOf}
+use Rattle.plan_core.proofs.Members.{member_of, one_key, shorter}
 use Rattle.plan_core.proofs.Exact.{one_rule, rule_itself, one_route, route_itself, key_itself, key_both}
 use Rattle.plan_core.proofs.Dropping.{spares_all}
 

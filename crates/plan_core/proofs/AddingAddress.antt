@@ -1,5 +1,5 @@
 -- An address that is put on.
-use Rattle.std.proofs.Common.{◌≡◌, ℕ, ◌+◌, ◌<◌, ◌≤◌, zero, suc, Bool, true, false, not, ◌&&◌, ◌||◌, List, [], ◌∷◌, map, get_or, length, Option, Some, None, Ok, refl, sym, ap, subst, ◌∙◌, arith}
+use Rattle.std.proofs.Common.{◌≡◌, ℕ, ◌<◌, ◌≤◌, zero, suc, Bool, true, false, not, ◌||◌, List, [], ◌∷◌, map, get_or, length, Some, Ok, refl, sym, ap, subst, ◌∙◌, arith}
 use Rattle.std.specs.Prelude.{option_map}
 use Rattle.std.specs.Option.{option_map_or}
 use Rattle.std.specs.List.{list_any, list_all, sum_by}
@@ -33,8 +33,8 @@ use Rattle.plan_model.specs.Touched.{IsCalm}
 use Rattle.plan_model.specs.Undisturbed.{IsUndisturbed, has_route}
 use Rattle.link_planner.specs.Drafts.{IsSafe}
 use Rattle.link_planner.specs.LinkPlans.{without_addrs}
-use Rattle.plan_core.specs.Parts.{has_address, HasAddress, HasRule, IsPartOf}
-use Rattle.plan_core.proofs.Members.{any_by, member_of, one_key, no_longer, shorter}
+use Rattle.plan_core.specs.Parts.{has_address, HasAddress, IsPartOf}
+use Rattle.plan_core.proofs.Members.{member_of, one_key, no_longer, shorter}
 use Rattle.plan_core.proofs.Exact.{one_block, block_itself, address_itself, address_both}
 use Rattle.plan_core.proofs.PartOf.{found_other, part_link, link_with, has_of, found_place}
 use Rattle.plan_core.proofs.Dropping.{spares_name, touched_by}

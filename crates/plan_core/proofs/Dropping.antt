@@ -14,7 +14,6 @@ use Rattle.net_model.specs.declared.route.Route.{Route}
 use Rattle.net_model.specs.declared.call.Call.{Call}
 use Rattle.net_model.specs.declared.call.Call.TheVariants.{DelRule, DelRoute, DelAddress}
 use Rattle.net_model.proofs.lemmas.Found.{one_name}
-use Rattle.net_model.proofs.lemmas.ByName.{some_same, or_left}
 use Rattle.kernel_model.specs.Addresses.{has_block, without_address, stays_on_link}
 use Rattle.kernel_model.specs.Routes.{same_route}
 use Rattle.kernel_model.specs.Kernel.{step, after}

@@ -1,5 +1,5 @@
 -- What of one network stands in another.
-use Rattle.std.proofs.Common.{◌≡◌, ℕ, ◌+◌, ◌<◌, ◌≤◌, nat_le, zero, suc, Bool, true, false, cond, List, [], ◌∷◌, get_or, length, take, Option, Some, None, refl, sym, ap, subst, ◌∙◌, arith}
+use Rattle.std.proofs.Common.{◌≡◌, ℕ, ◌+◌, ◌<◌, ◌≤◌, nat_le, zero, suc, true, false, cond, List, [], ◌∷◌, get_or, length, take, Option, Some, None, refl, sym, ap, subst, ◌∙◌, arith}
 use Rattle.std.specs.Prelude.{option_map}
 use Rattle.std.specs.Option.{option_map_or}
 use Rattle.std.proofs.lemmas.List.{take_all}
@@ -15,14 +15,12 @@ use Rattle.net_model.proofs.lemmas.FactsHold.{facts}
 use Rattle.net_model.proofs.lemmas.Grounded.{found_named}
 use Rattle.net_model.proofs.lemmas.Parts.{le_of, not_le}
 use Rattle.kernel_model.specs.Addresses.{has_block}
-use Rattle.plan_model.specs.Undisturbed.{has_route}
 use Rattle.link_planner.specs.Kept.{is_kept}
 use Rattle.link_planner.specs.Shrinking.{IsLess, IsShrunk, KeepsPorts}
 use Rattle.link_planner.specs.LinkPlans.{without_addrs, IsReady}
-use Rattle.plan_core.specs.Parts.{has_address, HasAddress, HasRoute, HasRule, IsPartOf, EachLink, EachRoute, EachRule, LinkFits, LinkIsFilled, RouteFits, RuleFits}
+use Rattle.plan_core.specs.Parts.{has_address, HasAddress, IsPartOf, EachLink, EachRoute, EachRule, LinkFits, LinkIsFilled, RouteFits, RuleFits}
 
-
--- and of what it is part of in steps
+-- a part of a part is a part
 pub part_more : (a b c : NetData) → IsPartOf a b → IsPartOf b c → IsPartOf a c
 part_more a b c first second = record {
   links = λ n. first.links n ∙ second.links n;

@@ -1,5 +1,5 @@
 -- Networks of which each has what the other has are equal.
-use Rattle.std.proofs.Common.{◌≡◌, ℕ, Bool, true, List, Option, Some, None, refl, sym, ap, ◌∙◌}
+use Rattle.std.proofs.Common.{◌≡◌, ℕ, List, Option, Some, None, refl, sym, ap, ◌∙◌}
 use Rattle.std.specs.Prelude.{option_map}
 use Rattle.std.specs.List.{list_any}
 use Rattle.net_model.specs.Address.{Block}
@@ -10,9 +10,8 @@ use Rattle.net_model.specs.declared.link.Link.{Link}
 use Rattle.net_model.proofs.lemmas.FactsHold.{facts}
 use Rattle.net_model.proofs.lemmas.SameLists.{same_links, same_addresses, same_routes, same_rules}
 use Rattle.kernel_model.specs.Routes.{same_route}
-use Rattle.kernel_model.specs.Addresses.{has_block}
 use Rattle.link_planner.specs.LinkPlans.{without_addrs, ReachesLinks}
-use Rattle.plan_core.specs.Parts.{has_address, HasAddress, HasRoute, HasRule, IsPartOf}
+use Rattle.plan_core.specs.Parts.{HasAddress, HasRoute, HasRule, IsPartOf}
 use Rattle.plan_core.proofs.Members.{same_found}
 use Rattle.plan_core.proofs.Exact.{one_rule, rule_itself, one_route, route_itself, one_block, block_itself, key_itself, key_both, key_of_both, rule_both, rule_of_both, block_once, block_both, block_of_both}
 use Rattle.plan_core.proofs.PartOf.{found_other, has_of, link_with}

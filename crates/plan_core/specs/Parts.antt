@@ -18,6 +18,7 @@ use Rattle.link_planner.specs.LinkPlans.{without_addrs}
 abbrev pub has_address : NetData → List ℕ → Block → Bool
 has_address net name block = option_map_or (λ l. has_block block l.addrs) (find_link name net.links) false
 
+-- the address, the route, the rule is there
 abbrev pub HasAddress : NetData → List ℕ → Block → Type 0
 HasAddress net name block = has_address net name block ≡ true
 

@@ -1,4 +1,4 @@
-use Rattle.std.proofs.Common.{arith, ◌≡◌, length, ap, subst}
+use Rattle.std.proofs.Common.{arith, length, ap, subst}
 use Rattle.link_planner.specs.Drafts.{IsDraft}
 use Rattle.plan_core.proofs.phases.plan.Goals as goal
 

@@ -1,10 +1,9 @@
-use Rattle.std.proofs.Common.{arith, rules, ◌≡◌, ◌+◌, ◌<◌, ◌≤◌, List, length, get_or, ap, subst, ◌∙◌}
+use Rattle.std.proofs.Common.{arith, rules, ◌≡◌, ◌<◌, ◌≤◌, List, length, get_or, ap, subst, ◌∙◌}
 use Rattle.net_model.specs.declared.route.Route.{Route}
 use Rattle.kernel_model.specs.Routes.{same_route}
 use Rattle.plan_core.specs.Parts.{HasRoute}
 use Rattle.plan_core.proofs.Exact.{one_route, route_itself}
 use Rattle.plan_core.proofs.Members.{one_more_done, all_done}
-use Rattle.plan_core.proofs.PartOf.{part_more}
 use Rattle.plan_core.proofs.Places.{item_there}
 use Rattle.plan_core.proofs.put_on.add_routes.Goals as goal
 

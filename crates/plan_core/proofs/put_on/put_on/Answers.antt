@@ -1,4 +1,4 @@
-use Rattle.std.proofs.Common.{◌≡◌, ◌∙◌}
+use Rattle.std.proofs.Common.{◌∙◌}
 use Rattle.plan_core.proofs.Same.{links_one, routes_one, rules_one}
 use Rattle.plan_core.proofs.put_on.put_on.Goals as goal
 

@@ -1,5 +1,4 @@
-use Rattle.std.proofs.Common.{arith, rules, ◌≡◌, ◌+◌, ◌<◌, ◌≤◌, List, length, get_or, take, ap, sym, subst, ◌∙◌}
-use Rattle.net_model.specs.Valid.{address_count}
+use Rattle.std.proofs.Common.{arith, rules, ◌≡◌, ◌<◌, ◌≤◌, List, length, get_or, ap, subst, ◌∙◌}
 use Rattle.net_model.specs.declared.link.Link.{Link}
 use Rattle.plan_core.specs.Parts.{LinkFits}
 use Rattle.plan_core.proofs.PartOf.{part_more, one_more_link, all_links, one_more_count, all_count}

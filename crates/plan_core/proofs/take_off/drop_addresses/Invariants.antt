@@ -1,4 +1,4 @@
-use Rattle.std.proofs.Common.{◌+◌, ◌≤◌, ℕ, List, length, take}
+use Rattle.std.proofs.Common.{◌+◌, ◌≤◌, length, take}
 use Rattle.net_model.specs.Valid.{address_count}
 use Rattle.link_planner.specs.Drafts.{IsDraft}
 use Rattle.plan_core.specs.Parts.{IsPartOf, EachLink, LinkFits}

@@ -1,4 +1,4 @@
-use Rattle.std.proofs.Common.{arith, rules, ◌≡◌, ◌+◌, ◌<◌, ◌≤◌, List, length, get_or, ap, subst, ◌∙◌}
+use Rattle.std.proofs.Common.{arith, rules, ◌≡◌, ◌<◌, ◌≤◌, List, length, get_or, ap, subst, ◌∙◌}
 use Rattle.net_model.specs.declared.route.Route.{Route}
 use Rattle.kernel_model.specs.Routes.{same_route}
 use Rattle.plan_core.specs.Parts.{RouteFits}

@@ -1,4 +1,4 @@
-use Rattle.std.proofs.Common.{◌+◌, ◌≤◌, ℕ, List, length, take}
+use Rattle.std.proofs.Common.{◌+◌, ◌≤◌, length, take}
 use Rattle.link_planner.specs.Drafts.{IsDraft}
 use Rattle.plan_core.specs.Parts.{IsPartOf, EachRoute, RouteFits}
 use Rattle.plan_core.proofs.take_off.drop_routes.Given as goal

@@ -1,4 +1,4 @@
-use Rattle.std.proofs.Common.{arith, rules, ◌≡◌, ◌+◌, ◌<◌, ◌≤◌, List, length, get_or, ap, subst, ◌∙◌}
+use Rattle.std.proofs.Common.{arith, rules, ◌≡◌, ◌<◌, ◌≤◌, List, length, get_or, ap, subst, ◌∙◌}
 use Rattle.net_model.specs.Rule.{RuleParts}
 use Rattle.net_model.specs.Valid.{same_rule}
 use Rattle.plan_core.specs.Parts.{RuleFits}

@@ -1,5 +1,5 @@
-use Rattle.std.proofs.Common.{◌≡◌, subst}
-use Rattle.plan_core.specs.Parts.{IsPartOf, EachRule, EachRoute, RuleFits, RouteFits}
+use Rattle.std.proofs.Common.{subst}
+use Rattle.plan_core.specs.Parts.{IsPartOf}
 use Rattle.plan_core.proofs.PartOf.{part_more, ready}
 use Rattle.plan_core.proofs.take_off.take_off.Goals as goal
 
