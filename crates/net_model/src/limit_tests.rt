@@ -1,11 +1,10 @@
-//! Each limit on counts, at the limit and one past it; and the places that binary search finds.
+//! Each limit on counts, at the limit and one past it; and places in networks.
 
 use crate::tests::{a_route, a_rule, address, bridge, ethernet, name, no_dns, part};
 use crate::{
-    Addr, Dns, Domain, Items, Link, Name, Net, Parts, Place, Prefix, Route, Rule, address_place,
-    bridge_in_range, can_be_base, is_bond, is_bridge, is_default_bond, is_default_bridge,
-    is_default_port, is_ethernet, is_on_link, mtu_in_range, no_cycle, port_in_range, route_on_link,
-    takes,
+    Addr, Dns, Domain, Items, Link, Name, Net, Parts, Place, Prefix, Route, Rule, bridge_in_range,
+    can_be_base, is_bond, is_bridge, is_default_bond, is_default_bridge, is_default_port,
+    is_ethernet, is_on_link, mtu_in_range, port_in_range, route_on_link, takes,
 };
 use base_model::push_decimal;
 use std::alloc::Global;
@@ -149,35 +148,13 @@ fn parts(alloc: Global) -> Result<Parts, Fail> {
     })
 }
 
-fn places(net: &Net) -> Result<[Place; 6], Fail> {
-    let (mut there, mut absent) = (a_route("e0", 0)?, a_route("e0", 0)?);
-    there.metric = 2;
-    absent.metric = 3;
-    Ok([
-        net.link_place(&name("e1")?),
-        net.link_place(&name("e11")?),
-        net.route_place(&there),
-        net.route_place(&absent),
-        net.rule_place(&a_rule(1)),
-        net.rule_place(&a_rule(7)),
-    ])
-}
-
 #[test]
-fn places_by_binary_search(rt: HostRuntime) -> Result<(), Fail> {
+fn takes_stored_lists_in_order(rt: HostRuntime) -> Result<(), Fail> {
     let alloc = rt.alloc();
     let net = Net::of_parts(alloc, parts(alloc)?)?.ok_or("no network")?;
-    let (at, gap) = (Place::At, Place::Gap);
-    let wanted = [at(1), gap(2), at(2), gap(3), at(1), gap(3)];
-    assert_eq!(&rt; places(&net)?, wanted);
-    assert_eq!(&rt;
-        (net.has_link(&name("e2")?), net.has_link(&name("e3")?)),
-        (true, false)
-    );
-    let mut turned = parts(alloc)?;
-    turned.rules.swap(0, 1);
-    assert!(&rt; Net::of_parts(alloc, turned)?.is_none());
-    assert!(&rt; no_cycle(alloc, net.links())?);
+    assert!(&rt; net.link_place(&name("e1")?) == Place::At(1));
+    assert!(&rt; net.rule_place(&a_rule(7)) == Place::Gap(3));
+    assert!(&rt; net.has_link(&name("e2")?));
     Ok(())
 }
 
@@ -212,9 +189,5 @@ fn what_goes_with_what(rt: HostRuntime) -> Result<(), Fail> {
     port.addrs.push(address(0x0a000001, 24)?)?;
     assert!(&rt; is_on_link(port.addrs.items(), false, Addr::v4(0x0a0000fe)));
     assert!(&rt; route_on_link(&port, &a_route("eth1", 0x0a0000fe)?));
-    assert_eq!(&rt;
-        address_place(port.addrs.items(), &address(0x0a000001, 8)?),
-        Place::At(0)
-    );
     Ok(())
 }
