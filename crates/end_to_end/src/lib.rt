@@ -4,6 +4,12 @@
 // `apply -`.
 #[cfg(test)]
 mod apply;
+// Kernel calls from words.
+#[cfg(test)]
+mod calls;
+// Kernel calls on whole networks.
+#[cfg(test)]
+mod kernel;
 // Documents merged into a network.
 #[cfg(test)]
 mod merges;

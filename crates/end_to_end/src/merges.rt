@@ -39,7 +39,7 @@ fn merged(rt: &impl Abort, alloc: Global, net: &Net, text: &str) -> Result<Net, 
 }
 
 /// The network after these documents, one after another.
-fn after(rt: &impl Abort, alloc: Global, texts: &[&str]) -> Net {
+pub fn after(rt: &impl Abort, alloc: Global, texts: &[&str]) -> Net {
     let mut net = first(rt, alloc);
     for text in texts {
         net = merged(rt, alloc, &net, text).expect(rt, "a merge");
