@@ -186,18 +186,28 @@ fn is_at(place: &Place, text: &str) -> bool {
     }
 }
 
+fn breaks(
+    rt: &impl Abort,
+    alloc: Global,
+    net: &Net,
+    case: &(&'static str, u8, u8, &'static str),
+) -> Result<(), Fail> {
+    let (text, rule, which, place) = *case;
+    let refused = match merged(rt, alloc, net, text) {
+        Err(MergeFault::Refused(refused)) => refused,
+        _ => rt.abort(),
+    };
+    assert_eq!(rt; refused.rule, rule, "at {text}");
+    assert_eq!(rt; refused.which, which, "at {text}");
+    assert!(rt; is_at(&refused.place, place), "at {text}");
+    Ok(())
+}
+
 #[test]
 fn breaks_each_rule_at_its_place(rt: HostRuntime) -> Result<(), Fail> {
     let net = first(&rt, rt.alloc());
-    for (text, rule, which, place) in broken() {
-        match merged(&rt, rt.alloc(), &net, text) {
-            Err(MergeFault::Refused(refused)) => {
-                assert_eq!(&rt; refused.rule, rule, "at {text}");
-                assert_eq!(&rt; refused.which, which, "at {text}");
-                assert!(&rt; is_at(&refused.place, place), "at {text}");
-            }
-            _ => assert!(&rt; false, "at {text}"),
-        }
+    for case in broken() {
+        breaks(&rt, rt.alloc(), &net, &case)?;
     }
     Ok(())
 }
