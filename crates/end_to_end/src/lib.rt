@@ -13,9 +13,6 @@ mod kernel;
 // Documents merged into a network.
 #[cfg(test)]
 mod merges;
-// Plans, letter by letter.
-#[cfg(test)]
-mod plans;
 // What the tests are built of.
 #[cfg(test)]
 mod trial;

@@ -32,7 +32,7 @@ fn first(rt: &impl Abort, alloc: Global) -> Net {
     .expect(rt, "a network")
 }
 
-pub fn merged(rt: &impl Abort, alloc: Global, net: &Net, text: &str) -> Result<Net, MergeFault> {
+fn merged(rt: &impl Abort, alloc: Global, net: &Net, text: &str) -> Result<Net, MergeFault> {
     let tree = read_tree(rt, alloc, text);
     let doc = doc_of(alloc, &tree).expect(rt, "a document");
     merge(alloc, net, &doc)

@@ -1,6 +1,6 @@
 //! Plans, letter by letter; and that carrying them out leads to the target.
 
-use crate::merges::{after, merged};
+use crate::networks::{after, merged};
 use kernel_step::step;
 use net_model::{Call, Net};
 use net_text::write_call_line;
