@@ -1,6 +1,5 @@
 //! One run, and what is seen of it.
 
-use doc_tree::Tree;
 use host_core::Host;
 use host_memory::{FixedClock, Fuse, MemoryHost, MemorySink, MemorySource};
 use net_model::{
@@ -10,7 +9,6 @@ use nmstate_top::run_command;
 use std::alloc::{AllocError, Global};
 use std::process::Abort;
 use std::test::Fail;
-use yaml_read::tree_of_yaml;
 
 /// Which calls on each object fail.
 #[derive(Clone, Copy)]
@@ -181,9 +179,4 @@ pub fn check(rt: &impl Abort, alloc: Global, case: &Case) -> Result<(), Fail> {
         "at {name}"
     );
     Ok(())
-}
-
-/// The tree of a document in the YAML subset.
-pub fn read_tree(rt: &impl Abort, alloc: Global, text: &str) -> Tree {
-    tree_of_yaml(alloc, text.as_bytes()).expect(rt, "a tree")
 }

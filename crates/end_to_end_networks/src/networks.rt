@@ -13,7 +13,7 @@ const HARDWARE: &str =
     "hardware: [{name: eth1, mac-address: '52:54:00:00:00:01'}, {name: eth2, mac-address: '52:54:00:00:00:02'}]";
 
 /// The network of two devices that are down.
-fn first(rt: &impl Abort, alloc: Global) -> Net {
+pub fn first(rt: &impl Abort, alloc: Global) -> Net {
     let tree = tree_of_yaml(alloc, HARDWARE.as_bytes()).expect(rt, "a tree");
     let links = hardware_of(alloc, &tree).expect(rt, "a hardware list");
     let dns = Dns {

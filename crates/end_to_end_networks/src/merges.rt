@@ -1,51 +1,12 @@
 //! Documents in the YAML subset, merged into a network: each rule that one can break, and what the others make of it.
 
-use crate::trial::read_tree;
+use crate::networks::{after, first, merged};
 use document_model::Place;
-use link_schema::hardware_of;
-use merge_core::merge;
 use merge_model::MergeFault;
-use net_model::{Dns, Items, Name, Net};
-use route_schema::doc_of;
+use net_model::{Name, Net};
 use std::alloc::Global;
 use std::process::Abort;
 use std::test::Fail;
-
-const HARDWARE: &str =
-    "hardware: [{name: eth1, mac-address: '52:54:00:00:00:01'}, {name: eth2, mac-address: '52:54:00:00:00:02'}]";
-
-/// The network of two devices that are down.
-fn first(rt: &impl Abort, alloc: Global) -> Net {
-    let tree = read_tree(rt, alloc, HARDWARE);
-    let links = hardware_of(alloc, &tree).expect(rt, "a hardware list");
-    let dns = Dns {
-        servers: Items::of(Vec::new(alloc)),
-        search: Items::of(Vec::new(alloc)),
-    };
-    Net::new(
-        alloc,
-        links.into_vec(),
-        Vec::new(alloc),
-        Vec::new(alloc),
-        dns,
-    )
-    .expect(rt, "a network")
-}
-
-fn merged(rt: &impl Abort, alloc: Global, net: &Net, text: &str) -> Result<Net, MergeFault> {
-    let tree = read_tree(rt, alloc, text);
-    let doc = doc_of(alloc, &tree).expect(rt, "a document");
-    merge(alloc, net, &doc)
-}
-
-/// The network after these documents, one after another.
-pub fn after(rt: &impl Abort, alloc: Global, texts: &[&str]) -> Net {
-    let mut net = first(rt, alloc);
-    for text in texts {
-        net = merged(rt, alloc, &net, text).expect(rt, "a merge");
-    }
-    net
-}
 
 const VLAN_UP: &str =
     "interfaces: [{name: eth1, state: up, mtu: 9000}, {name: v, type: vlan, state: up, vlan: {base-iface: eth1, id: 5}}]";

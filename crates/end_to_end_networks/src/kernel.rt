@@ -1,7 +1,7 @@
 //! Kernel calls on whole networks: each refusal that a call can answer, and what the calls leave.
 
 use crate::calls::{call, rule};
-use crate::merges::after;
+use crate::networks::after;
 use kernel_step::{StepFault, step};
 use net_model::{Call, Name, Net};
 use std::alloc::Global;
