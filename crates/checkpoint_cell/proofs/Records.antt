@@ -6,7 +6,7 @@ use Rattle.byteorder.specs.Endian.{big_number, big_bytes}
 use Rattle.byteorder.specs.Numbers.{big_from-bytes, length-bytes_high_first}
 use Rattle.net_model.specs.NetData.{NetData}
 use Rattle.net_image.specs.Image.{IsImage}
-use Rattle.net_image.proofs.Images.{read}
+use Rattle.net_image.specs.Laws.{ImageLaws}
 use Rattle.image_slot.specs.Slot.{slot_net}
 use Rattle.image_slot.proofs.lemmas.Slots.{slot_net-image}
 use Rattle.checkpoint_cell.specs.declared.Phase.{Phase}
@@ -28,24 +28,24 @@ module _ (made deadline : ℕ) (net : NetData) (image rest : List ℕ) where
   abbrev behind : List ℕ
   behind = big_bytes 8 made ++ (big_bytes 8 deadline ++ (big_bytes 4 (length image) ++ (image ++ rest)))
 
-  pub written_record : made < 2 ^ 64 → deadline < 2 ^ 64 → length image ≤ 1048572 → IsImage image net
+  pub written_record : ImageLaws → made < 2 ^ 64 → deadline < 2 ^ 64 → length image ≤ 1048572 → IsImage image net
       → checkpoint_of (1 ∷ behind) ≡ applying made deadline net
-  written_record made_fits deadline_fits small is =
+  written_record laws made_fits deadline_fits small is =
       let first : big_number 8 behind ≡ made = big_from-bytes 8 made (big_bytes 8 deadline ++ (big_bytes 4 (length image) ++ (image ++ rest))) ∙ mod-eq_of_lt made_fits in
       let to_second : drop 8 behind ≡ big_bytes 8 deadline ++ (big_bytes 4 (length image) ++ (image ++ rest)) = drop_at (big_bytes 8 made) (big_bytes 8 deadline ++ (big_bytes 4 (length image) ++ (image ++ rest))) 8 (length-bytes_high_first 8 made) in
       let second : big_number 8 (drop 8 behind) ≡ deadline = ap (λ (l : List ℕ). big_number 8 l) to_second ∙ big_from-bytes 8 deadline (big_bytes 4 (length image) ++ (image ++ rest)) ∙ mod-eq_of_lt deadline_fits in
       let to_third : drop 16 behind ≡ big_bytes 4 (length image) ++ (image ++ rest) =
       ap (λ (l : List ℕ). drop 16 l) (sym (append_assoc (big_bytes 8 made) (big_bytes 8 deadline) (big_bytes 4 (length image) ++ (image ++ rest))))
       ∙ drop_at (big_bytes 8 made ++ big_bytes 8 deadline) (big_bytes 4 (length image) ++ (image ++ rest)) 16 (length-append (big_bytes 8 made) (big_bytes 8 deadline) ∙ (λ i. length-bytes_high_first 8 made i + length-bytes_high_first 8 deadline i)) in
-      let third : slot_net (drop 16 behind) ≡ Some net = ap slot_net to_third ∙ slot_net-image image rest small ∙ read image net is in
+      let third : slot_net (drop 16 behind) ≡ Some net = ap slot_net to_third ∙ slot_net-image image rest small ∙ laws.read image net is in
       behind_is Applying behind made deadline (Some net) first second third
 
-pub record_reads : (made deadline : ℕ) (net : NetData) (image rest : List ℕ) → made < 2 ^ 64 → deadline < 2 ^ 64 → length image ≤ 1048572 → IsImage image net
+pub record_reads : ImageLaws → (made deadline : ℕ) (net : NetData) (image rest : List ℕ) → made < 2 ^ 64 → deadline < 2 ^ 64 → length image ≤ 1048572 → IsImage image net
     → checkpoint_of ((1 ∷ (big_bytes 8 made ++ (big_bytes 8 deadline ++ (big_bytes 4 (length image) ++ image)))) ++ rest) ≡ applying made deadline net
-record_reads made deadline net image rest made_fits deadline_fits small is =
+record_reads laws made deadline net image rest made_fits deadline_fits small is =
     let A = big_bytes 8 made in
     let B = big_bytes 8 deadline in
     let C = big_bytes 4 (length image) in
     let regroup : (A ++ (B ++ (C ++ image))) ++ rest ≡ A ++ (B ++ (C ++ (image ++ rest))) =
     append_assoc A (B ++ (C ++ image)) rest ∙ ap (λ (l : List ℕ). A ++ l) (append_assoc B (C ++ image) rest ∙ ap (λ (l : List ℕ). B ++ l) (append_assoc C image rest)) in
-    ap (λ (l : List ℕ). checkpoint_of (1 ∷ l)) regroup ∙ written_record made deadline net image rest made_fits deadline_fits small is
+    ap (λ (l : List ℕ). checkpoint_of (1 ∷ l)) regroup ∙ written_record made deadline net image rest laws made_fits deadline_fits small is

@@ -15,7 +15,7 @@ stored g c tells =
     let image : IsImage c.deref.result.now c.args.net.now = subst (λ (l : List ℕ). IsImage l c.args.net.now) (sym c.deref.ensures.value) c.in_ok-image.ensures.image in
     stands_behind _ _ _ _ (c.in_ok-write_synced.ensures.written tells).0
     (λ rest. ap (λ (l : List ℕ). checkpoint_of (l ++ rest)) (c.deref-2.ensures.value ∙ c.in_ok-bytes.ensures.bytes)
-    ∙ record_reads c.args.made c.args.deadline c.args.net.now c.deref.result.now rest (omega (arith, c.ranges.made.fits)) (omega (arith, c.ranges.deadline.fits)) small image)
+    ∙ record_reads c.image_laws.ensures c.args.made c.args.deadline c.args.net.now c.deref.result.now rest (omega (arith, c.ranges.made.fits)) (omega (arith, c.ranges.deadline.fits)) small image)
 
 pub returns-in_err-write_synced-clause-stops : goal.returns-in_err-write_synced-clause-stops
 returns-in_err-write_synced-clause-stops g c = λ tells filled. put_first _ _ _ _ (c.requires tells) filled c.write_synced.ensures.stops
