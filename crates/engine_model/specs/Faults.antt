@@ -1,0 +1,121 @@
+-- When each answer of a call comes. A fault of the host brings the answers of faults, and running out of memory its own; every other
+-- answer is the command machine's.
+use Rattle.std.specs.Prelude.{◌≡◌, ◌≢◌, ◌⊎◌, ⊤, ℕ, true, false, List, Option, Some, None, Result, Ok, Err}
+use Rattle.net_model.specs.NetData.{NetData}
+use Rattle.host_core.specs.Faults.{Rose}
+use Rattle.host_core.specs.HostView.{State, HostView, WasRefused}
+use Rattle.engine_model.specs.Merge.{merge}
+use Rattle.checkpoint_cell.specs.Cell.{Checkpoint, saved_net}
+use Rattle.checkpoint_cell.specs.Loaded.{IsBad}
+use Rattle.checkpoint_cell.specs.Settled.{standing, taken_back}
+use Rattle.engine_model.specs.Differing.{differing}
+use Rattle.engine_model.specs.Machine.{Asked, Outcome, apply, commit}
+use Rattle.engine_model.specs.declared.answers.Left.{Left}
+use Rattle.engine_model.specs.declared.answers.Left.TheVariants.{NotBegun, RolledBack, Pending}
+use Rattle.engine_model.specs.declared.answers.Applied.{Applied}
+use Rattle.engine_model.specs.declared.answers.ApplyFault.{ApplyFault}
+use Rattle.engine_model.specs.declared.answers.ApplyFault.TheVariants as ap
+use Rattle.engine_model.specs.declared.answers.CommitFault.{CommitFault}
+use Rattle.engine_model.specs.declared.answers.CommitFault.TheVariants as co
+use Rattle.engine_model.specs.declared.answers.BackFault.{BackFault}
+use Rattle.engine_model.specs.declared.answers.BackFault.TheVariants as ba
+
+-- the machine's answer, and the host reads as what the machine leaves
+pub record IsOutcome {A E : Type 0} (machine : Outcome A E) (new : HostView) (result : Result A E) : Type 0 where
+  pub answer : machine.answer ≡ result
+  pub after : standing new.state ≡ machine.after
+
+-- what a fault's answer says of what stands, where the host tells it
+abbrev pub LeftSays : Type 0 → HostView → HostView → Left → Type 0
+LeftSays tells old new NotBegun = tells → new.state ≡ old.state
+LeftSays tells old new RolledBack = tells → (standing new.state).cell ≡ None
+LeftSays tells old new Pending = Unit {0}
+
+-- ---- commit, on every host: it looks at the checkpoint alone and takes no memory
+
+abbrev pub CommitAnswers : Type 0 → ℕ → HostView → HostView → Result ⊤ CommitFault → Type 0
+CommitAnswers tells now old new (Err co.HostFault) = Rose old.faults new.faults × LeftSays tells old new NotBegun
+CommitAnswers tells now old new (Err co.InDoubt) = Rose old.faults new.faults × (tells → (commit now (standing old.state)).answer ≡ Ok tt)
+CommitAnswers tells now old new result = tells → IsOutcome (commit now (standing old.state)) new result
+
+-- ---- on an honest host that is sound
+
+-- a checkpoint is there, and one that is to be taken back at this moment
+abbrev pub HasSet : Option Checkpoint → Type 0
+HasSet None = ⊥
+HasSet (Some c) = Unit {0}
+
+abbrev pub HasTaken : ℕ → Option Checkpoint → Type 0
+HasTaken now None = ⊥
+HasTaken now (Some c) = taken_back now c.phase c.made c.deadline ≡ true
+
+-- rollback and recover take memory only where a restoring begins
+abbrev pub BackAnswers : {A : Type 0} → Type 0 → Outcome A BackFault → HostView → HostView → Result A BackFault → Type 0
+BackAnswers begins machine old new (Err (ba.HostFault left)) = Rose old.faults new.faults × (left ≢ RolledBack)
+BackAnswers begins machine old new (Err (ba.KernelRefused k n left)) = ⊥
+BackAnswers begins machine old new (Err ba.OutOfMemory) = begins
+BackAnswers begins machine old new result = IsOutcome machine new result
+
+-- on every honest host, sound or not: but for faults and memory the answer is the machine's
+abbrev pub BackExact : {A : Type 0} → Result A BackFault → Result A BackFault → Type 0
+BackExact machine (Err (ba.HostFault left)) = Unit {0}
+BackExact machine (Err (ba.KernelRefused k n left)) = ⊥
+BackExact machine (Err ba.OutOfMemory) = Unit {0}
+BackExact machine result = machine ≡ result
+
+abbrev pub ApplyAnswers : Asked → HostView → HostView → Result Applied ApplyFault → Type 0
+ApplyAnswers a old new (Err (ap.HostFault left)) = Rose old.faults new.faults
+ApplyAnswers a old new (Err ap.InDoubt) = Rose old.faults new.faults
+ApplyAnswers a old new (Err (ap.KernelRefused k n left)) = ⊥
+ApplyAnswers a old new (Err (ap.NotVerified found left)) = ⊥
+ApplyAnswers a old new (Err ap.OutOfMemory) = Unit {0}
+ApplyAnswers a old new result = IsOutcome (apply a (standing old.state)) new result
+
+-- ---- on every host; of its content only where the host tells it
+
+-- what was dumped last is the merge of the network that was saved
+pub record Verified (a : Asked) (new : HostView) : Type 0 where
+  pub saved : NetData
+  pub fresh : NetData
+  pub is_saved : saved_net new.state.cell ≡ Some saved
+  pub is_fresh : new.fresh ≡ Some fresh
+  pub merges : merge saved a.doc ≡ Ok fresh
+
+-- the kernel area has no network, or no image stands behind an open gate
+abbrev pub IsDamaged : ℕ → State → Type 0
+IsDamaged area s = ((area ≡ 0) × (s.net ≡ None)) ⊎ ((area ≡ 1) × IsBad (standing s).cell)
+
+-- some pair that was left on the way has no network, or no image behind an open gate
+pub record HadDamaged (area : ℕ) (old new : HostView) : Type 0 where
+  pub pair : State
+  pub left : new.stops.left_since old.stops.moment pair
+  pub damaged : IsDamaged area pair
+
+-- the network that was dumped and the saved one have other devices, and these are all such names
+pub record Differs (names : List (List ℕ)) (new : HostView) : Type 0 where
+  pub saved : NetData
+  pub found : NetData
+  pub is_saved : saved_net new.state.cell ≡ Some saved
+  pub is_found : new.fresh ≡ Some found
+  pub all : differing saved found ≡ names
+
+abbrev pub ApplySays : Type 0 → Asked → HostView → HostView → Result Applied ApplyFault → Type 0
+ApplySays tells a old new (Ok done) = tells → a.opts.no_verify ≡ false → Verified a new
+ApplySays tells a old new (Err (ap.Pending deadline)) = tells → (apply a (standing old.state)).answer ≡ Err (ap.Pending deadline)
+ApplySays tells a old new (Err (ap.MergeRefused refused)) = tells → (from : NetData) × (new.fresh ≡ Some from) × (merge from a.doc ≡ Err refused)
+ApplySays tells a old new (Err (ap.HostFault left)) = Rose old.faults new.faults × LeftSays tells old new left
+ApplySays tells a old new (Err ap.InDoubt) = Rose old.faults new.faults
+ApplySays tells a old new (Err (ap.KernelRefused k n left)) = WasRefused k n old.kernel new.kernel
+ApplySays tells a old new (Err (ap.NotVerified found left)) = (left ≡ RolledBack) × (tells → (saved : NetData) × (saved_net new.state.cell ≡ Some saved) × (merge saved a.doc ≢ Ok found))
+ApplySays tells a old new (Err (ap.Damaged area)) = tells → HadDamaged area old new
+ApplySays tells a old new (Err (ap.HardwareDiffers names)) = tells → Differs names new
+ApplySays tells a old new (Err ap.OutOfMemory) = Unit {0}
+
+-- of a rollback or a recovery, where the machine answers so
+abbrev pub BackSays : {A : Type 0} → Type 0 → Result A BackFault → HostView → HostView → Result A BackFault → Type 0
+BackSays tells machine old new (Err ba.NoCheckpoint) = tells → machine ≡ Err ba.NoCheckpoint
+BackSays tells machine old new (Err (ba.HostFault left)) = Rose old.faults new.faults × LeftSays tells old new left × (left ≢ RolledBack)
+BackSays tells machine old new (Err (ba.KernelRefused k n left)) = WasRefused k n old.kernel new.kernel
+BackSays tells machine old new (Err (ba.Damaged area)) = tells → HadDamaged area old new
+BackSays tells machine old new (Err (ba.HardwareDiffers names)) = tells → Differs names new
+BackSays tells machine old new result = Unit {0}

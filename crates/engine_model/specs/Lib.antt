@@ -1,0 +1,9 @@
+pub mod Differing
+pub mod Merge
+pub mod Undone
+pub mod Sound
+pub mod Stations
+pub mod Machine
+pub mod Exit
+pub mod Faults
+pub mod Answers
