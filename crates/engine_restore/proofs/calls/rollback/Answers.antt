@@ -1,0 +1,90 @@
+use Rattle.std.proofs.Common.{◌≡◌, Err, sym, ap, subst}
+use Rattle.std.specs.Prelude.{⊤}
+use Rattle.checkpoint_cell.specs.Settled.{Standing, standing}
+use Rattle.checkpoint_cell.specs.Cell.{cell_of}
+use Rattle.checkpoint_cell.specs.Steps.{Holds}
+use Rattle.engine_model.specs.Sound.{Sound}
+use Rattle.engine_model.specs.Stations.{Only, Ends}
+use Rattle.engine_model.specs.Answers.{IsUndone}
+use Rattle.engine_model.specs.Machine.{rollback}
+use Rattle.engine_model.proofs.lemmas.Leading.{kept_wider}
+use Rattle.engine_model.proofs.lemmas.Machines.{ends_within, ends_reads, read_within, going_as}
+use Rattle.engine_model.proofs.lemmas.Backs.{undone_only, rolled_back, fault_exit, fault_reads}
+use Rattle.std.specs.Prelude.{Bool}
+use Rattle.std.proofs.Common.{refl}
+use Rattle.engine_model.proofs.lemmas.Finding.{rolled_exact, rollback_exact}
+use Rattle.engine_restore.proofs.calls.rollback.Goals as goal
+use Rattle.engine_restore.proofs.calls.rollback.Goals.{After-go_back, In-Ok-true}
+
+only : (g : _) (c : After-go_back g) → g.H.Host.honest → Sound (g.H.Host.told c.args.host.now) → (a : Standing) → IsUndone (g.H.Host.told c.args.host.now).state a → a ≡ (rollback (standing (g.H.Host.told c.args.host.now).state)).after
+only g c honest sound = undone_only (g.H.Host.told c.args.host.now).state (sound.fit (g.H.Host.told c.args.host.now).state ((g.met.H.Host.lawful c.args.host.now).reads (g.met.H.Host.honest_tells honest)))
+
+ends : (g : _) (c : In-Ok-true g) → g.H.Host.honest → Sound (g.H.Host.told c.args.host.now) → Ends (rollback (standing (g.H.Host.told c.args.host.now).state)).after (g.H.Host.told c.go_back.new.host)
+ends g c honest sound =
+    let done = c.in-Ok-true.ensures.ends honest sound c.in-Ok-true.field-0-test in
+    subst (λ (x : Standing). Ends x (g.H.Host.told c.go_back.new.host)) (only g (goal.at.In-Ok-true g c).After-go_back honest sound done.0 done.1) done.2
+
+pub returns-in-Ok-true-clause-answer : goal.returns-in-Ok-true-clause-answer
+returns-in-Ok-true-clause-answer g c = λ honest sound.
+    let tells = g.met.H.Host.honest_tells honest in
+    let old = g.H.Host.told c.args.host.now in
+    let new = g.H.Host.told c.go_back.new.host in
+    record {
+      answer = rolled_back old.state (sound.fit old.state ((g.met.H.Host.lawful c.args.host.now).reads tells)) (c.in-Ok-true.ensures.set tells c.in-Ok-true.field-0-test);
+      after = ends g (goal.at.returns-in-Ok-true-clause-answer g c).In-Ok-true honest sound new.state ((g.met.H.Host.lawful c.go_back.new.host).reads tells);
+    }
+
+pub returns-in-Ok-true-clause-exit : goal.returns-in-Ok-true-clause-exit
+returns-in-Ok-true-clause-exit g c = λ honest sound.
+    ends_within (g.H.Host.told c.args.host.now) (g.H.Host.told c.go_back.new.host) _ (ends g (goal.at.returns-in-Ok-true-clause-exit g c).In-Ok-true honest sound)
+
+pub returns-in-Ok-true-clause-reads : goal.returns-in-Ok-true-clause-reads
+returns-in-Ok-true-clause-reads g c = λ honest sound.
+    ends_reads (g.H.Host.told c.args.host.now) (g.H.Host.told c.go_back.new.host) _ ((g.met.H.Host.lawful c.go_back.new.host).reads (g.met.H.Host.honest_tells honest)) (ends g (goal.at.returns-in-Ok-true-clause-reads g c).In-Ok-true honest sound)
+
+pub returns-in-Ok-true-clause-kept : goal.returns-in-Ok-true-clause-kept
+returns-in-Ok-true-clause-kept g c = λ honest sound.
+    let old = g.H.Host.told c.args.host.now in
+    kept_wider (IsUndone old.state) (Only (rollback (standing old.state)).after) (only g (goal.at.returns-in-Ok-true-clause-kept g c).After-go_back honest sound) old (g.H.Host.told c.go_back.new.host) (c.go_back.ensures.kept honest sound)
+
+pub returns-in-Err-clause-kept : goal.returns-in-Err-clause-kept
+returns-in-Err-clause-kept g c = λ honest sound.
+    let old = g.H.Host.told c.args.host.now in
+    kept_wider (IsUndone old.state) (Only (rollback (standing old.state)).after) (only g (goal.at.returns-in-Err-clause-kept g c).After-go_back honest sound) old (g.H.Host.told c.go_back.new.host) (c.go_back.ensures.kept honest sound)
+
+pub returns-in-Ok-false-clause-exit : goal.returns-in-Ok-false-clause-exit
+returns-in-Ok-false-clause-exit g c = λ honest sound.
+    let tells = g.met.H.Host.honest_tells honest in
+    let old = g.H.Host.told c.args.host.now in
+    let new = g.H.Host.told c.go_back.new.host in
+    read_within old new (c.in-Ok-false.ensures.stays c.in-Ok-false.field-0-test)
+    (subst (λ k. Holds k new) (sym (c.in-Ok-false.ensures.empty tells c.in-Ok-false.field-0-test)) (c.in-Ok-false.ensures.cleared tells))
+
+pub returns-in-Err-clause-exit : goal.returns-in-Err-clause-exit
+returns-in-Err-clause-exit g c = λ honest sound.
+    let old = g.H.Host.told c.args.host.now in
+    let new = g.H.Host.told c.go_back.new.host in
+    let e = c.in-Err.ensures in
+    fault_exit (rollback (standing old.state)).after old new ((g.met.H.Host.lawful c.args.host.now).reads (g.met.H.Host.honest_tells honest)) ⊤ c.in-Err.fault (e.healthy honest sound)
+    (λ is. e.set_there (ap (λ x. Err x) is)) e.before
+    (λ begun. going_as (IsUndone old.state) (Only (rollback (standing old.state)).after) old new (only g (goal.at.returns-in-Err-clause-exit g c).After-go_back honest sound) (e.going honest sound begun))
+
+pub returns-in-Err-clause-reads : goal.returns-in-Err-clause-reads
+returns-in-Err-clause-reads g c = λ honest sound.
+    let tells = g.met.H.Host.honest_tells honest in
+    let old = g.H.Host.told c.args.host.now in
+    let new = g.H.Host.told c.go_back.new.host in
+    let e = c.in-Err.ensures in
+    fault_reads (rollback (standing old.state)).after old new ((g.met.H.Host.lawful c.args.host.now).reads tells) ⊤ c.in-Err.fault ((g.met.H.Host.lawful c.go_back.new.host).reads tells) (e.healthy honest sound)
+    (λ is. e.set_there (ap (λ x. Err x) is)) (λ before. e.same before tells)
+    (λ begun. going_as (IsUndone old.state) (Only (rollback (standing old.state)).after) old new (only g (goal.at.returns-in-Err-clause-reads g c).After-go_back honest sound) (e.going honest sound begun))
+
+pub returns-in-Ok-true-clause-exact : goal.returns-in-Ok-true-clause-exact
+returns-in-Ok-true-clause-exact g c = λ honest.
+    let old = g.H.Host.told c.args.host.now in
+    rolled_exact old.state (cell_of old.state.cell) refl (c.in-Ok-true.ensures.set (g.met.H.Host.honest_tells honest) c.in-Ok-true.field-0-test) (λ checkpoint is. c.in-Ok-true.ensures.exact honest checkpoint is)
+
+pub returns-in-Err-clause-exact : goal.returns-in-Err-clause-exact
+returns-in-Err-clause-exact g c = λ honest.
+    let old = g.H.Host.told c.args.host.now in
+    rollback_exact old.state (cell_of old.state.cell) refl Bool c.in-Err.fault (λ checkpoint is. c.in-Err.ensures.exact honest checkpoint is) (c.in-Err.ensures.unset (g.met.H.Host.honest_tells honest))

@@ -1,0 +1,76 @@
+//! The calls that take a change back.
+ghost use Rattle.std.specs.Prelude.{◌≡◌, ◌≤◌, ℕ, Ok, IsErrOf};
+ghost use Rattle.checkpoint_cell.specs.Settled.{standing};
+ghost use Rattle.engine_model.specs.Machine.{rollback, recover, settle};
+ghost use Rattle.engine_model.specs.Sound.{Sound};
+ghost use Rattle.engine_model.specs.Stations.{Only, Kept, at, entry_of, left_by};
+ghost use Rattle.engine_model.specs.Exit.{BackExit};
+ghost use Rattle.engine_model.specs.Faults.{BackAnswers, BackExact, BackSays, HasSet, HasTaken};
+
+use crate::restoring::{go_back, take_back};
+use engine_model::{BackFault, Recovered};
+use host_core::Host;
+use std::alloc::Global;
+
+/// Takes back a change, whether it waits or is being made.
+pub fn rollback<H: Host>(host: &mut H, alloc: Global) -> Result<(), BackFault>
+    ensures says { BackSays H.tells (rollback (standing (H.told host.old).state)).answer (H.told host.old) (H.told host.new) result }
+    ensures answer { H.honest → Sound (H.told host.old)
+        → BackAnswers (HasSet (standing (H.told host.old).state).cell) (rollback (standing (H.told host.old).state)) (H.told host.old) (H.told host.new) result }
+    // Also where the host isn't sound: but for faults and memory the answer is the machine's.
+    ensures exact { H.honest → BackExact (rollback (standing (H.told host.old).state)).answer result }
+    ensures exit { H.honest → Sound (H.told host.old) → BackExit (rollback (standing (H.told host.old).state)).after (entry_of (H.told host.old)) (left_by (H.told host.new)) result }
+    ensures reads { H.honest → Sound (H.told host.old) → BackExit (rollback (standing (H.told host.old).state)).after (at (standing (H.told host.old).state)) (Only (standing (H.told host.new).state)) result }
+    ensures kept { H.honest → Sound (H.told host.old) → Kept (Only (rollback (standing (H.told host.old).state)).after) (H.told host.old) (H.told host.new) }
+    // It takes memory only where a checkpoint stands.
+    ensures memory { H.tells → IsErrOf result BackFault.OutOfMemory → HasSet (standing (H.told host.old).state).cell }
+    ensures later { (H.told host.old).faults ≤ (H.told host.new).faults }
+{
+    match go_back(host, alloc) {
+        Ok(true) => Ok(()),
+        Ok(false) => Err(BackFault::NoCheckpoint),
+        Err(fault) => Err(fault),
+    }
+}
+
+/// Takes back a change that is being made or is due.
+pub fn recover<H: Host>(host: &mut H, alloc: Global, now: u64) -> Result<Recovered, BackFault>
+    ensures says { BackSays H.tells (recover now (standing (H.told host.old).state)).answer (H.told host.old) (H.told host.new) result }
+    ensures answer { H.honest → Sound (H.told host.old)
+        → BackAnswers (HasTaken now (standing (H.told host.old).state).cell) (recover now (standing (H.told host.old).state)) (H.told host.old) (H.told host.new) result }
+    // Also where the host isn't sound: but for faults and memory the answer is the machine's.
+    ensures exact { H.honest → BackExact (recover now (standing (H.told host.old).state)).answer result }
+    ensures exit { H.honest → Sound (H.told host.old) → BackExit (recover now (standing (H.told host.old).state)).after (entry_of (H.told host.old)) (left_by (H.told host.new)) result }
+    ensures reads { H.honest → Sound (H.told host.old) → BackExit (recover now (standing (H.told host.old).state)).after (at (standing (H.told host.old).state)) (Only (standing (H.told host.new).state)) result }
+    ensures kept { H.honest → Sound (H.told host.old) → Kept (Only (recover now (standing (H.told host.old).state)).after) (H.told host.old) (H.told host.new) }
+    // It takes memory only where a change is to be taken back.
+    ensures memory { H.tells → IsErrOf result BackFault.OutOfMemory → HasTaken now (standing (H.told host.old).state).cell }
+    // Where it restores nothing, it says so of each host that tells its content.
+    ensures nothing { H.tells → result ≡ Ok Recovered.Nothing → (recover now (standing (H.told host.old).state)).answer ≡ Ok Recovered.Nothing }
+    ensures waiting { H.tells → (deadline : ℕ) → result ≡ Ok (Recovered.Waiting deadline) → (recover now (standing (H.told host.old).state)).answer ≡ Ok (Recovered.Waiting deadline) }
+    ensures later { (H.told host.old).faults ≤ (H.told host.new).faults }
+{
+    take_back(host, alloc, now)
+}
+
+/// Takes back a change that is being made or is due, and answers when one that waits is due.
+pub fn settle<H: Host>(host: &mut H, alloc: Global, now: u64) -> Result<Option<u64>, BackFault>
+    ensures says { BackSays H.tells (settle now (standing (H.told host.old).state)).answer (H.told host.old) (H.told host.new) result }
+    ensures answer { H.honest → Sound (H.told host.old)
+        → BackAnswers (HasTaken now (standing (H.told host.old).state).cell) (settle now (standing (H.told host.old).state)) (H.told host.old) (H.told host.new) result }
+    // Also where the host isn't sound: but for faults and memory the answer is the machine's.
+    ensures exact { H.honest → BackExact (settle now (standing (H.told host.old).state)).answer result }
+    ensures exit { H.honest → Sound (H.told host.old) → BackExit (recover now (standing (H.told host.old).state)).after (entry_of (H.told host.old)) (left_by (H.told host.new)) result }
+    ensures reads { H.honest → Sound (H.told host.old) → BackExit (recover now (standing (H.told host.old).state)).after (at (standing (H.told host.old).state)) (Only (standing (H.told host.new).state)) result }
+    ensures kept { H.honest → Sound (H.told host.old) → Kept (Only (recover now (standing (H.told host.old).state)).after) (H.told host.old) (H.told host.new) }
+    // It takes memory only where a change is to be taken back.
+    ensures memory { H.tells → IsErrOf result BackFault.OutOfMemory → HasTaken now (standing (H.told host.old).state).cell }
+    ensures later { (H.told host.old).faults ≤ (H.told host.new).faults }
+{
+    match recover(host, alloc, now) {
+        Ok(Recovered::Waiting { deadline }) => Ok(Some(deadline)),
+        Ok(Recovered::Nothing) => Ok(None),
+        Ok(Recovered::Restored) => Ok(None),
+        Err(fault) => Err(fault),
+    }
+}

@@ -1,0 +1,268 @@
+ghost use Rattle.std.specs.Prelude.{◌≡◌, ◌≢◌, ◌⊎◌, ◌≤◌, ℕ, not, true, false, List, None, Some, OnOk, OnErr, IfOk, IfErr, IsErrOf, IsSome};
+ghost use Rattle.net_model.specs.NetData.{NetData, IsNet};
+ghost use Rattle.kernel_model.specs.Runs.{Runs};
+ghost use Rattle.host_core.specs.Faults.{Rose, HasCause, HasFault};
+ghost use Rattle.host_core.specs.Stops.{Steps, Stays};
+ghost use Rattle.host_core.specs.HostView.{State, HasNet, SameKernel, WasRefused, NoneRefused};
+ghost use Rattle.checkpoint_cell.specs.Cell.{Checkpoint, cell_of, saved_net, is_due, applying, in_phase};
+ghost use Rattle.checkpoint_cell.specs.Steps.{Holds};
+ghost use Rattle.checkpoint_cell.specs.Loaded.{IsBad};
+ghost use Rattle.checkpoint_cell.specs.Settled.{Standing, standing, settled, taken_back, Alike};
+ghost use Rattle.engine_model.specs.Machine.{saved_on};
+ghost use Rattle.engine_model.specs.Undone.{undone, stand};
+ghost use Rattle.engine_model.specs.Sound.{Sound};
+ghost use Rattle.engine_model.specs.Stations.{Only, Kept, Ends, IsSettled, Waits, FromRead, Any};
+ghost use Rattle.checkpoint_cell.specs.Settled.{restored_to};
+ghost use Rattle.engine_model.specs.Answers.{IsBefore, IsHealthy, IsClear, IsTaken, IsUndone, Finds};
+ghost use Rattle.engine_model.specs.Faults.{IsDamaged, Differs};
+
+use crate::devices::differing;
+use crate::running::{RunFault, run};
+use checkpoint_cell::{CellFault, Phase, Seen, barrier, clear, due, load, mark_applying};
+use engine_model::{BackFault, Left, Recovered};
+use host_core::{DumpFault, Failed, Host};
+use net_model::{Call, Net, OutOfMemory};
+use plan_core::plan;
+use std::alloc::Global;
+
+// Plans the calls that lead back to the saved network.
+fn ready<H: Host>(host: &mut H, alloc: Global) -> Result<Vec<Call>, BackFault>
+    requires { H.tells → (checkpoint : Checkpoint) × Holds (Some checkpoint) (H.told host.old) }
+    ensures planned { H.honest → (checkpoint : Checkpoint) (saved : NetData) → cell_of (H.told host.old).state.cell ≡ Some checkpoint → checkpoint.net ≡ Some saved
+        → IfOk result (λ calls. (from : NetData) × ((H.told host.new).state.net ≡ Some from) × IsNet from × Runs calls.items from saved) }
+    ensures settled { OnOk result (H.told host.new).settled }
+    ensures state { H.tells → (H.told host.new).state ≡ (H.told host.old).state }
+    ensures stops { Steps Stays (H.told host.old).stops (H.told host.new).stops }
+    ensures quiet { NoneRefused (H.told host.old).kernel (H.told host.new).kernel }
+    ensures calls { OnOk result ((H.told host.new).kernel.calls ≡ 0) }
+    ensures refused { (k n : ℕ) (left : Left) → IsErrOf result (BackFault.KernelRefused k n left) → ⊥ }
+    ensures healthy { H.honest → Sound (H.told host.old) → IfErr result (λ fault. IsHealthy fault) }
+    ensures exact { H.honest → (checkpoint : Checkpoint) → Holds (Some checkpoint) (H.told host.old) → Finds (saved_on checkpoint.net (H.told host.old).state.net) result }
+    ensures begun { IsErrOf result (BackFault.HostFault Left.Pending) → ⊥ }
+    ensures fault { (left : Left) → IsErrOf result (BackFault.HostFault left) → Rose (H.told host.old).faults (H.told host.new).faults }
+    ensures set_there { IsErrOf result BackFault.NoCheckpoint → ⊥ }
+    ensures side { (left : Left) → IsErrOf result (BackFault.HostFault left) → left ≢ Left.RolledBack }
+    ensures damaged { H.tells → (area : ℕ) → IsErrOf result (BackFault.Damaged area) → IsDamaged area (H.told host.old).state }
+    ensures differs { H.tells → (names : List (List ℕ)) → IsErrOf result (BackFault.HardwareDiffers names) → Differs names (H.told host.new) }
+    ensures later { (H.told host.old).faults ≤ (H.told host.new).faults }
+{
+    let pending = match load(host, alloc) {
+        Ok(Some(pending)) => pending,
+        Ok(None) => return Err(BackFault::Damaged(1)),
+        Err(CellFault::Failed) => return Err(BackFault::HostFault(Left::NotBegun)),
+        Err(CellFault::Damaged) => return Err(BackFault::Damaged(1)),
+        Err(CellFault::OutOfMemory) => return Err(BackFault::OutOfMemory),
+    };
+    let found = match host.dump(alloc) {
+        Ok(found) => found,
+        Err(DumpFault::Failed) => return Err(BackFault::HostFault(Left::NotBegun)),
+        Err(DumpFault::Damaged) => return Err(BackFault::Damaged(0)),
+        Err(DumpFault::OutOfMemory) => return Err(BackFault::OutOfMemory),
+    };
+    found.laws();
+    pending.net.laws();
+    if !found.same_hardware(&pending.net) {
+        return match differing(alloc, &pending.net, &found) {
+            Ok(names) => Err(BackFault::HardwareDiffers(names)),
+            Err(OutOfMemory) => Err(BackFault::OutOfMemory),
+        };
+    }
+    match plan(alloc, &found, &pending.net) {
+        Ok(calls) => Ok(calls),
+        Err(OutOfMemory) => Err(BackFault::OutOfMemory),
+    }
+}
+
+// Marks a change that waits as one that is being made.
+fn take_up<H: Host>(host: &mut H, phase: Phase) -> Result<(), Failed>
+    requires { H.tells → (checkpoint : Checkpoint) × Holds (Some checkpoint) (H.told host.old) × (checkpoint.phase ≡ phase) }
+    ensures taken { H.tells → (checkpoint : Checkpoint) → Holds (Some checkpoint) (H.told host.old) → OnOk result (Holds (Some (in_phase Phase.Applying checkpoint)) (H.told host.new)) }
+    ensures kept { H.tells → Sound (H.told host.old) → (checkpoint : Checkpoint) (net saved : NetData) → Holds (Some checkpoint) (H.told host.old) → Ends (stand net (Some checkpoint)) (H.told host.old)
+        → checkpoint.net ≡ Some saved → Kept (Only (restored_to saved)) (H.told host.old) (H.told host.new) }
+    ensures ends { H.tells → (checkpoint : Checkpoint) (net : NetData) → Holds (Some checkpoint) (H.told host.old) → Ends (stand net (Some checkpoint)) (H.told host.old)
+        → OnOk result (Ends (stand net (Some (in_phase Phase.Applying checkpoint))) (H.told host.new)) }
+    ensures moves { Steps Any (H.told host.old).stops (H.told host.new).stops }
+    ensures kernel { SameKernel H.tells (H.told host.old) (H.told host.new) }
+    ensures cause { HasCause (H.told host.old).faults (H.told host.new).faults result }
+{
+    match phase {
+        Phase::Applying => Ok(()),
+        Phase::Waiting => mark_applying(host),
+    }
+}
+
+// Makes the calls that lead back to the saved network, and clears the checkpoint.
+fn undo<H: Host>(host: &mut H, alloc: Global, calls: &[Call]) -> Result<(), BackFault>
+    requires settled { (H.told host.old).settled }
+    requires cell { H.tells → (checkpoint : Checkpoint) × Holds (Some checkpoint) (H.told host.old) }
+    ensures cleared { H.tells → OnOk result (Holds None (H.told host.new)) }
+    ensures kept { H.honest → Sound (H.told host.old) → (made deadline : ℕ) (from saved : NetData) → Ends (stand from (Some (applying made deadline saved))) (H.told host.old) → (H.told host.old).state.net ≡ Some from
+        → IsNet from → Runs calls.now from saved → Kept (Only (restored_to saved)) (H.told host.old) (H.told host.new) }
+    ensures ends { H.honest → (from saved : NetData) → (H.told host.old).state.net ≡ Some from → Runs calls.now from saved → OnOk result (Ends (restored_to saved) (H.told host.new)) }
+    ensures healthy { H.honest → (from saved : NetData) → (H.told host.old).state.net ≡ Some from → Runs calls.now from saved → IfErr result (λ fault. IsHealthy fault) }
+    ensures begun { IfErr result (λ fault. IsBefore fault → ⊥) }
+    ensures refused { (k n : ℕ) (left : Left) → IsErrOf result (BackFault.KernelRefused k n left) → (H.told host.old).kernel.calls ≡ 0 → WasRefused k n (H.told host.old).kernel (H.told host.new).kernel }
+    ensures quiet { OnOk result (NoneRefused (H.told host.old).kernel (H.told host.new).kernel) }
+    ensures fault { (left : Left) → IsErrOf result (BackFault.HostFault left) → Rose (H.told host.old).faults (H.told host.new).faults }
+    ensures set_there { IsErrOf result BackFault.NoCheckpoint → ⊥ }
+    ensures side { (left : Left) → IsErrOf result (BackFault.HostFault left) → left ≢ Left.RolledBack }
+    ensures moves { Steps Any (H.told host.old).stops (H.told host.new).stops }
+    ensures saved { H.tells → OnOk result (saved_net (H.told host.new).state.cell ≡ saved_net (H.told host.old).state.cell) }
+    ensures later { (H.told host.old).faults ≤ (H.told host.new).faults }
+{
+    match run(host, alloc, calls) {
+        Ok(()) => {}
+        Err(RunFault::Refused(k, n)) => return Err(BackFault::KernelRefused(k, n, Left::Pending)),
+        Err(RunFault::Failed) => return Err(BackFault::HostFault(Left::Pending)),
+        Err(RunFault::OutOfMemory) => return Err(BackFault::OutOfMemory),
+    }
+    match clear(host) {
+        Ok(()) => Ok(()),
+        Err(Failed) => Err(BackFault::HostFault(Left::Pending)),
+    }
+}
+
+// Leads back to the network of the checkpoint, and clears it.
+fn restore<H: Host>(host: &mut H, alloc: Global, phase: Phase) -> Result<(), BackFault>
+    requires { H.tells → (checkpoint : Checkpoint) × Holds (Some checkpoint) (H.told host.old) × (checkpoint.phase ≡ phase) }
+    ensures cleared { H.tells → OnOk result (Holds None (H.told host.new)) }
+    ensures kept { H.honest → Sound (H.told host.old) → (checkpoint : Checkpoint) (saved : NetData) → Holds (Some checkpoint) (H.told host.old) → checkpoint.net ≡ Some saved
+        → Kept (Only (restored_to saved)) (H.told host.old) (H.told host.new) }
+    ensures ends { H.honest → (checkpoint : Checkpoint) (saved : NetData) → Holds (Some checkpoint) (H.told host.old) → checkpoint.net ≡ Some saved
+        → OnOk result (Ends (restored_to saved) (H.told host.new)) }
+    ensures healthy { H.honest → Sound (H.told host.old) → IfErr result (λ fault. IsHealthy fault) }
+    ensures exact { H.honest → (checkpoint : Checkpoint) → Holds (Some checkpoint) (H.told host.old) → Finds (saved_on checkpoint.net (H.told host.old).state.net) result }
+    ensures before { IfErr result (λ fault. IsBefore fault → Steps Stays (H.told host.old).stops (H.told host.new).stops) }
+    ensures refused { (k n : ℕ) (left : Left) → IsErrOf result (BackFault.KernelRefused k n left) → WasRefused k n (H.told host.old).kernel (H.told host.new).kernel }
+    ensures quiet { OnOk result (NoneRefused (H.told host.old).kernel (H.told host.new).kernel) }
+    ensures fault { (left : Left) → IsErrOf result (BackFault.HostFault left) → Rose (H.told host.old).faults (H.told host.new).faults }
+    ensures set_there { IsErrOf result BackFault.NoCheckpoint → ⊥ }
+    ensures side { (left : Left) → IsErrOf result (BackFault.HostFault left) → left ≢ Left.RolledBack }
+    ensures damaged { H.tells → (area : ℕ) → IsErrOf result (BackFault.Damaged area) → IsDamaged area (H.told host.old).state }
+    ensures differs { H.tells → (names : List (List ℕ)) → IsErrOf result (BackFault.HardwareDiffers names) → Differs names (H.told host.new) }
+    ensures same { IfErr result (λ fault. IsBefore fault → H.tells → (H.told host.new).state ≡ (H.told host.old).state) }
+    ensures moves { Steps Any (H.told host.old).stops (H.told host.new).stops }
+    ensures saved { H.tells → OnOk result (saved_net (H.told host.new).state.cell ≡ saved_net (H.told host.old).state.cell) }
+    ensures later { (H.told host.old).faults ≤ (H.told host.new).faults }
+{
+    let calls = match ready(host, alloc) {
+        Ok(calls) => calls,
+        Err(fault) => return Err(fault),
+    };
+    match take_up(host, phase) {
+        Ok(()) => undo(host, alloc, &calls),
+        Err(Failed) => Err(BackFault::HostFault(Left::Pending)),
+    }
+}
+
+#[tactic(auto, using(engine_model::proofs::lemmas::Leading::same_state))]
+/// Takes back whatever change is set, and says whether one was.
+pub fn go_back<H: Host>(host: &mut H, alloc: Global) -> Result<bool, BackFault>
+    ensures cleared { H.tells → OnOk result (Holds None (H.told host.new)) }
+    ensures empty { H.tells → IfOk result (λ was. was ≡ false → cell_of (H.told host.old).state.cell ≡ None) }
+    ensures set { H.tells → IfOk result (λ was. was ≡ true → IsSome (cell_of (H.told host.old).state.cell)) }
+    ensures stays { IfOk result (λ was. was ≡ false → Steps Stays (H.told host.old).stops (H.told host.new).stops) }
+    ensures kept { H.honest → Sound (H.told host.old) → Kept (IsUndone (H.told host.old).state) (H.told host.old) (H.told host.new) }
+    ensures ends { H.honest → Sound (H.told host.old) → IfOk result (λ was. was ≡ true → (stands : Standing) × IsUndone (H.told host.old).state stands × Ends stands (H.told host.new)) }
+    // Where all that stands goes back to one network, that network stands then.
+    ensures back { H.honest → Sound (H.told host.old) → (saved : NetData) → ((s : State) → (H.told host.old).stops.may_leave s → IsUndone s (restored_to saved))
+        → OnOk result (Ends (restored_to saved) (H.told host.new)) }
+    ensures healthy { H.honest → Sound (H.told host.old) → IfErr result (λ fault. IsHealthy fault) }
+    // But for faults and memory its answer is what the restoring finds, also where the host isn't sound.
+    ensures exact { H.honest → (checkpoint : Checkpoint) → cell_of (H.told host.old).state.cell ≡ Some checkpoint → Finds (saved_on checkpoint.net (H.told host.old).state.net) result }
+    ensures unset { H.tells → cell_of (H.told host.old).state.cell ≡ None → IfErr result (λ fault. fault ≡ BackFault.HostFault Left.NotBegun) }
+    ensures before { IfErr result (λ fault. IsBefore fault → Steps Stays (H.told host.old).stops (H.told host.new).stops) }
+    ensures memory { H.tells → IsErrOf result BackFault.OutOfMemory → IsSome (cell_of (H.told host.old).state.cell) }
+    ensures refused { (k n : ℕ) (left : Left) → IsErrOf result (BackFault.KernelRefused k n left) → WasRefused k n (H.told host.old).kernel (H.told host.new).kernel }
+    ensures quiet { OnOk result (NoneRefused (H.told host.old).kernel (H.told host.new).kernel) }
+    ensures fault { (left : Left) → IsErrOf result (BackFault.HostFault left) → Rose (H.told host.old).faults (H.told host.new).faults }
+    ensures set_there { IsErrOf result BackFault.NoCheckpoint → ⊥ }
+    ensures side { (left : Left) → IsErrOf result (BackFault.HostFault left) → left ≢ Left.RolledBack }
+    ensures damaged { H.tells → (area : ℕ) → IsErrOf result (BackFault.Damaged area) → IsDamaged area (H.told host.old).state }
+    ensures differs { H.tells → (names : List (List ℕ)) → IsErrOf result (BackFault.HardwareDiffers names) → Differs names (H.told host.new) }
+    ensures same { IfErr result (λ fault. IsBefore fault → H.tells → (H.told host.new).state ≡ (H.told host.old).state) }
+    ensures none_same { H.tells → IfOk result (λ was. was ≡ false → (H.told host.new).state ≡ (H.told host.old).state) }
+    ensures going { H.honest → Sound (H.told host.old) → IfErr result (λ fault. (IsBefore fault → ⊥) → FromRead (IsUndone (H.told host.old).state) (H.told host.old) (H.told host.new)) }
+    ensures moves { Steps Any (H.told host.old).stops (H.told host.new).stops }
+    ensures saved { H.tells → OnOk result (saved_net (H.told host.new).state.cell ≡ saved_net (H.told host.old).state.cell) }
+    ensures later { (H.told host.old).faults ≤ (H.told host.new).faults }
+{
+    let seen = match barrier(host) {
+        Ok(seen) => seen,
+        Err(Failed) => return Err(BackFault::HostFault(Left::NotBegun)),
+    };
+    match seen {
+        Seen::Empty => Ok(false),
+        Seen::Set {
+            phase,
+            made: _,
+            deadline: _,
+        } => match restore(host, alloc, phase) {
+            Ok(()) => Ok(true),
+            Err(fault) => Err(fault),
+        },
+    }
+}
+
+// Whether a change waits and its time isn't up.
+fn waits(phase: Phase, made: u64, deadline: u64, now: u64) -> bool
+    ensures { result ≡ not (taken_back now phase made deadline) }
+{
+    match phase {
+        Phase::Applying => false,
+        Phase::Waiting => !due(made, deadline, now),
+    }
+}
+
+#[tactic(auto, using(engine_model::proofs::lemmas::Leading::same_state))]
+/// Takes back a change that is being made or is due.
+pub fn take_back<H: Host>(host: &mut H, alloc: Global, now: u64) -> Result<Recovered, BackFault>
+    ensures cleared { H.tells → IfOk result (λ done. IsClear done → Holds None (H.told host.new)) }
+    ensures nothing { H.tells → result ≡ Ok Recovered.Nothing → cell_of (H.told host.old).state.cell ≡ None }
+    ensures waiting { H.tells → (deadline : ℕ) → result ≡ Ok (Recovered.Waiting deadline) → (waits : Waits now (cell_of (H.told host.old).state.cell)) × (waits.checkpoint.deadline ≡ deadline) }
+    ensures restored { H.tells → result ≡ Ok Recovered.Restored → IsTaken now (cell_of (H.told host.old).state.cell) }
+    ensures stays { result ≡ Ok Recovered.Nothing → Steps Stays (H.told host.old).stops (H.told host.new).stops }
+    ensures kept { H.honest → Sound (H.told host.old) → Kept (IsSettled now (H.told host.old).state) (H.told host.old) (H.told host.new) }
+    // On an honest host that is sound, what stands then is what a recovery at this moment makes of what stood.
+    ensures ends { H.honest → Sound (H.told host.old) → OnOk result ((stands : Standing) × IsSettled now (H.told host.old).state stands × Ends stands (H.told host.new)) }
+    ensures healthy { H.honest → Sound (H.told host.old) → IfErr result (λ fault. IsHealthy fault) }
+    // But for faults and memory its answer is what the restoring finds, also where the host isn't sound.
+    ensures exact { H.honest → (taken : IsTaken now (cell_of (H.told host.old).state.cell)) → Finds (saved_on taken.checkpoint.net (H.told host.old).state.net) result }
+    ensures untaken { H.tells → (IsTaken now (cell_of (H.told host.old).state.cell) → ⊥) → IfErr result (λ fault. fault ≡ BackFault.HostFault Left.NotBegun) }
+    ensures before { IfErr result (λ fault. IsBefore fault → Steps Stays (H.told host.old).stops (H.told host.new).stops) }
+    ensures memory { H.tells → IsErrOf result BackFault.OutOfMemory → IsTaken now (cell_of (H.told host.old).state.cell) }
+    ensures pending { H.tells → IsErrOf result (BackFault.HostFault Left.Pending) → IsTaken now (cell_of (H.told host.old).state.cell) }
+    ensures refused { (k n : ℕ) (left : Left) → IsErrOf result (BackFault.KernelRefused k n left) → WasRefused k n (H.told host.old).kernel (H.told host.new).kernel }
+    ensures quiet { OnOk result (NoneRefused (H.told host.old).kernel (H.told host.new).kernel) }
+    ensures fault { (left : Left) → IsErrOf result (BackFault.HostFault left) → Rose (H.told host.old).faults (H.told host.new).faults }
+    ensures set_there { IsErrOf result BackFault.NoCheckpoint → ⊥ }
+    ensures side { (left : Left) → IsErrOf result (BackFault.HostFault left) → left ≢ Left.RolledBack }
+    ensures damaged { H.tells → (area : ℕ) → IsErrOf result (BackFault.Damaged area) → IsDamaged area (H.told host.old).state }
+    ensures differs { H.tells → (names : List (List ℕ)) → IsErrOf result (BackFault.HardwareDiffers names) → Differs names (H.told host.new) }
+    ensures same { IfErr result (λ fault. IsBefore fault → H.tells → (H.told host.new).state ≡ (H.told host.old).state) }
+    ensures going { H.honest → Sound (H.told host.old) → IfErr result (λ fault. (IsBefore fault → ⊥) → FromRead (IsSettled now (H.told host.old).state) (H.told host.old) (H.told host.new)) }
+    ensures moves { Steps Any (H.told host.old).stops (H.told host.new).stops }
+    ensures nothing_same { H.tells → result ≡ Ok Recovered.Nothing → (H.told host.new).state ≡ (H.told host.old).state }
+    ensures later { (H.told host.old).faults ≤ (H.told host.new).faults }
+{
+    let seen = match barrier(host) {
+        Ok(seen) => seen,
+        Err(Failed) => return Err(BackFault::HostFault(Left::NotBegun)),
+    };
+    match seen {
+        Seen::Empty => Ok(Recovered::Nothing),
+        Seen::Set {
+            phase,
+            made,
+            deadline,
+        } => {
+            if waits(phase, made, deadline, now) {
+                return Ok(Recovered::Waiting { deadline });
+            }
+            match restore(host, alloc, phase) {
+                Ok(()) => Ok(Recovered::Restored),
+                Err(fault) => Err(fault),
+            }
+        }
+    }
+}

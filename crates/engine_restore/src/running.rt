@@ -1,0 +1,46 @@
+ghost use Rattle.std.specs.Prelude.{◌≡◌, ◌≤◌, ◌+◌, ℕ, Some, OnOk, OnErr, IsErrOf};
+ghost use Rattle.net_model.specs.NetData.{NetData};
+ghost use Rattle.kernel_model.specs.Runs.{Runs};
+ghost use Rattle.host_core.specs.Faults.{HasFault};
+ghost use Rattle.host_core.specs.Stops.{Steps};
+ghost use Rattle.host_core.specs.HostView.{State, SameCell, WasRefused, NoneRefused};
+ghost use Rattle.engine_model.specs.Stations.{RunStep, FrontStep};
+
+use host_core::{CallFault, Host};
+use kernel_laws::step_laws;
+use net_model::Call;
+use std::alloc::Global;
+
+#[derive(Debug, PartialEq, Eq, Drop)]
+pub enum RunFault {
+    Refused(u8, u64),
+    Failed,
+    OutOfMemory,
+}
+
+/// Makes the calls in turn.
+pub fn run<H: Host>(host: &mut H, alloc: Global, calls: &[Call]) -> Result<(), RunFault>
+    requires { (H.told host.old).settled }
+    ensures reached { H.honest → (from to : NetData) → (H.told host.old).state.net ≡ Some from → Runs calls.now from to → OnOk result ((H.told host.new).state.net ≡ Some to) }
+    ensures accepted { H.honest → (from to : NetData) → (H.told host.old).state.net ≡ Some from → Runs calls.now from to → (k n : ℕ) → IsErrOf result (RunFault.Refused k n) → ⊥ }
+    ensures settled { OnOk result (H.told host.new).settled }
+    ensures cell { H.tells → SameCell (H.told host.old).state (H.told host.new).state }
+    ensures stops_cell { Steps SameCell (H.told host.old).stops (H.told host.new).stops }
+    ensures stops { H.honest → Steps RunStep (H.told host.old).stops (H.told host.new).stops }
+    // At each moment the calls are carried out up to some of them.
+    ensures fronts { H.honest → (from to : NetData) → (H.told host.old).state.net ≡ Some from → Runs calls.now from to → Steps (FrontStep calls.now from) (H.told host.old).stops (H.told host.new).stops }
+    ensures refused { (k n : ℕ) → IsErrOf result (RunFault.Refused k n) → (H.told host.old).kernel.calls ≡ 0 → WasRefused k n (H.told host.old).kernel (H.told host.new).kernel }
+    ensures quiet { ((k n : ℕ) → IsErrOf result (RunFault.Refused k n) → ⊥) → NoneRefused (H.told host.old).kernel (H.told host.new).kernel }
+    ensures cause { HasFault (H.told host.old).faults (H.told host.new).faults RunFault.Failed result }
+{
+    step_laws();
+    for (i, call) in calls.iter().enumerate() {
+        match host.call(alloc, call) {
+            Ok(()) => {}
+            Err(CallFault::Refused(k)) => return Err(RunFault::Refused(k, i as u64 + 1)),
+            Err(CallFault::Failed) => return Err(RunFault::Failed),
+            Err(CallFault::OutOfMemory) => return Err(RunFault::OutOfMemory),
+        }
+    }
+    Ok(())
+}
