@@ -1,0 +1,34 @@
+//! The commands.
+
+use base_model::Str;
+
+/// How long `apply` waits for a commit where no `--timeout` is given, in seconds.
+pub const DEFAULT_TIMEOUT: u32 = 60;
+
+/// A command with its arguments. A FILE that is missing is standard input.
+#[derive(Debug, PartialEq, Eq, Drop)]
+pub enum Command {
+    Show {
+        only: Option<Str>,
+        json: bool,
+    },
+    Plan {
+        file: Option<Str>,
+    },
+    Apply {
+        file: Option<Str>,
+        no_commit: bool,
+        no_verify: bool,
+        /// In seconds.
+        timeout: u32,
+    },
+    Commit,
+    Rollback,
+    Recover,
+    Init {
+        file: Option<Str>,
+    },
+    Script {
+        file: Option<Str>,
+    },
+}
