@@ -1,0 +1,2 @@
+mod ReadLoop
+mod WriteLoop

@@ -1,0 +1,22 @@
+//! Why a call on the files of a disk failed.
+
+use std::alloc::AllocError;
+use std::io;
+use thiserror::Error;
+
+/// What the file system or a refused growth stood in the way of. No disk says which: it answers that it failed.
+#[derive(Debug, Drop, Error)]
+pub enum FileFault {
+    /// The file system refused a call.
+    #[error("the file system: {0}")]
+    System(#[from] io::Error),
+    /// The path of a file took memory that was refused.
+    #[error("out of memory")]
+    OutOfMemory(#[from] AllocError),
+    /// The files couldn't be opened or made when the disk was.
+    #[error("the files of the folder aren't open")]
+    NotOpen,
+    /// A write took none of its bytes.
+    #[error("a write stood still")]
+    NothingWritten,
+}

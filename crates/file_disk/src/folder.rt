@@ -1,0 +1,125 @@
+//! The files of a folder.
+ghost use Rattle.std.specs.Prelude.{◌≤◌};
+
+use crate::fault::FileFault;
+use crate::raw::RawDisk;
+use crate::whole::WholeDisk;
+use host_core::Disk;
+use std::fs::{File, OpenOptions};
+use std::os::unix::fs::FileExt;
+use std::path::Path;
+
+/// The file of area 0, the kernel.
+const KERNEL: &str = "kernel";
+
+/// The file of area 1, the checkpoint.
+const CELL: &str = "cell";
+
+// The open files of a folder, and the folder itself.
+#[derive(Drop)]
+struct Opened {
+    folder: File,
+    kernel: File,
+    cell: File,
+    // Whether the folder was synced since it was opened, so that its files keep their names.
+    is_synced: bool,
+}
+
+/// Two files of a folder, `kernel` and `cell`, or none where they couldn't be opened or made. It tells nothing of its
+/// content.
+#[derive(Drop)]
+pub struct Folder {
+    opened: Option<Opened>,
+}
+
+/// A disk over two files of a folder.
+pub type FileDisk = WholeDisk<Folder>;
+
+// Opens a file of the folder, and makes it empty where it is missing.
+fn open_file(rt: &HostRuntime, folder: &str, name: &str) -> Result<File, FileFault> {
+    let path = Path::new(folder).join(rt.alloc(), name)?;
+    let file = OpenOptions::new()
+        .read(true)
+        .write(true)
+        .create(true)
+        .open(rt, path)?;
+    Ok(file)
+}
+
+fn open_all(rt: &HostRuntime, folder: &str) -> Result<Opened, FileFault> {
+    Ok(Opened {
+        folder: File::open(rt, folder)?,
+        kernel: open_file(rt, folder, KERNEL)?,
+        cell: open_file(rt, folder, CELL)?,
+        is_synced: false,
+    })
+}
+
+impl WholeDisk<Folder> {
+    /// A disk over the files of this folder. Where the folder isn't there, or its files can't be opened or made, each
+    /// call on the disk fails, and this counts as a first one that did.
+    pub fn open(rt: &HostRuntime, folder: &str) -> FileDisk
+        ensures { (⟦<WholeDisk<Folder> as Disk>⟧.told result).faults ≤ 1 }
+    {
+        match open_all(rt, folder) {
+            Ok(opened) => {
+                let opened = Some(opened);
+                WholeDisk::new(Folder { opened }, 0)
+            }
+            Err(_) => WholeDisk::new(Folder { opened: None }, 1),
+        }
+    }
+}
+
+impl Opened {
+    // The file of an area.
+    fn file(&self, area: u8) -> &File {
+        if area == 0 { &self.kernel } else { &self.cell }
+    }
+
+    // Syncs the folder once.
+    fn sync_folder(&mut self) -> Result<(), FileFault> {
+        if !self.is_synced {
+            self.folder.sync_all()?;
+            self.is_synced = true;
+        }
+        Ok(())
+    }
+}
+
+impl Folder {
+    fn opened(&mut self) -> Result<&mut Opened, FileFault> {
+        match &mut self.opened {
+            Some(opened) => Ok(opened),
+            None => Err(FileFault::NotOpen),
+        }
+    }
+}
+
+impl RawDisk for Folder {
+    ghost use Rattle.file_disk.specs.Silent.{silent, lawful_silent};
+
+    ghost tells = { ⊥ };
+
+    ghost told = { λ _. silent };
+
+    ghost lawful = { λ _. lawful_silent };
+
+    fn size(&mut self, area: u8) -> Result<u64, FileFault> {
+        Ok(self.opened()?.file(area).metadata()?.len())
+    }
+
+    fn read_some(&mut self, area: u8, at: u64, buf: &mut [u8]) -> Result<usize, FileFault> {
+        Ok(self.opened()?.file(area).read_at(buf, at)?)
+    }
+
+    fn write_some(&mut self, area: u8, at: u64, bytes: &[u8]) -> Result<usize, FileFault> {
+        Ok(self.opened()?.file(area).write_at(bytes, at)?)
+    }
+
+    fn sync(&mut self, area: u8) -> Result<(), FileFault> {
+        let opened = self.opened()?;
+        opened.file(area).sync_all()?;
+        opened.sync_folder()
+    }
+}
