@@ -1,0 +1,15 @@
+pub mod Reports
+pub mod Settles
+pub mod Leaving
+pub mod Promised
+pub mod Written
+pub mod Headlines
+pub mod Spared
+pub mod Writes
+pub mod Commits
+pub mod Folding
+pub mod Stepping
+pub mod Chaining
+pub mod Placed
+pub mod Scripted
+pub mod Wanting

@@ -1,0 +1,226 @@
+-- When each answer comes.
+use Rattle.std.specs.Prelude.{◌≡◌, ◌≢◌, ℕ, List, Bool, false, Option, Some, None, Result, Ok, Err}
+use Rattle.net_model.specs.NetData.{NetData}
+use Rattle.document_model.specs.declared.Refused.{Refused}
+use Rattle.host_core.specs.HostView.{WasRefused}
+use Rattle.engine_model.specs.Merge.{merge}
+use Rattle.document_model.specs.declared.Doc.{Doc}
+use Rattle.checkpoint_cell.specs.Cell.{saved_net}
+use Rattle.engine_model.specs.Machine.{asked}
+use Rattle.engine_model.specs.Faults.{IsOutcome, LeftSays, HasSet, HasTaken, Verified, HadDamaged, Differs}
+use Rattle.engine_model.specs.declared.Left.{Left}
+use Rattle.engine_model.specs.declared.Left.TheVariants.{NotBegun, RolledBack}
+use Rattle.command_words.specs.Words.{lone}
+use Rattle.command_words.specs.declared.Command.TheVariants.{Commit, Rollback, Recover}
+use Rattle.top_model.specs.Said.{Said, printed, planned, committed}
+use Rattle.top_model.specs.Orders.{Order, showing, planning, applying, committing, rolling_back, recovering, making}
+use Rattle.top_model.specs.Machine.{machine_of}
+use Rattle.top_model.specs.Runs.{Run, reads, reads_after, HostRose, SourceRose}
+use Rattle.top_model.specs.Told.{Answer}
+use Rattle.top_model.specs.declared.report.Cause.{Cause}
+use Rattle.top_model.specs.declared.report.Cause.TheVariants.{DocRefused, MergeRefused, Usage, BadLine, Pending, NoCheckpoint, Unfinished, Expired, Exists, NoSuchName, ReadFault, HostFault, InDoubt, KernelRefused, NotVerified, Damaged, HardwareDiffers, OutOfMemory}
+
+-- the command machine's answer to what the host reads as
+abbrev pub expected : Run → Result Order Cause → Answer
+expected r order = (machine_of r.now order (reads r)).answer
+
+-- memory never runs out for these words where nothing is to be restored
+pub record MayWant (r : Run) : Type 0 where
+  pub commit : lone r.words ≢ Some Commit
+  pub rollback : r.host_tells → lone r.words ≡ Some Rollback → HasSet (reads r).cell
+  pub recover : r.host_tells → lone r.words ≡ Some Recover → HasTaken r.now (reads r).cell
+
+-- ---- on an honest host that is sound
+
+-- a fault brings the fault answers, and out of memory comes of its own; every other answer is the machine's, and the host then reads
+-- as what the machine leaves. No call is refused, and what is found is what was wanted
+abbrev pub Expects : Run → Result Order Cause → Answer → Type 0
+Expects r order (Err ReadFault) = SourceRose r
+Expects r order (Err (HostFault left)) = HostRose r
+Expects r order (Err InDoubt) = HostRose r
+Expects r order (Err (KernelRefused k n left)) = ⊥
+Expects r order (Err (NotVerified found left)) = ⊥
+Expects r order (Err OutOfMemory) = MayWant r
+Expects r order answer = IsOutcome (machine_of r.now order (reads r)) r.host_after answer
+
+-- ---- on every host
+
+-- the host tells its content, and the machine answers so
+abbrev pub RefusedAs : Run → Result Order Cause → Cause → Type 0
+RefusedAs r order cause = r.host_tells → expected r order ≡ Err cause
+
+-- the document of a plan or an apply
+abbrev pub document_in : Order → Option Doc
+document_in (planning doc) = Some doc
+document_in (applying doc opts) = Some doc
+document_in _ = None
+
+abbrev pub HasDocument : Result Order Cause → Doc → Type 0
+HasDocument (Ok order) doc = document_in order ≡ Some doc
+HasDocument (Err refusal) doc = ⊥
+
+-- the merge of the document with what was dumped last breaks this rule
+pub record BreaksRule (r : Run) (order : Result Order Cause) (refused : Refused) : Type 0 where
+  pub doc : Doc
+  pub net : NetData
+  pub is_doc : HasDocument order doc
+  pub dumped : r.host_after.fresh ≡ Some net
+  pub broken : merge net doc ≡ Err refused
+
+-- what was found isn't the merge of the network that was saved
+pub record IsOther (r : Run) (order : Result Order Cause) (found : NetData) : Type 0 where
+  pub doc : Doc
+  pub saved : NetData
+  pub is_doc : HasDocument order doc
+  pub is_saved : saved_net r.host_after.state.cell ≡ Some saved
+  pub other : merge saved doc ≢ Ok found
+
+-- an apply that verifies dumped the merge of the network that was saved
+abbrev pub IsVerified : Run → Result Order Cause → Type 0
+IsVerified r (Ok (applying doc opts)) = opts.no_verify ≡ false → Verified (asked doc opts r.now) r.host_after
+IsVerified r order = Unit {0}
+
+-- a commit that is in doubt found a change that waits and isn't due
+abbrev pub IsDoubted : Run → Result Order Cause → Type 0
+IsDoubted r (Ok committing) = expected r (Ok committing) ≡ Ok committed
+IsDoubted r order = Unit {0}
+
+-- of what is refused before any call on the host: the refusal, unless the source failed or memory ran out before it
+abbrev pub Refuses : Run → Cause → Answer → Type 0
+Refuses r refusal (Err Usage) = refusal ≡ Usage
+Refuses r refusal (Err NoSuchName) = refusal ≡ NoSuchName
+Refuses r refusal (Err (DocRefused fault)) = refusal ≡ DocRefused fault
+Refuses r refusal (Err (BadLine n)) = refusal ≡ BadLine n
+Refuses r refusal (Err ReadFault) = SourceRose r × (refusal ≢ Usage)
+Refuses r refusal (Err OutOfMemory) = MayWant r
+Refuses r refusal answer = ⊥
+
+-- what a fault's answer says of what stands; only an apply rolls back, and a first network may be half made
+abbrev pub IsLeft : Run → Order → Left → Type 0
+IsLeft r (making links) NotBegun = Unit {0}
+IsLeft r (applying doc opts) left = LeftSays r.host_tells r.host r.host_after left
+IsLeft r order left = LeftSays r.host_tells r.host r.host_after left × (left ≢ RolledBack)
+
+-- ---- which answers each order has beside what it says
+
+abbrev pub OfShow : Cause → Type 0
+OfShow (HostFault NotBegun) = Unit {0}
+OfShow (Damaged area) = area ≡ 0
+OfShow OutOfMemory = Unit {0}
+OfShow cause = ⊥
+
+abbrev pub OfPlan : Cause → Type 0
+OfPlan ReadFault = Unit {0}
+OfPlan (MergeRefused refused) = Unit {0}
+OfPlan cause = OfShow cause
+
+abbrev pub OfApply : Cause → Type 0
+OfApply ReadFault = Unit {0}
+OfApply (Pending deadline) = Unit {0}
+OfApply (MergeRefused refused) = Unit {0}
+OfApply (HostFault left) = Unit {0}
+OfApply (KernelRefused k n left) = Unit {0}
+OfApply (NotVerified found left) = Unit {0}
+OfApply InDoubt = Unit {0}
+OfApply (Damaged area) = Unit {0}
+OfApply (HardwareDiffers names) = Unit {0}
+OfApply OutOfMemory = Unit {0}
+OfApply cause = ⊥
+
+abbrev pub OfCommit : Cause → Type 0
+OfCommit NoCheckpoint = Unit {0}
+OfCommit (Unfinished since deadline) = Unit {0}
+OfCommit (Expired since deadline) = Unit {0}
+OfCommit (HostFault NotBegun) = Unit {0}
+OfCommit InDoubt = Unit {0}
+OfCommit OutOfMemory = Unit {0}
+OfCommit cause = ⊥
+
+abbrev pub OfRecover : Cause → Type 0
+OfRecover (HostFault left) = left ≢ RolledBack
+OfRecover (KernelRefused k n left) = Unit {0}
+OfRecover (Damaged area) = Unit {0}
+OfRecover (HardwareDiffers names) = Unit {0}
+OfRecover OutOfMemory = Unit {0}
+OfRecover cause = ⊥
+
+abbrev pub OfRollback : Cause → Type 0
+OfRollback NoCheckpoint = Unit {0}
+OfRollback cause = OfRecover cause
+
+abbrev pub OfInit : Cause → Type 0
+OfInit ReadFault = Unit {0}
+OfInit Exists = Unit {0}
+OfInit (HostFault NotBegun) = Unit {0}
+OfInit OutOfMemory = Unit {0}
+OfInit cause = ⊥
+
+-- of what is refused before any call on the host, `Refuses` says it
+abbrev pub MayAnswer : Result Order Cause → Answer → Type 0
+MayAnswer order (Ok said) = Unit {0}
+MayAnswer (Ok (showing only json)) (Err cause) = OfShow cause
+MayAnswer (Ok (planning doc)) (Err cause) = OfPlan cause
+MayAnswer (Ok (applying doc opts)) (Err cause) = OfApply cause
+MayAnswer (Ok committing) (Err cause) = OfCommit cause
+MayAnswer (Ok rolling_back) (Err cause) = OfRollback cause
+MayAnswer (Ok recovering) (Err cause) = OfRecover cause
+MayAnswer (Ok (making links)) (Err cause) = OfInit cause
+MayAnswer (Err refusal) (Err cause) = Unit {0}
+
+-- ---- when each of them comes
+
+-- a network that is printed or planned from is the one that was dumped
+abbrev pub WasDumped : Run → NetData → Type 0
+WasDumped r net = r.host_tells → r.host_after.fresh ≡ Some net
+
+-- the network is printed as it was asked for
+pub record Prints (r : Run) (only : Option (List ℕ)) (json : Bool) (said : Said) : Type 0 where
+  pub net : NetData
+  pub dumped : WasDumped r net
+  pub is_said : said ≡ printed only json net
+
+-- the calls lead to the merge of the document
+pub record Plans (r : Run) (doc : Doc) (said : Said) : Type 0 where
+  pub from : NetData
+  pub to : NetData
+  pub dumped : WasDumped r from
+  pub merges : merge from doc ≡ Ok to
+  pub is_said : said ≡ planned from to
+
+-- what is done; a commit is the machine's, and an apply that verifies dumped the merge of the network that was saved
+abbrev pub IsDoneAs : Run → Order → Said → Type 0
+IsDoneAs r (showing only json) said = Prints r only json said
+IsDoneAs r (planning doc) said = Plans r doc said
+IsDoneAs r committing said = r.host_tells → expected r (Ok committing) ≡ Ok said
+IsDoneAs r order said = r.host_tells → IsVerified r (Ok order)
+
+-- the host reads as before
+abbrev pub StaysRead : Run → Type 0
+StaysRead r = r.host_tells → reads_after r ≡ reads r
+
+abbrev pub LooksOnly : Run → Order → Type 0
+LooksOnly r (planning doc) = StaysRead r
+LooksOnly r order = Unit {0}
+
+-- of what was asked of the host
+abbrev pub Ends : Run → Order → Answer → Type 0
+Ends r order (Ok said) = IsDoneAs r order said
+Ends r order (Err ReadFault) = SourceRose r × r.untouched
+Ends r order (Err Exists) = RefusedAs r (Ok order) Exists × StaysRead r
+Ends r order (Err (Pending deadline)) = RefusedAs r (Ok order) (Pending deadline)
+Ends r order (Err NoCheckpoint) = RefusedAs r (Ok order) NoCheckpoint
+Ends r order (Err (Unfinished since deadline)) = RefusedAs r (Ok order) (Unfinished since deadline)
+Ends r order (Err (Expired since deadline)) = RefusedAs r (Ok order) (Expired since deadline)
+Ends r order (Err (MergeRefused refused)) = (r.host_tells → BreaksRule r (Ok order) refused) × LooksOnly r order
+Ends r order (Err (HostFault left)) = HostRose r × IsLeft r order left
+Ends r order (Err InDoubt) = HostRose r × (r.host_tells → IsDoubted r (Ok order))
+Ends r order (Err (KernelRefused k n left)) = WasRefused k n r.host.kernel r.host_after.kernel
+Ends r order (Err (NotVerified found left)) = (left ≡ RolledBack) × (r.host_tells → IsOther r (Ok order) found)
+Ends r order (Err (Damaged area)) = r.host_tells → HadDamaged area r.host r.host_after
+Ends r order (Err (HardwareDiffers names)) = r.host_tells → Differs names r.host_after
+Ends r order (Err OutOfMemory) = MayWant r
+Ends r order answer = ⊥
+
+abbrev pub Comes : Run → Result Order Cause → Answer → Type 0
+Comes r (Err refusal) answer = r.untouched × Refuses r refusal answer
+Comes r (Ok order) answer = Ends r order answer

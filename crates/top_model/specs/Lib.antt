@@ -1,0 +1,17 @@
+pub mod Said
+pub mod Orders
+pub mod Machine
+pub mod Texts
+pub mod Runs
+pub mod Told
+pub mod Telling
+pub mod Causes
+pub mod Exits
+pub mod Undisturbed
+pub mod Answered
+pub mod Headline
+pub mod Promises
+pub mod Lines
+pub mod Scripts
+pub mod StepsDone
+pub mod Moments
