@@ -45,6 +45,8 @@ pub fn recover<H: Host>(host: &mut H, alloc: Global, now: u64) -> Result<Recover
     ensures kept { H.honest → Sound (H.told host.old) → Kept (Only (recover now (standing (H.told host.old).state)).after) (H.told host.old) (H.told host.new) }
     // It takes memory only where a change is to be taken back.
     ensures memory { H.tells → IsErrOf result BackFault.OutOfMemory → HasTaken now (standing (H.told host.old).state).cell }
+    // It never answers, as a rollback does, that there is no checkpoint.
+    ensures set_there { IsErrOf result BackFault.NoCheckpoint → ⊥ }
     // Where it restores nothing, it says so of each host that tells its content.
     ensures nothing { H.tells → result ≡ Ok Recovered.Nothing → (recover now (standing (H.told host.old).state)).answer ≡ Ok Recovered.Nothing }
     ensures waiting { H.tells → (deadline : ℕ) → result ≡ Ok (Recovered.Waiting deadline) → (recover now (standing (H.told host.old).state)).answer ≡ Ok (Recovered.Waiting deadline) }
