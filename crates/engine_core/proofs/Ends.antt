@@ -1,0 +1,121 @@
+-- What a commit answers and leaves, by the machine.
+use Rattle.std.proofs.Common.{◌≡◌, ◌≢◌, ◌⊎◌, inl, inr, ℕ, Bool, true, false, refl, sym, ap, ◌∙◌, subst, Option, Some, None, Result, Ok, Err, List, []}
+use Rattle.std.specs.Prelude.{⊤, if◌then◌else◌, option_map, OnOk, IfErr, IsErrOf}
+use Rattle.net_model.specs.NetData.{NetData}
+use Rattle.net_model.specs.Hardware.{hardware}
+use Rattle.host_core.specs.Faults.{Rose}
+use Rattle.host_core.specs.HostView.{State, HostView, HasNet}
+use Rattle.host_core.specs.Stops.{Stops, Steps, Stays}
+use Rattle.checkpoint_cell.specs.declared.Phase.{Phase}
+use Rattle.checkpoint_cell.specs.declared.Phase.TheVariants.{Applying, Waiting}
+use Rattle.checkpoint_cell.specs.Cell.{Checkpoint, cell_of, applying, is_due}
+use Rattle.checkpoint_cell.specs.Steps.{Holds}
+use Rattle.checkpoint_cell.specs.Settled.{Standing, standing, settled, settled_from, taken_back, Alike, restored_to}
+use Rattle.engine_model.specs.Differing.{differing}
+use Rattle.engine_model.specs.Undone.{restored, undone, undone_cell}
+use Rattle.engine_model.specs.Machine.{Outcome, stays, committed, commit, commit_cell, commit_phase, commit_waiting, unless_differing, saved_on, restored_as, restore, rollback, rollback_cell, recover, recover_cell}
+use Rattle.engine_model.specs.Sound.{IsWhole, Fit, IsApplying, Sound}
+use Rattle.engine_model.specs.Stations.{Stands, Near, Only, Leads, Kept, Ends, Waits, FromRead, IsSettled, Entry, entry_of, at, left_by, Within, Before, BeforeAsRead, Either, IsCommitted}
+use Rattle.engine_model.specs.Answers.{IsBefore, IsHealthy, IsUndone}
+use Rattle.engine_core.specs.Committing.{IsRefusal, IsLook}
+use Rattle.engine_model.specs.Exit.{CommitExit, BackExit}
+use Rattle.engine_model.specs.Faults.{IsOutcome, CommitAnswers, BackAnswers}
+use Rattle.engine_model.specs.declared.answers.Left.{Left}
+use Rattle.engine_model.specs.declared.answers.Left.TheVariants.{NotBegun, RolledBack, Pending}
+use Rattle.engine_model.specs.declared.answers.Recovered.{Recovered}
+use Rattle.engine_model.specs.declared.answers.Recovered.TheVariants.{Nothing, Waiting as Waits_for, Restored}
+use Rattle.engine_model.specs.declared.answers.CommitFault.{CommitFault}
+use Rattle.engine_model.specs.declared.answers.CommitFault.TheVariants as co
+use Rattle.engine_model.specs.declared.answers.BackFault.{BackFault}
+use Rattle.engine_model.specs.declared.answers.BackFault.TheVariants as ba
+use Rattle.engine_model.proofs.lemmas.SameDevices.{differing_none}
+use Rattle.engine_model.proofs.lemmas.Leading.{alike_is, near_wider, saved_alike}
+use Rattle.engine_model.proofs.lemmas.Machines.{before_within, read_within, ends_within, ends_reads, same_reads, going_within, going_reads, going_as}
+
+abbrev Ending : Type 0
+Ending = Outcome ⊤ CommitFault
+
+abbrev ended : Standing → Ending
+ended e = record { answer = Ok tt; after = committed e }
+
+pub commit_waits : (now : ℕ) (e : Standing) → (w : Waits now e.cell) → commit now e ≡ ended e
+commit_waits now e w =
+    ap (commit_cell now e) w.is ∙ ap (commit_phase now e w.checkpoint) w.waiting
+    ∙ ap (λ (b : Bool). if b then stays e (Err (co.Expired w.checkpoint.made w.checkpoint.deadline)) else ended e) w.in_time
+
+pub commit_none : (now : ℕ) (e : Standing) → e.cell ≡ None → commit now e ≡ stays e (Err co.NoCheckpoint)
+commit_none now e is = ap (commit_cell now e) is
+
+pub commit_unfinished : (now : ℕ) (e : Standing) (c : Checkpoint) → e.cell ≡ Some c → c.phase ≡ Applying → commit now e ≡ stays e (Err (co.Unfinished c.made c.deadline))
+commit_unfinished now e c is phase = ap (commit_cell now e) is ∙ ap (commit_phase now e c) phase
+
+pub commit_expired : (now : ℕ) (e : Standing) (c : Checkpoint) → e.cell ≡ Some c → c.phase ≡ Waiting → is_due c.made c.deadline now ≡ true → commit now e ≡ stays e (Err (co.Expired c.made c.deadline))
+commit_expired now e c is phase due =
+    ap (commit_cell now e) is ∙ ap (commit_phase now e c) phase
+    ∙ ap (λ (b : Bool). if b then stays e (Err (co.Expired c.made c.deadline)) else ended e) due
+
+-- the machine's answer, which changes nothing
+refusal : (now : ℕ) (old new : HostView) (fault : CommitFault) → commit now (standing old.state) ≡ stays (standing old.state) (Err fault) → new.state ≡ old.state → IsOutcome (commit now (standing old.state)) new (Err fault)
+refusal now old new fault is same = record {
+  answer = ap (λ (o : Ending). o.answer) is;
+  after = ap standing same ∙ sym (ap (λ (o : Ending). o.after) is);
+}
+
+module _ (tells : Type 0) (now : ℕ) (old new : HostView) where
+  pub commit_answers : (result : Result ⊤ CommitFault)
+      → (tells → OnOk result (Waits now (cell_of old.state.cell))) → (tells → IsErrOf result co.NoCheckpoint → cell_of old.state.cell ≡ None)
+      → (tells → (made deadline : ℕ) → IsErrOf result (co.Unfinished made deadline) → (c : Checkpoint) × (cell_of old.state.cell ≡ Some c) × (c.phase ≡ Applying) × (c.made ≡ made) × (c.deadline ≡ deadline))
+      → (tells → (made deadline : ℕ) → IsErrOf result (co.Expired made deadline) → (c : Checkpoint) × (cell_of old.state.cell ≡ Some c) × (c.phase ≡ Waiting) × (is_due made deadline now ≡ true) × (c.made ≡ made) × (c.deadline ≡ deadline))
+      → (IsErrOf result co.HostFault ⊎ IsErrOf result co.InDoubt → Rose old.faults new.faults)
+      → (tells → IsErrOf result co.InDoubt → Waits now (cell_of old.state.cell))
+      → IfErr result (λ fault. IsRefusal fault → tells → new.state ≡ old.state) → (tells → OnOk result (standing new.state ≡ committed (standing old.state)))
+      → CommitAnswers tells now old new result
+  commit_answers (Ok done) waited none unfinished expired rose doubt same left = λ t.
+      let is = commit_waits now (standing old.state) (waited t) in
+      record { answer = ap (λ (o : Ending). o.answer) is; after = left t ∙ sym (ap (λ (o : Ending). o.after) is) }
+  commit_answers (Err co.NoCheckpoint) waited none unfinished expired rose doubt same left = λ t.
+      refusal now old new co.NoCheckpoint (commit_none now (standing old.state) (none t refl)) (same tt t)
+  commit_answers (Err (co.Unfinished made deadline)) waited none unfinished expired rose doubt same left = λ t.
+      let u = unfinished t made deadline refl in
+      refusal now old new (co.Unfinished made deadline)
+      (commit_unfinished now (standing old.state) u.0 u.1 u.2 ∙ (λ i. stays (standing old.state) (Err (co.Unfinished (u.3 i) (u.4 i))))) (same tt t)
+  commit_answers (Err (co.Expired made deadline)) waited none unfinished expired rose doubt same left = λ t.
+      let u = expired t made deadline refl in
+      refusal now old new (co.Expired made deadline)
+      (commit_expired now (standing old.state) u.0 u.1 u.2 ((λ i. is_due (u.4 i) (u.5 i) now) ∙ u.3) ∙ (λ i. stays (standing old.state) (Err (co.Expired (u.4 i) (u.5 i))))) (same tt t)
+  commit_answers (Err co.HostFault) waited none unfinished expired rose doubt same left = (rose (inl refl), λ t. same tt t)
+  commit_answers (Err co.InDoubt) waited none unfinished expired rose doubt same left =
+      (rose (inr refl), λ t. ap (λ (o : Ending). o.answer) (commit_waits now (standing old.state) (doubt t refl)))
+
+module _ (now : ℕ) (old new : HostView) (here : old.stops.may_leave old.state) (there : new.stops.may_leave new.state) where
+  after_is : (w : Waits now (cell_of old.state.cell)) → committed (standing old.state) ≡ (commit now (standing old.state)).after
+  after_is w = sym (ap (λ (o : Ending). o.after) (commit_waits now (standing old.state) w))
+
+  pub committed_is : (a : Standing) → IsCommitted now old.state a → a ≡ (commit now (standing old.state)).after
+  committed_is a is = is.1 ∙ after_is is.0
+
+  pub commit_exit : (result : Result ⊤ CommitFault) → OnOk result (Waits now (cell_of old.state.cell)) → OnOk result (Ends (committed (standing old.state)) new)
+      → IfErr result (λ fault. IsRefusal fault → Steps Stays old.stops new.stops) → IfErr result (λ fault. IsLook fault → Holds (cell_of old.state.cell) new)
+      → (IsErrOf result co.InDoubt → FromRead (IsCommitted now old.state) old new) → CommitExit now (entry_of old) (left_by new) result
+  commit_exit (Ok done) waited ends before looked doubted = ends_within old new (commit now (standing old.state)).after (subst (λ (x : Standing). Ends x new) (after_is waited) ends)
+  commit_exit (Err co.NoCheckpoint) waited ends before looked doubted = read_within old new (before tt) (looked tt)
+  commit_exit (Err (co.Unfinished made deadline)) waited ends before looked doubted = read_within old new (before tt) (looked tt)
+  commit_exit (Err (co.Expired made deadline)) waited ends before looked doubted = read_within old new (before tt) (looked tt)
+  commit_exit (Err co.HostFault) waited ends before looked doubted = before_within old new (before tt)
+  commit_exit (Err co.InDoubt) waited ends before looked doubted =
+      going_within old new (Only (commit now (standing old.state)).after) here (going_as (IsCommitted now old.state) (Only (commit now (standing old.state)).after) old new committed_is (doubted refl))
+
+  pub commit_reads : (result : Result ⊤ CommitFault) → OnOk result (Waits now (cell_of old.state.cell)) → OnOk result (Ends (committed (standing old.state)) new)
+      → IfErr result (λ fault. IsRefusal fault → new.state ≡ old.state)
+      → (IsErrOf result co.InDoubt → FromRead (IsCommitted now old.state) old new) → CommitExit now (at (standing old.state)) (Only (standing new.state)) result
+  commit_reads (Ok done) waited ends same doubted = ends_reads old new (commit now (standing old.state)).after there (subst (λ (x : Standing). Ends x new) (after_is waited) ends)
+  commit_reads (Err co.NoCheckpoint) waited ends same doubted = λ stands is. record { station = standing old.state; is = (refl, refl); like = same_reads old new (same tt) stands is }
+  commit_reads (Err (co.Unfinished made deadline)) waited ends same doubted = λ stands is. record { station = standing old.state; is = (refl, refl); like = same_reads old new (same tt) stands is }
+  commit_reads (Err (co.Expired made deadline)) waited ends same doubted = λ stands is. record { station = standing old.state; is = (refl, refl); like = same_reads old new (same tt) stands is }
+  commit_reads (Err co.HostFault) waited ends same doubted = λ stands is. record { station = standing old.state; is = refl; like = same_reads old new (same tt) stands is }
+  commit_reads (Err co.InDoubt) waited ends same doubted =
+      going_reads old new (Only (commit now (standing old.state)).after) here (going_as (IsCommitted now old.state) (Only (commit now (standing old.state)).after) old new committed_is (doubted refl)) there
+
+pub commit_same : (tells : Type 0) → tells → (old new : HostView) (result : Result ⊤ CommitFault) → IfErr result (λ fault. IsRefusal fault → tells → new.state ≡ old.state) → IfErr result (λ fault. IsRefusal fault → new.state ≡ old.state)
+commit_same tells told old new (Ok done) same = tt
+commit_same tells told old new (Err fault) same = λ is. same is told

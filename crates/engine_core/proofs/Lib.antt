@@ -1,0 +1,8 @@
+mod Ends
+mod Commits
+mod Attempts
+mod Gives
+mod Says
+mod Applies
+mod Wanted
+mod Calms

@@ -1,0 +1,251 @@
+-- What the answers of an apply say on every host, carried through its parts.
+use Rattle.std.proofs.Common.{◌≡◌, ◌≢◌, ◌≤◌, ◌+◌, ◌-◌, ◌^◌, min, arith, ℕ, refl, sym, ap, ◌∙◌, subst, true, false, Option, Some, None, Result, Ok, Err, List}
+use Rattle.std.specs.Prelude.{OnOk, OnErr, IfErr}
+use Rattle.net_model.specs.NetData.{NetData}
+use Rattle.document_model.specs.declared.Doc.{Doc}
+use Rattle.document_model.specs.declared.Refused.{Refused}
+use Rattle.host_core.specs.Faults.{Rose}
+use Rattle.host_core.specs.HostView.{State, Kernel, HostView, WasRefused, NoneRefused, dumped}
+use Rattle.host_core.specs.Stops.{Stops, Steps, Stays, IsLawful}
+use Rattle.checkpoint_cell.specs.Cell.{Checkpoint, cell_of, saved_net, applying}
+use Rattle.checkpoint_cell.specs.Settled.{standing, taken_back}
+use Rattle.checkpoint_cell.specs.declared.Phase.{Phase}
+use Rattle.engine_model.specs.Merge.{merge}
+use Rattle.engine_model.specs.Machine.{Asked, asked, apply, apply_step, apply_fault, Outcome, stays}
+use Rattle.engine_model.specs.Stations.{Any, Waits}
+use Rattle.engine_model.specs.Answers.{IsBefore}
+use Rattle.engine_model.specs.Faults.{Verified, IsDamaged, HadDamaged, Differs, ApplySays}
+use Rattle.engine_model.specs.declared.answers.Left.{Left}
+use Rattle.engine_model.specs.declared.answers.Left.TheVariants.{NotBegun, RolledBack, Pending}
+use Rattle.engine_model.specs.declared.answers.Applied.{Applied}
+use Rattle.engine_model.specs.declared.answers.ApplyOpts.{ApplyOpts}
+use Rattle.engine_model.specs.declared.answers.Recovered.{Recovered}
+use Rattle.engine_model.specs.declared.answers.Recovered.TheVariants.{Waiting as Waits_for}
+use Rattle.engine_model.specs.declared.answers.BackFault.{BackFault}
+use Rattle.engine_model.specs.declared.answers.BackFault.TheVariants as ba
+use Rattle.engine_model.specs.declared.answers.ApplyFault.{ApplyFault}
+use Rattle.engine_model.specs.declared.answers.ApplyFault.TheVariants as ap_
+use Rattle.engine_model.proofs.lemmas.Backs.{recover_waits}
+use Rattle.engine_core.specs.declared.missed.Missed.{Missed}
+use Rattle.engine_core.specs.declared.missed.Missed.TheVariants as missed
+use Rattle.engine_core.specs.Saying.{Start, start_of, Follows, DamagedSince, IsOther, Why, SaidLeft, Said, taken_back_as, pending_as, damaged_as, stopped_as}
+
+abbrev merged_with : NetData → Result NetData Refused
+merged_with to = Ok to
+
+-- ---- refusals and faults that came since
+
+pub quiet_same : (a b : Kernel) → b ≡ a → NoneRefused a b
+quiet_same a b same = record { refusals = ap (λ (k : Kernel). k.refusals) same; last = ap (λ (k : Kernel). k.last) same }
+
+pub quiet_dumped : (a b : Kernel) → b ≡ dumped a → NoneRefused a b
+quiet_dumped a b same = record { refusals = ap (λ (k : Kernel). k.refusals) same; last = ap (λ (k : Kernel). k.last) same }
+
+pub quiet_on : (a b c : Kernel) → NoneRefused a b → NoneRefused b c → NoneRefused a c
+quiet_on a b c one two = record { refusals = two.refusals ∙ one.refusals; last = two.last ∙ one.last }
+
+pub refused_after : (k n : ℕ) (a b c : Kernel) → NoneRefused a b → WasRefused k n b c → WasRefused k n a c
+refused_after k n a b c one two = record { rose = subst (λ (r : ℕ). Rose r c.refusals) one.refusals two.rose; last = two.last; counted = two.counted }
+
+refused_before : (k n : ℕ) (a b c : Kernel) → WasRefused k n a b → NoneRefused b c → WasRefused k n a c
+refused_before k n a b c one two = record { rose = subst (λ (r : ℕ). Rose a.refusals r) (sym two.refusals) one.rose; last = two.last ∙ one.last; counted = one.counted }
+
+pub rose_after : (a b c : ℕ) → a ≤ b → Rose b c → Rose a c
+rose_after a b c le rose = omega arith
+
+pub rose_before : (a b c : ℕ) → Rose a b → b ≤ c → Rose a c
+rose_before a b c rose le = omega arith
+
+rose_both : (a b c : ℕ) → Rose a b → Rose b c → Rose a c
+rose_both a b c one two = omega arith
+
+pub follows_on : (start : Start) (old mid : HostView) → Follows start old → old.faults ≤ mid.faults → old.stops.moment ≤ mid.stops.moment → NoneRefused old.kernel mid.kernel → Follows start mid
+follows_on start old mid follows faults moment quiet = record {
+  faults = omega (arith, follows.faults);
+  moment = omega (arith, follows.moment);
+  quiet = quiet_on start.kernel old.kernel mid.kernel follows.quiet quiet;
+}
+
+-- ---- pairs that were left since
+
+pub since : (t area : ℕ) (host : HostView) → IsLawful host.stops → host.stops.may_leave host.state → t ≤ host.stops.moment → IsDamaged area host.state → DamagedSince t area host
+since t area host lawful reads le damaged = record { pair = host.state; left = lawful.counts_now t host.state le reads; damaged = damaged }
+
+pub since_keeps : (step : State → State → Type 0) (t area : ℕ) (old new : HostView) → t ≤ old.stops.moment → Steps step old.stops new.stops → DamagedSince t area old → DamagedSince t area new
+since_keeps step t area old new le steps had = record { pair = had.pair; left = steps.keeps t had.pair le had.left; damaged = had.damaged }
+
+-- ---- why a change misses
+
+pub differs_why : (tells : Type 0) (doc : Doc) (start : Start) (from to found : NetData) (old mid : HostView) → Follows start old → merge from doc ≡ Ok to → (tells → saved_net old.state.cell ≡ Some from) → (tells → mid.state ≡ old.state)
+    → NoneRefused old.kernel mid.kernel → (found ≡ to → ⊥) → Why tells doc start mid (missed.Differs found)
+differs_why tells doc start from to found old mid follows merges saved same quiet differs = (
+  quiet_on start.kernel old.kernel mid.kernel follows.quiet quiet,
+  λ told. record {
+    saved = from;
+    is_saved = ap (λ (s : State). saved_net s.cell) (same told) ∙ saved told;
+    other = λ is. let e : merged_with found ≡ merged_with to = sym is ∙ merges in differs (cc);
+  },
+)
+
+why_rose : (tells : Type 0) (doc : Doc) (start : Start) (host : HostView) (why : Missed) → Why tells doc start host why → (r : ℕ) → Rose host.kernel.refusals r → Rose start.kernel.refusals r
+why_rose tells doc start host missed.Failed is r rose = subst (λ (b : ℕ). Rose b r) is.0.refusals rose
+why_rose tells doc start host (missed.Refused k n) is r rose = rose_both start.kernel.refusals host.kernel.refusals r is.rose rose
+why_rose tells doc start host missed.Damaged is r rose = subst (λ (b : ℕ). Rose b r) is.0.refusals rose
+why_rose tells doc start host (missed.Differs found) is r rose = subst (λ (b : ℕ). Rose b r) is.0.refusals rose
+why_rose tells doc start host missed.OutOfMemory is r rose = subst (λ (b : ℕ). Rose b r) is.refusals rose
+
+-- ---- where the change is taken back
+
+module _ (tells : Type 0) (doc : Doc) (opts : ApplyOpts) (made : ℕ) (start : Start) (old new : HostView) (faults : start.faults ≤ old.faults) (moment : start.moment ≤ old.stops.moment) where
+  -- it was
+  pub taken_says : (why : Missed) → Why tells doc start old why → NoneRefused old.kernel new.kernel → old.faults ≤ new.faults → Steps Any old.stops new.stops
+      → (tells → cell_of new.state.cell ≡ None) → (tells → saved_net new.state.cell ≡ saved_net old.state.cell) → Said tells (asked doc opts made) start new (Err (taken_back_as why))
+  taken_says missed.Failed is quiet later steps none saved = (rose_before start.faults old.faults new.faults is.1 later, none)
+  taken_says (missed.Refused k n) is quiet later steps none saved = refused_before k n start.kernel old.kernel new.kernel is quiet
+  taken_says missed.Damaged is quiet later steps none saved = λ told. since_keeps Any start.moment 0 old new moment steps (is.1 told)
+  taken_says (missed.Differs found) is quiet later steps none saved = (refl, λ told. let o = is.1 told in record { saved = o.saved; is_saved = saved told ∙ o.is_saved; other = o.other })
+  taken_says missed.OutOfMemory is quiet later steps none saved = tt
+
+  module _ (lawful : IsLawful old.stops) (reads : tells → old.stops.may_leave old.state) where
+    pending_says : (fault : BackFault) → ((r : ℕ) → Rose old.kernel.refusals r → Rose start.kernel.refusals r) → (fault ≡ ba.NoCheckpoint → ⊥) → ((left : Left) → fault ≡ ba.HostFault left → Rose old.faults new.faults)
+        → ((k n : ℕ) (left : Left) → fault ≡ ba.KernelRefused k n left → WasRefused k n old.kernel new.kernel) → (IsBefore fault → Steps Stays old.stops new.stops)
+        → (tells → (area : ℕ) → fault ≡ ba.Damaged area → IsDamaged area old.state) → (tells → (names : List (List ℕ)) → fault ≡ ba.HardwareDiffers names → Differs names new)
+        → Said tells (asked doc opts made) start new (Err (pending_as fault))
+    pending_says ba.NoCheckpoint refusals set rose refused before damaged differs = absurd (set refl)
+    pending_says (ba.HostFault left) refusals set rose refused before damaged differs = (rose_after start.faults old.faults new.faults faults (rose left refl), tt)
+    pending_says (ba.KernelRefused k n left) refusals set rose refused before damaged differs =
+        let was = refused k n left refl in
+        record { rose = refusals new.kernel.refusals was.rose; last = was.last; counted = was.counted }
+    pending_says (ba.Damaged area) refusals set rose refused before damaged differs = λ told.
+        since_keeps Stays start.moment area old new moment (before tt) (since start.moment area old lawful (reads told) moment (damaged told area refl))
+    pending_says (ba.HardwareDiffers names) refusals set rose refused before damaged differs = λ told. differs told names refl
+    pending_says ba.OutOfMemory refusals set rose refused before damaged differs = tt
+
+    damaged_says : (fault : BackFault) → Steps Any old.stops new.stops → (tells → DamagedSince start.moment 0 old) → Said tells (asked doc opts made) start new (Err (damaged_as fault))
+    damaged_says ba.NoCheckpoint steps had = λ told. since_keeps Any start.moment 0 old new moment steps (had told)
+    damaged_says (ba.HostFault left) steps had = λ told. since_keeps Any start.moment 0 old new moment steps (had told)
+    damaged_says (ba.KernelRefused k n left) steps had = λ told. since_keeps Any start.moment 0 old new moment steps (had told)
+    damaged_says (ba.Damaged area) steps had = λ told. since_keeps Any start.moment 0 old new moment steps (had told)
+    damaged_says (ba.HardwareDiffers names) steps had = λ told. since_keeps Any start.moment 0 old new moment steps (had told)
+    damaged_says ba.OutOfMemory steps had = tt
+
+    -- it wasn't
+    pub stopped_says : (why : Missed) (fault : BackFault) → Why tells doc start old why → Steps Any old.stops new.stops → (fault ≡ ba.NoCheckpoint → ⊥) → ((left : Left) → fault ≡ ba.HostFault left → Rose old.faults new.faults)
+        → ((k n : ℕ) (left : Left) → fault ≡ ba.KernelRefused k n left → WasRefused k n old.kernel new.kernel) → (IsBefore fault → Steps Stays old.stops new.stops)
+        → (tells → (area : ℕ) → fault ≡ ba.Damaged area → IsDamaged area old.state) → (tells → (names : List (List ℕ)) → fault ≡ ba.HardwareDiffers names → Differs names new)
+        → Said tells (asked doc opts made) start new (Err (stopped_as why fault))
+    stopped_says missed.Failed fault is steps set rose refused before damaged differs = pending_says fault (why_rose tells doc start old missed.Failed is) set rose refused before damaged differs
+    stopped_says (missed.Refused k n) fault is steps set rose refused before damaged differs = pending_says fault (why_rose tells doc start old (missed.Refused k n) is) set rose refused before damaged differs
+    stopped_says missed.Damaged fault is steps set rose refused before damaged differs = damaged_says fault steps is.1
+    stopped_says (missed.Differs found) fault is steps set rose refused before damaged differs = pending_says fault (why_rose tells doc start old (missed.Differs found) is) set rose refused before damaged differs
+    stopped_says missed.OutOfMemory fault is steps set rose refused before damaged differs = tt
+
+-- none of it says that nothing was begun
+pub begun_taken : (why : Missed) → taken_back_as why ≡ ap_.HostFault NotBegun → ⊥
+begun_taken missed.Failed is = cc
+begun_taken (missed.Refused k n) is = cc
+begun_taken missed.Damaged is = cc
+begun_taken (missed.Differs found) is = cc
+begun_taken missed.OutOfMemory is = cc
+
+begun_pending : (fault : BackFault) → pending_as fault ≡ ap_.HostFault NotBegun → ⊥
+begun_pending ba.NoCheckpoint is = cc
+begun_pending (ba.HostFault left) is = cc
+begun_pending (ba.KernelRefused k n left) is = cc
+begun_pending (ba.Damaged area) is = cc
+begun_pending (ba.HardwareDiffers names) is = cc
+begun_pending ba.OutOfMemory is = cc
+
+begun_damaged : (fault : BackFault) → damaged_as fault ≡ ap_.HostFault NotBegun → ⊥
+begun_damaged ba.NoCheckpoint is = cc
+begun_damaged (ba.HostFault left) is = cc
+begun_damaged (ba.KernelRefused k n left) is = cc
+begun_damaged (ba.Damaged area) is = cc
+begun_damaged (ba.HardwareDiffers names) is = cc
+begun_damaged ba.OutOfMemory is = cc
+
+pub begun_stopped : (why : Missed) (fault : BackFault) → stopped_as why fault ≡ ap_.HostFault NotBegun → ⊥
+begun_stopped missed.Failed fault is = begun_pending fault is
+begun_stopped (missed.Refused k n) fault is = begun_pending fault is
+begun_stopped missed.Damaged fault is = begun_damaged fault is
+begun_stopped (missed.Differs found) fault is = begun_pending fault is
+begun_stopped missed.OutOfMemory fault is = cc
+
+-- ---- where the change is made
+
+pub finished_says : (tells : Type 0) (doc : Doc) (opts : ApplyOpts) (made : ℕ) (start : Start) (from to : NetData) (mid new : HostView) (result : Result Applied ApplyFault) → merge from doc ≡ Ok to → start.faults ≤ mid.faults
+    → (tells → opts.no_verify ≡ false → mid.fresh ≡ Some to) → (tells → new.fresh ≡ mid.fresh) → (tells → OnOk result (saved_net new.state.cell ≡ Some from))
+    → IfErr result (λ fault. fault ≡ ap_.InDoubt) → OnErr result (Rose mid.faults new.faults) → Said tells (asked doc opts made) start new result
+finished_says tells doc opts made start from to mid new (Ok applied) merges le verified fresh saved doubt rose = λ told wanted. record {
+  saved = from;
+  fresh = to;
+  is_saved = saved told;
+  is_fresh = fresh told ∙ verified told wanted;
+  merges = merges;
+}
+finished_says tells doc opts made start from to mid new (Err fault) merges le verified fresh saved doubt rose =
+    subst (λ (f : ApplyFault). Said tells (asked doc opts made) start new (Err f)) (sym doubt) (rose_after start.faults mid.faults new.faults le rose)
+
+pub finished_begun : (result : Result Applied ApplyFault) → IfErr result (λ fault. fault ≡ ap_.InDoubt) → result ≡ Err (ap_.HostFault NotBegun) → ⊥
+finished_begun (Ok applied) doubt is = cc
+finished_begun (Err fault) doubt is = cc
+
+-- ---- where it isn't begun
+
+pub left_says : (tells : Type 0) (a : Asked) (start : Start) (old new : HostView) (left : Left) → (left ≡ Pending → ⊥) → Rose start.faults new.faults → (tells → new.state ≡ old.state) → (left ≡ NotBegun → tells → old.state ≡ start.state)
+    → (tells → cell_of old.state.cell ≡ None) → Said tells a start new (Err (ap_.HostFault left))
+left_says tells a start old new NotBegun side rose same was none = (rose, λ told. same told ∙ was refl told)
+left_says tells a start old new RolledBack side rose same was none = (rose, λ told. ap (λ (s : State). cell_of s.cell) (same told) ∙ none told)
+left_says tells a start old new Pending side rose same was none = absurd (side refl)
+
+-- ---- of the whole
+
+module _ (tells : Type 0) (a : Asked) (old new : HostView) where
+  pub said_says : (result : Result Applied ApplyFault) → Said tells a (start_of old) new result → ApplySays tells a old new result
+  said_says (Ok done) said = said
+  said_says (Err (ap_.Pending until)) said = absurd said
+  said_says (Err (ap_.MergeRefused r)) said = said
+  said_says (Err (ap_.HostFault NotBegun)) said = said
+  said_says (Err (ap_.HostFault RolledBack)) said = said
+  said_says (Err (ap_.HostFault Pending)) said = said
+  said_says (Err ap_.InDoubt) said = said
+  said_says (Err (ap_.KernelRefused k n left)) said = said
+  said_says (Err (ap_.NotVerified found left)) said = (said.0, λ told. let o = said.1 told in (o.saved, o.is_saved, o.other))
+  said_says (Err (ap_.Damaged area)) said = λ told. let had = said told in record { pair = had.pair; left = had.left; damaged = had.damaged }
+  said_says (Err (ap_.HardwareDiffers names)) said = said
+  said_says (Err ap_.OutOfMemory) said = said
+
+  abbrev Made : Type 0
+  Made = Outcome Applied ApplyFault
+
+  -- a change waits, and its time isn't up
+  pub waits_says : (until : ℕ) → (tells → (waits : Waits a.now (cell_of old.state.cell)) × (waits.checkpoint.deadline ≡ until)) → ApplySays tells a old new (Err (ap_.Pending until))
+  waits_says until waiting = λ told.
+      let w = waiting told in
+      let c = w.0.checkpoint in
+      let taken : taken_back a.now c.phase c.made c.deadline ≡ false = ap (λ (p : Phase). taken_back a.now p c.made c.deadline) w.0.waiting ∙ w.0.in_time in
+      let is : (apply a (standing old.state)).answer ≡ Err (ap_.Pending c.deadline) = ap (λ (o : Made). o.answer) (ap (apply_step a) (recover_waits a.now old.state c w.0.is taken)) in
+      subst (λ (d : ℕ). (apply a (standing old.state)).answer ≡ Err (ap_.Pending d)) w.1 is
+
+  -- the settling failed
+  pub unsettled_says : IsLawful old.stops → (tells → old.stops.may_leave old.state) → (fault : BackFault) → (fault ≡ ba.NoCheckpoint → ⊥) → ((left : Left) → fault ≡ ba.HostFault left → Rose old.faults new.faults)
+      → ((left : Left) → fault ≡ ba.HostFault left → left ≢ RolledBack) → (IsBefore fault → tells → new.state ≡ old.state) → ((k n : ℕ) (left : Left) → fault ≡ ba.KernelRefused k n left → WasRefused k n old.kernel new.kernel)
+      → (IsBefore fault → Steps Stays old.stops new.stops) → (tells → (area : ℕ) → fault ≡ ba.Damaged area → IsDamaged area old.state) → (tells → (names : List (List ℕ)) → fault ≡ ba.HardwareDiffers names → Differs names new)
+      → ApplySays tells a old new (Err (apply_fault fault))
+  unsettled_says lawful reads ba.NoCheckpoint set rose side same refused before damaged differs = absurd (set refl)
+  unsettled_says lawful reads (ba.HostFault NotBegun) set rose side same refused before damaged differs = (rose NotBegun refl, λ told. same tt told)
+  unsettled_says lawful reads (ba.HostFault RolledBack) set rose side same refused before damaged differs = absurd (side RolledBack refl refl)
+  unsettled_says lawful reads (ba.HostFault Pending) set rose side same refused before damaged differs = (rose Pending refl, tt)
+  unsettled_says lawful reads (ba.KernelRefused k n left) set rose side same refused before damaged differs = refused k n left refl
+  unsettled_says lawful reads (ba.Damaged area) set rose side same refused before damaged differs = λ told.
+      let had = since_keeps Stays old.stops.moment area old new (omega arith) (before tt) (since old.stops.moment area old lawful (reads told) (omega arith) (damaged told area refl)) in
+      record { pair = had.pair; left = had.left; damaged = had.damaged }
+  unsettled_says lawful reads (ba.HardwareDiffers names) set rose side same refused before damaged differs = λ told. differs told names refl
+  unsettled_says lawful reads ba.OutOfMemory set rose side same refused before damaged differs = tt
+
+  -- what it says of a fault
+  pub said_left : (result : Result Applied ApplyFault) (left : Left) → result ≡ Err (ap_.HostFault left) → ApplySays tells a old new result → ApplySays tells a old new (Err (ap_.HostFault left))
+  said_left result left is says = subst (λ (r : Result Applied ApplyFault). ApplySays tells a old new r) is says
+
+  pub said_doubt : (result : Result Applied ApplyFault) → result ≡ Err ap_.InDoubt → ApplySays tells a old new result → Rose old.faults new.faults
+  said_doubt result is says = subst (λ (r : Result Applied ApplyFault). ApplySays tells a old new r) is says

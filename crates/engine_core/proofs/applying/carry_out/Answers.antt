@@ -1,0 +1,127 @@
+use Rattle.std.proofs.Common.{◌≡◌, ◌∙◌, arith, inl, inr, ℕ, Option, Some, None, Err, true, false, ap, subst, sym, refl}
+use Rattle.net_model.specs.NetData.{NetData}
+use Rattle.kernel_model.specs.Runs.{Runs}
+use Rattle.host_core.specs.HostView.{State}
+use Rattle.engine_model.specs.declared.answers.ApplyFault.{ApplyFault}
+use Rattle.checkpoint_cell.specs.Settled.{Standing}
+use Rattle.engine_model.specs.Undone.{stand}
+use Rattle.engine_model.specs.Sound.{Sound}
+use Rattle.engine_model.specs.Stations.{Only, Kept, Ends, Near, AllNear}
+use Rattle.checkpoint_cell.specs.Settled.{restored_to}
+use Rattle.engine_model.specs.Answers.{IsUndone}
+use Rattle.engine_core.specs.Attempts.{IsOnWay, IsEither, sealed, done}
+use Rattle.engine_core.specs.Applying.{Exit, Change, Asked}
+use Rattle.engine_model.proofs.lemmas.Leading.{kept_on, kept_wider, near_kept, near_ends, kept_stays}
+use Rattle.std.proofs.lemmas.Result.{on_ok_weaker}
+use Rattle.engine_core.proofs.Calms.{calm_on}
+use Rattle.engine_core.proofs.Attempts.{way_back}
+use Rattle.engine_core.proofs.Gives.{gave_up_exit, sealed_near, way_either, finished_exit}
+use Rattle.engine_model.specs.declared.answers.Left.TheVariants.{NotBegun}
+use Rattle.engine_model.specs.declared.answers.ApplyFault.TheVariants.{HostFault}
+use Rattle.engine_core.proofs.Says.{finished_says, finished_begun}
+use Rattle.engine_core.proofs.applying.carry_out.Goals as goal
+use Rattle.engine_core.proofs.applying.carry_out.Goals.{After-attempt, After-finish, After-give_up}
+
+pub finish-requires : goal.finish-requires
+finish-requires g c = λ tells. (c.args.made, c.args.deadline, c.args.from.now, c.in-Ok.ensures.set tells)
+
+way : (g : _) (c : After-attempt g) → g.H.Host.honest → Sound (g.H.Host.told c.args.host.now) → Ends (restored_to c.args.from.now) (g.H.Host.told c.args.host.now) → (g.H.Host.told c.args.host.now).state.net ≡ Some c.args.from.now → Runs c.args.calls.now c.args.from.now c.args.to.now
+    → AllNear (IsOnWay c.args.opts.now.no_commit c.args.made c.args.deadline c.args.from.now c.args.to.now) (g.H.Host.told c.attempt.new.host)
+way g c honest sound ends is runs =
+    near_kept (IsOnWay c.args.opts.now.no_commit c.args.made c.args.deadline c.args.from.now c.args.to.now) (g.H.Host.told c.args.host.now) (g.H.Host.told c.attempt.new.host)
+    (near_ends (IsOnWay c.args.opts.now.no_commit c.args.made c.args.deadline c.args.from.now c.args.to.now) (restored_to c.args.from.now) (g.H.Host.told c.args.host.now) (inl refl) ends) (c.attempt.ensures.kept honest sound ends is runs)
+
+back : (g : _) (c : After-attempt g) → g.H.Host.honest → Sound (g.H.Host.told c.args.host.now) → Ends (restored_to c.args.from.now) (g.H.Host.told c.args.host.now) → (g.H.Host.told c.args.host.now).state.net ≡ Some c.args.from.now → Runs c.args.calls.now c.args.from.now c.args.to.now
+    → (s : State) → (g.H.Host.told c.attempt.new.host).stops.may_leave s → IsUndone s (restored_to c.args.from.now)
+back g c honest sound ends is runs s left = way_back c.args.opts.now.no_commit c.args.made c.args.deadline c.args.from.now c.args.to.now _ (way g c honest sound ends is runs s left)
+
+pub returns-in-Err-clause-kept : goal.returns-in-Err-clause-kept
+returns-in-Err-clause-kept g c = λ honest sound ends is runs.
+    let at = (goal.at.returns-in-Err-clause-kept g c).After-attempt in
+    let old = g.H.Host.told c.args.host.now in
+    let mid = g.H.Host.told c.attempt.new.host in
+    let new = g.H.Host.told c.give_up.new.host in
+    let first = c.attempt.ensures.kept honest sound ends is runs in
+    kept_on (IsEither c.args.opts.now.no_commit c.args.made c.args.deadline c.args.from.now c.args.to.now) old mid new
+    (kept_wider (IsOnWay c.args.opts.now.no_commit c.args.made c.args.deadline c.args.from.now c.args.to.now) (IsEither c.args.opts.now.no_commit c.args.made c.args.deadline c.args.from.now c.args.to.now)
+    (λ a way. way_either c.args.opts.now.no_commit c.args.made c.args.deadline c.args.from.now c.args.to.now a way) old mid first)
+    (kept_wider (Only (restored_to c.args.from.now)) (IsEither c.args.opts.now.no_commit c.args.made c.args.deadline c.args.from.now c.args.to.now) (λ a same. inl same) mid new
+    (c.give_up.ensures.kept honest first.sound c.args.from.now (back g at honest sound ends is runs)))
+
+pub returns-in-Err-clause-exit : goal.returns-in-Err-clause-exit
+returns-in-Err-clause-exit g c = λ honest sound ends is runs doc merges.
+    let at = (goal.at.returns-in-Err-clause-exit g c).After-attempt in
+    let old = g.H.Host.told c.args.host.now in
+    let mid = g.H.Host.told c.attempt.new.host in
+    let new = g.H.Host.told c.give_up.new.host in
+    let first = c.attempt.ensures.kept honest sound ends is runs in
+    let kept = c.give_up.ensures.kept honest first.sound c.args.from.now (back g at honest sound ends is runs) in
+    let onway = near_kept (IsOnWay c.args.opts.now.no_commit c.args.made c.args.deadline c.args.from.now c.args.to.now) mid new (way g at honest sound ends is runs)
+    (kept_wider (Only (restored_to c.args.from.now)) (IsOnWay c.args.opts.now.no_commit c.args.made c.args.deadline c.args.from.now c.args.to.now) (λ a same. inl same) mid new kept) in
+    let asked : Asked = record { doc = doc; no_commit = c.args.opts.now.no_commit; made = c.args.made; deadline = c.args.deadline } in
+    let change : Change asked (restored_to c.args.from.now) = record { from = c.args.from.now; to = c.args.to.now; stood = refl; merges = merges } in
+    gave_up_exit asked (restored_to c.args.from.now) change old.faults mid.faults new onway c.in-Err.missed c.give_up.result
+    (c.in-Err.ensures.missed honest is runs) (λ failed. c.in-Err.ensures.fault (ap (λ e. Err e) failed)) c.give_up.ensures.later c.give_up.ensures.memory
+    (λ memory. near_kept (Only (restored_to c.args.from.now)) mid new (c.in-Err.ensures.memory honest sound ends is runs (ap (λ e. Err e) memory)) kept)
+    (c.give_up.ensures.exit honest first.sound c.args.from.now (back g at honest sound ends is runs) (c.in-Err.ensures.missed honest is runs))
+
+finished : (g : _) (c : After-finish g) → g.H.Host.honest → Sound (g.H.Host.told c.args.host.now) → Ends (restored_to c.args.from.now) (g.H.Host.told c.args.host.now) → (g.H.Host.told c.args.host.now).state.net ≡ Some c.args.from.now → Runs c.args.calls.now c.args.from.now c.args.to.now
+    → Kept (Only (done c.args.opts.now.no_commit c.args.made c.args.deadline c.args.from.now c.args.to.now)) (g.H.Host.told c.attempt.new.host) (g.H.Host.told c.finish.new.host)
+finished g c honest sound ends is runs =
+    c.finish.ensures.kept (g.met.H.Host.honest_tells honest) (c.attempt.ensures.kept honest sound ends is runs).sound c.args.made c.args.deadline c.args.from.now c.args.to.now
+    (c.in-Ok.ensures.set (g.met.H.Host.honest_tells honest)) (c.in-Ok.ensures.ends honest is runs)
+
+whole : (g : _) (c : After-finish g) → g.H.Host.honest → Sound (g.H.Host.told c.args.host.now) → Ends (restored_to c.args.from.now) (g.H.Host.told c.args.host.now) → (g.H.Host.told c.args.host.now).state.net ≡ Some c.args.from.now → Runs c.args.calls.now c.args.from.now c.args.to.now
+    → Kept (IsEither c.args.opts.now.no_commit c.args.made c.args.deadline c.args.from.now c.args.to.now) (g.H.Host.told c.args.host.now) (g.H.Host.told c.finish.new.host)
+whole g c honest sound ends is runs =
+    let old = g.H.Host.told c.args.host.now in
+    let mid = g.H.Host.told c.attempt.new.host in
+    let new = g.H.Host.told c.finish.new.host in
+    kept_on (IsEither c.args.opts.now.no_commit c.args.made c.args.deadline c.args.from.now c.args.to.now) old mid new
+    (kept_wider (IsOnWay c.args.opts.now.no_commit c.args.made c.args.deadline c.args.from.now c.args.to.now) (IsEither c.args.opts.now.no_commit c.args.made c.args.deadline c.args.from.now c.args.to.now)
+    (λ a way. way_either c.args.opts.now.no_commit c.args.made c.args.deadline c.args.from.now c.args.to.now a way) old mid (c.attempt.ensures.kept honest sound ends is runs))
+    (kept_wider (Only (done c.args.opts.now.no_commit c.args.made c.args.deadline c.args.from.now c.args.to.now)) (IsEither c.args.opts.now.no_commit c.args.made c.args.deadline c.args.from.now c.args.to.now) (λ a same. inr same) mid new (finished g c honest sound ends is runs))
+
+pub returns-in-Ok-clause-kept : goal.returns-in-Ok-clause-kept
+returns-in-Ok-clause-kept g c = λ honest sound ends is runs. whole g (goal.at.returns-in-Ok-clause-kept g c).After-finish honest sound ends is runs
+
+pub returns-in-Ok-clause-exit : goal.returns-in-Ok-clause-exit
+returns-in-Ok-clause-exit g c = λ honest sound ends is runs doc merges.
+    let tells = g.met.H.Host.honest_tells honest in
+    let at = (goal.at.returns-in-Ok-clause-exit g c).After-finish in
+    let mid = g.H.Host.told c.attempt.new.host in
+    let new = g.H.Host.told c.finish.new.host in
+    let asked : Asked = record { doc = doc; no_commit = c.args.opts.now.no_commit; made = c.args.made; deadline = c.args.deadline } in
+    let change : Change asked (restored_to c.args.from.now) = record { from = c.args.from.now; to = c.args.to.now; stood = refl; merges = merges } in
+    let there = c.in-Ok.ensures.ends honest is runs in
+    let near : AllNear (IsEither c.args.opts.now.no_commit c.args.made c.args.deadline c.args.from.now c.args.to.now) mid = λ s left. subst (λ (x : Standing). Near (IsEither c.args.opts.now.no_commit c.args.made c.args.deadline c.args.from.now c.args.to.now) x) (sym (there s left)) (sealed_near c.args.opts.now.no_commit c.args.made c.args.deadline c.args.from.now c.args.to.now) in
+    finished_exit asked (restored_to c.args.from.now) change (g.H.Host.told c.args.host.now).faults c.finish.result new
+    (c.finish.ensures.ends tells c.args.made c.args.deadline c.args.from.now c.args.to.now (c.in-Ok.ensures.set tells) there) c.finish.ensures.doubt
+    (c.finish.ensures.nets tells c.args.made c.args.deadline c.args.from.now c.args.to.now there)
+    (near_kept (IsEither c.args.opts.now.no_commit c.args.made c.args.deadline c.args.from.now c.args.to.now) mid new near
+    (kept_wider (Only (done c.args.opts.now.no_commit c.args.made c.args.deadline c.args.from.now c.args.to.now)) (IsEither c.args.opts.now.no_commit c.args.made c.args.deadline c.args.from.now c.args.to.now) (λ a same. inr same) mid new (finished g at honest sound ends is runs)))
+
+pub returns-in-Ok-clause-says : goal.returns-in-Ok-clause-says
+returns-in-Ok-clause-says g c = λ doc start follows calls merges.
+    let mid = g.H.Host.told c.attempt.new.host in
+    finished_says g.H.Host.tells doc c.args.opts.now c.args.made start c.args.from.now c.args.to.now mid (g.H.Host.told c.finish.new.host) c.finish.result merges (omega (arith, follows.faults, c.attempt.ensures.later))
+    c.in-Ok.ensures.verified c.finish.ensures.kernel.fresh (λ tells. c.finish.ensures.saved tells c.args.made c.args.deadline c.args.from.now (c.in-Ok.ensures.set tells)) c.finish.ensures.doubt c.finish.ensures.fault
+
+pub returns-in-Err-clause-says : goal.returns-in-Err-clause-says
+returns-in-Err-clause-says g c = λ doc start follows calls merges.
+    c.give_up.ensures.says doc c.args.opts.now c.args.made start (omega (arith, follows.faults, c.attempt.ensures.later)) (omega (arith, follows.moment, c.attempt.ensures.moment)) (c.in-Err.ensures.says doc start follows calls merges)
+
+pub returns-in-Err-clause-begun : goal.returns-in-Err-clause-begun
+returns-in-Err-clause-begun g c = λ is. c.give_up.ensures.begun (let same : c.give_up.result ≡ HostFault NotBegun = cc in same)
+
+pub returns-in-Ok-clause-begun : goal.returns-in-Ok-clause-begun
+returns-in-Ok-clause-begun g c = λ is. finished_begun c.finish.result c.finish.ensures.doubt is
+
+-- ---- what isn't touched
+
+pub returns-in-Ok-clause-calm : goal.returns-in-Ok-clause-calm
+returns-in-Ok-clause-calm g c = λ honest t le is plan calm.
+    let mid = g.H.Host.told c.attempt.new.host in
+    let new = g.H.Host.told c.finish.new.host in
+    let here = c.in-Ok.ensures.calm honest t le is plan calm in
+    on_ok_weaker c.finish.result (λ steps. calm_on c.args.from.now c.args.to.now t mid new (g.met.H.Host.lawful c.attempt.new.host).stops (omega (arith, le, c.attempt.ensures.moment)) here steps) c.finish.ensures.stays

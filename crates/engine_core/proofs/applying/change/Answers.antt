@@ -1,0 +1,159 @@
+use Rattle.std.proofs.Common.{◌≡◌, ◌∙◌, ◌+◌, ◌-◌, ◌^◌, min, inl, inr, ℕ, List, Option, Some, None, Err, Ok, Result, arith, ap, subst, sym, refl}
+use Rattle.std.specs.Prelude.{if◌then◌else◌, IfOk}
+use Rattle.net_model.specs.NetData.{NetData}
+use Rattle.net_model.specs.declared.Call.{Call}
+use Rattle.kernel_model.specs.Runs.{Runs}
+use Rattle.engine_model.specs.Merge.{merge}
+use Rattle.host_core.specs.HostView.{State, HostView}
+use Rattle.checkpoint_cell.specs.Cell.{cell_of}
+use Rattle.checkpoint_cell.specs.Steps.{Holds}
+use Rattle.checkpoint_cell.specs.Settled.{Standing, standing}
+use Rattle.engine_model.specs.Undone.{stand}
+use Rattle.engine_model.specs.Sound.{Sound}
+use Rattle.engine_model.specs.Stations.{Only, Kept, Ends, Near, AllNear}
+use Rattle.checkpoint_cell.specs.Settled.{restored_to}
+use Rattle.engine_core.specs.Attempts.{IsEither}
+use Rattle.engine_core.specs.Applying.{IsStation, Exit, Change, Asked, asked_of}
+use Rattle.engine_model.proofs.lemmas.Leading.{kept_on, kept_wider, near_ends, kept_stays, ends_stays, sound_stays}
+use Rattle.engine_model.proofs.lemmas.Restores.{held_stays}
+use Rattle.std.proofs.lemmas.Result.{on_ok_weaker}
+use Rattle.plan_model.specs.Plans.{IsPlan}
+use Rattle.engine_core.proofs.Calms.{calm_as, calm_stays, one_net, one_merged}
+use Rattle.engine_core.proofs.Gives.{change_exit, either_station}
+use Rattle.engine_core.proofs.Says.{quiet_same, quiet_dumped, follows_on, since, since_keeps, left_says, rose_after}
+use Rattle.host_core.specs.HostView.{Kernel}
+use Rattle.host_core.specs.Stops.{Stays}
+use Rattle.engine_model.specs.Machine.{asked}
+use Rattle.engine_model.specs.Faults.{IsDamaged}
+use Rattle.engine_core.proofs.applying.change.Goals as goal
+use Rattle.engine_core.proofs.applying.change.Goals.{After-carry_out, After-dump}
+
+record Begun (g : _) (c : After-carry_out g) : Type 0 where
+  stood : standing (g.H.Host.told c.args.host.now).state ≡ restored_to c.in-Ok.found
+  ends : Ends (restored_to c.in-Ok.found) (g.H.Host.told c.dump.new.self)
+  sound : Sound (g.H.Host.told c.dump.new.self)
+  net : (g.H.Host.told c.dump.new.self).state.net ≡ Some c.in-Ok.found
+  runs : Runs c.deref.result.now c.in-Ok.found c.in-Ok-wanted.to
+  merges : merge c.in-Ok.found c.args.doc.now ≡ Ok c.in-Ok-wanted.to
+  deadline : c.saturating_add-deadline.result ≡ (asked_of c.args.doc.now c.args.opts.now c.args.now).deadline
+
+begun : (g : _) (c : After-carry_out g) → g.H.Host.honest → Sound (g.H.Host.told c.args.host.now) → Ends (standing (g.H.Host.told c.args.host.now).state) (g.H.Host.told c.args.host.now) → Begun g c
+begun g c honest sound ends =
+    let tells = g.met.H.Host.honest_tells honest in
+    let old = g.H.Host.told c.args.host.now in
+    let mid = g.H.Host.told c.dump.new.self in
+    let stood : standing old.state ≡ restored_to c.in-Ok.found = λ i. record { net = c.in-Ok.ensures.net honest i; cell = (c.requires.none tells).cell i } in
+    record {
+      stood = stood;
+      ends = subst (λ (x : Standing). Ends x mid) stood (ends_stays (standing old.state) old mid ends c.dump.ensures.stops);
+      sound = sound_stays old mid sound c.dump.ensures.stops;
+      net = ap (λ (s : State). s.net) (c.dump.ensures.state tells) ∙ c.in-Ok.ensures.net honest;
+      runs = subst (λ (l : List Call). Runs l c.in-Ok.found c.in-Ok-wanted.to) (sym c.deref.ensures.value) c.in-Ok-plan.ensures.run;
+      merges = c.in-Ok-wanted.ensures.merged;
+      deadline = omega (arith, c.saturating_add-deadline.ensures);
+    }
+
+out : (g : _) (c : After-carry_out g) → g.H.Host.honest → Sound (g.H.Host.told c.args.host.now) → Ends (standing (g.H.Host.told c.args.host.now).state) (g.H.Host.told c.args.host.now)
+    → Exit (asked_of c.args.doc.now c.args.opts.now c.args.now) (standing (g.H.Host.told c.args.host.now).state) (g.H.Host.told c.args.host.now).faults c.carry_out.result (g.H.Host.told c.carry_out.new.host)
+out g c honest sound ends =
+    let b = begun g c honest sound ends in
+    let asked = asked_of c.args.doc.now c.args.opts.now c.args.now in
+    change_exit asked (record { doc = c.args.doc.now; no_commit = c.args.opts.now.no_commit; made = c.args.now; deadline = c.saturating_add-deadline.result }) _ (restored_to c.in-Ok.found) _ (g.H.Host.told c.dump.new.self).faults _ _
+    (λ i. record { doc = c.args.doc.now; no_commit = c.args.opts.now.no_commit; made = c.args.now; deadline = b.deadline i }) b.stood c.dump.ensures.cause.later
+    (c.carry_out.ensures.exit honest b.sound b.ends b.net b.runs c.args.doc.now b.merges)
+
+kept : (g : _) (c : After-carry_out g) → g.H.Host.honest → Sound (g.H.Host.told c.args.host.now) → Ends (standing (g.H.Host.told c.args.host.now).state) (g.H.Host.told c.args.host.now)
+    → Kept (IsStation (asked_of c.args.doc.now c.args.opts.now c.args.now) (standing (g.H.Host.told c.args.host.now).state)) (g.H.Host.told c.args.host.now) (g.H.Host.told c.carry_out.new.host)
+kept g c honest sound ends =
+    let b = begun g c honest sound ends in
+    let asked : Asked = asked_of c.args.doc.now c.args.opts.now c.args.now in
+    let old = g.H.Host.told c.args.host.now in
+    let mid = g.H.Host.told c.dump.new.self in
+    let new = g.H.Host.told c.carry_out.new.host in
+    let change : Change asked (standing old.state) = record { from = c.in-Ok.found; to = c.in-Ok-wanted.to; stood = b.stood; merges = b.merges } in
+    kept_on (IsStation asked (standing old.state)) old mid new (kept_stays (IsStation asked (standing old.state)) old mid sound c.dump.ensures.stops)
+    (kept_wider (IsEither c.args.opts.now.no_commit c.args.now c.saturating_add-deadline.result c.in-Ok.found c.in-Ok-wanted.to) (IsStation asked (standing old.state))
+    (λ a is. either_station asked (standing old.state) change c.saturating_add-deadline.result b.deadline a is) mid new
+    (c.carry_out.ensures.kept honest b.sound b.ends b.net b.runs))
+
+pub returns-clause-exit : goal.returns-clause-exit
+returns-clause-exit g c = λ honest sound ends. out g (goal.at.returns-clause-exit g c).After-carry_out honest sound ends
+
+pub returns-clause-kept : goal.returns-clause-kept
+returns-clause-kept g c = λ honest sound ends. kept g (goal.at.returns-clause-kept g c).After-carry_out honest sound ends
+
+stays : (g : _) (c : After-dump g) → Sound (g.H.Host.told c.args.host.now) → Kept (IsStation (asked_of c.args.doc.now c.args.opts.now c.args.now) (standing (g.H.Host.told c.args.host.now).state)) (g.H.Host.told c.args.host.now) (g.H.Host.told c.dump.new.self)
+stays g c sound = kept_stays (IsStation (asked_of c.args.doc.now c.args.opts.now c.args.now) (standing (g.H.Host.told c.args.host.now).state)) (g.H.Host.told c.args.host.now) (g.H.Host.told c.dump.new.self) sound c.dump.ensures.stops
+
+pub returns-in-Err-Refused-clause-kept : goal.returns-in-Err-Refused-clause-kept
+returns-in-Err-Refused-clause-kept g c = λ honest sound ends. stays g (goal.at.returns-in-Err-Refused-clause-kept g c).After-dump sound
+
+pub returns-in-Err-OutOfMemory-wanted-clause-kept : goal.returns-in-Err-OutOfMemory-wanted-clause-kept
+returns-in-Err-OutOfMemory-wanted-clause-kept g c = λ honest sound ends. stays g (goal.at.returns-in-Err-OutOfMemory-wanted-clause-kept g c).After-dump sound
+
+pub returns-in-Err-clause-kept : goal.returns-in-Err-clause-kept
+returns-in-Err-clause-kept g c = λ honest sound ends. stays g (goal.at.returns-in-Err-clause-kept g c).After-dump sound
+
+pub returns-in-Err-Refused-clause-exit : goal.returns-in-Err-Refused-clause-exit
+returns-in-Err-Refused-clause-exit g c = λ honest sound ends.
+    let old = g.H.Host.told c.args.host.now in
+    let stood : standing old.state ≡ restored_to c.in-Ok.found = λ i. record { net = c.in-Ok.ensures.net honest i; cell = (c.requires.none (g.met.H.Host.honest_tells honest)).cell i } in
+    let broken : merge c.in-Ok.found c.args.doc.now ≡ Err c.in-Err-Refused.r = c.in-Err-Refused.ensures.refused c.in-Err-Refused.r (ap (λ e. Err e) c.in-Err-Refused.field-0-is) in
+    let same = c.in-Err-Refused.r-is in
+    (c.in-Ok.found, stood, cc, ends_stays (standing old.state) old (g.H.Host.told c.dump.new.self) ends c.dump.ensures.stops)
+
+pub returns-clause-value : goal.returns-clause-value
+returns-clause-value g c =
+    let same : c.saturating_add-deadline.result ≡ (asked_of c.args.doc.now c.args.opts.now c.args.now).deadline = omega (arith, c.saturating_add-deadline.ensures) in
+    subst (λ (d : ℕ). IfOk c.carry_out.result (λ applied. applied.deadline ≡ (if c.args.opts.now.no_commit then Some d else None))) same c.carry_out.ensures.value
+
+-- ---- on every host
+
+pub returns-in-Err-Failed-clause-says : goal.returns-in-Err-Failed-clause-says
+returns-in-Err-Failed-clause-says g c = λ start follows was.
+    let old = g.H.Host.told c.args.host.now in
+    let mid = g.H.Host.told c.dump.new.self in
+    left_says g.H.Host.tells (asked c.args.doc.now c.args.opts.now c.args.now) start old mid c.args.left c.requires.left
+    (rose_after start.faults old.faults mid.faults follows.faults (c.in-Err-Failed.ensures.cause.failed (ap (λ e. Err e) c.in-Err-Failed.field-0-is))) c.dump.ensures.state was (λ tells. (c.requires.none tells).cell)
+
+pub returns-in-Err-Damaged-clause-says : goal.returns-in-Err-Damaged-clause-says
+returns-in-Err-Damaged-clause-says g c = λ start follows was tells.
+    let old = g.H.Host.told c.args.host.now in
+    let mid = g.H.Host.told c.dump.new.self in
+    let damaged : IsDamaged 0 old.state = inl (refl, c.in-Err-Damaged.ensures.damaged tells (ap (λ e. Err e) c.in-Err-Damaged.field-0-is)) in
+    since_keeps Stays start.moment 0 old mid follows.moment c.dump.ensures.stops (since start.moment 0 old (g.met.H.Host.lawful c.args.host.now).stops ((g.met.H.Host.lawful c.args.host.now).reads tells) follows.moment damaged)
+
+pub returns-in-Err-Refused-clause-says : goal.returns-in-Err-Refused-clause-says
+returns-in-Err-Refused-clause-says g c = λ start follows was tells.
+    let broken : merge c.in-Ok.found c.args.doc.now ≡ Err c.in-Err-Refused.r = c.in-Err-Refused.ensures.refused c.in-Err-Refused.r (ap (λ e. Err e) c.in-Err-Refused.field-0-is) in
+    let same = c.in-Err-Refused.r-is in
+    (c.in-Ok.found, c.in-Ok.ensures.fresh tells, cc)
+
+pub returns-clause-says : goal.returns-clause-says
+returns-clause-says g c = λ start follows was.
+    let old = g.H.Host.told c.args.host.now in
+    let mid = g.H.Host.told c.dump.new.self in
+    c.carry_out.ensures.says c.args.doc.now start
+    (follows_on start old mid follows c.dump.ensures.cause.later c.dump.ensures.stops.later (quiet_dumped old.kernel mid.kernel c.in-Ok.ensures.calls))
+    (ap (λ (k : Kernel). k.calls) c.in-Ok.ensures.calls) c.in-Ok-wanted.ensures.merged
+
+pub returns-clause-unbegun : goal.returns-clause-unbegun
+returns-clause-unbegun g c = λ is. absurd (c.carry_out.ensures.begun is)
+
+-- ---- what isn't touched
+
+pub returns-clause-calm : goal.returns-clause-calm
+returns-clause-calm g c = λ honest t le from to is merges calm.
+    let tells = g.met.H.Host.honest_tells honest in
+    let old = g.H.Host.told c.args.host.now in
+    let mid = g.H.Host.told c.dump.new.self in
+    let new = g.H.Host.told c.carry_out.new.host in
+    let found = c.in-Ok.found in
+    let aim = c.in-Ok-wanted.to in
+    let one : found ≡ from = one_net found from old.state.net (c.in-Ok.ensures.net honest) is in
+    let two : aim ≡ to = one_merged aim to (merge from c.args.doc.now) (subst (λ (n : NetData). merge n c.args.doc.now ≡ Ok aim) one c.in-Ok-wanted.ensures.merged) merges in
+    let here : mid.state.net ≡ Some found = ap (λ (s : State). s.net) (c.dump.ensures.state tells) ∙ c.in-Ok.ensures.net honest in
+    let plan : IsPlan found aim c.deref.result.now = subst (λ (l : List Call). IsPlan found aim l) (sym c.deref.ensures.value) c.in-Ok-plan.ensures in
+    let begun = calm_as from to found aim t mid one two (calm_stays from to t old mid (g.met.H.Host.lawful c.args.host.now).stops le calm c.dump.ensures.stops) in
+    on_ok_weaker c.carry_out.result (λ after. calm_as found aim from to t new (sym one) (sym two) after)
+    (c.carry_out.ensures.calm honest t (omega (arith, le, c.dump.ensures.stops.later)) here plan begun)

@@ -1,0 +1,120 @@
+use Rattle.std.proofs.Common.{◌≡◌, ◌∙◌, inl, inr, ℕ, Option, Some, None, Err, Ok, arith, ap, subst, sym, refl}
+use Rattle.host_core.specs.HostView.{State, HostView}
+use Rattle.checkpoint_cell.specs.Settled.{Standing, standing}
+use Rattle.engine_model.specs.Sound.{Sound}
+use Rattle.engine_model.specs.declared.answers.ApplyFault.{ApplyFault}
+use Rattle.engine_model.specs.Stations.{Only, Kept, Ends, IsSettled}
+use Rattle.engine_core.specs.Applying.{IsStation, IsApplied, Exit, ExitApply, AfterSettling, Asked, asked_of}
+use Rattle.engine_model.proofs.lemmas.Leading.{kept_on, kept_wider}
+use Rattle.engine_model.specs.Machine.{asked, apply_fault}
+use Rattle.engine_model.specs.Faults.{ApplySays}
+use Rattle.engine_model.specs.declared.answers.Left.TheVariants.{NotBegun, RolledBack}
+use Rattle.engine_core.specs.Saying.{start_of, Follows}
+use Rattle.engine_core.proofs.Gives.{unsettled_exit, after_exit, after_kept, now_ends}
+use Rattle.checkpoint_cell.specs.Cell.{cell_of}
+use Rattle.engine_core.proofs.Calms.{calm_first, calm_stays}
+use Rattle.engine_core.proofs.Says.{said_says, waits_says, unsettled_says}
+use Rattle.host_core.specs.HostView.{NoneRefused}
+use Rattle.engine_core.proofs.applying.settle_and_change.Goals as goal
+use Rattle.engine_core.proofs.applying.settle_and_change.Goals.{After-take_back}
+
+pub returns-in-Ok-Waiting-clause-kept : goal.returns-in-Ok-Waiting-clause-kept
+returns-in-Ok-Waiting-clause-kept g c = λ honest sound. kept_wider (IsSettled c.args.now (g.H.Host.told c.args.host.now).state) (IsApplied (asked_of c.args.doc.now c.args.opts.now c.args.now) (g.H.Host.told c.args.host.now).state) (λ a is. inl is) (g.H.Host.told c.args.host.now) (g.H.Host.told c.take_back.new.host) (c.take_back.ensures.kept honest sound)
+
+pub returns-in-Ok-Waiting-clause-exit : goal.returns-in-Ok-Waiting-clause-exit
+returns-in-Ok-Waiting-clause-exit g c = λ honest sound.
+    let w = c.take_back.ensures.waiting (g.met.H.Host.honest_tells honest) c.in-Ok-Waiting.deadline (c.in-Ok-Waiting.is ∙ ap (λ r. Ok r) c.in-Ok-Waiting.field-0-is) in
+    (w.0, w.1, c.in-Ok-Waiting.ensures.ends honest sound)
+
+pub returns-in-Err-clause-exit : goal.returns-in-Err-clause-exit
+returns-in-Err-clause-exit g c = λ honest sound.
+    let tells = g.met.H.Host.honest_tells honest in
+    subst (λ (a : ApplyFault). ExitApply (asked_of c.args.doc.now c.args.opts.now c.args.now) (g.H.Host.told c.args.host.now) (Err a) (g.H.Host.told c.take_back.new.host)) (sym c.unsettled.ensures)
+    (unsettled_exit (asked_of c.args.doc.now c.args.opts.now c.args.now) (g.H.Host.told c.args.host.now) (g.H.Host.told c.take_back.new.host) (c.take_back.ensures.kept honest sound).during c.in-Err.fault (c.in-Err.ensures.healthy honest sound) (λ is. c.in-Err.ensures.set_there (ap (λ e. Err e) is)) c.in-Err.ensures.before
+    (λ is. c.in-Err.ensures.pending tells (ap (λ e. Err e) is)) (λ is. c.in-Err.ensures.memory tells (ap (λ e. Err e) is)) (c.in-Err.ensures.going honest sound))
+
+pub returns-in-Err-clause-kept : goal.returns-in-Err-clause-kept
+returns-in-Err-clause-kept g c = λ honest sound. kept_wider (IsSettled c.args.now (g.H.Host.told c.args.host.now).state) (IsApplied (asked_of c.args.doc.now c.args.opts.now c.args.now) (g.H.Host.told c.args.host.now).state) (λ a is. inl is) (g.H.Host.told c.args.host.now) (g.H.Host.told c.take_back.new.host) (c.take_back.ensures.kept honest sound)
+
+pub returns-in-Ok-Nothing-clause-exit : goal.returns-in-Ok-Nothing-clause-exit
+returns-in-Ok-Nothing-clause-exit g c = λ honest sound.
+    let here = (g.met.H.Host.lawful c.take_back.new.host).reads (g.met.H.Host.honest_tells honest) in
+    let ends = c.in-Ok-Nothing.ensures.ends honest sound in
+    after_exit (asked_of c.args.doc.now c.args.opts.now c.args.now) (g.H.Host.told c.args.host.now) (g.H.Host.told c.take_back.new.host) (g.H.Host.told c.change.new.host) here ends c.change.result c.take_back.ensures.later
+    (c.change.ensures.exit honest (c.take_back.ensures.kept honest sound).sound (now_ends ends.0 (g.H.Host.told c.take_back.new.host) here ends.2))
+
+pub returns-in-Ok-Nothing-clause-kept : goal.returns-in-Ok-Nothing-clause-kept
+returns-in-Ok-Nothing-clause-kept g c = λ honest sound.
+    let here = (g.met.H.Host.lawful c.take_back.new.host).reads (g.met.H.Host.honest_tells honest) in
+    let ends = c.in-Ok-Nothing.ensures.ends honest sound in
+    let first = c.take_back.ensures.kept honest sound in
+    after_kept (asked_of c.args.doc.now c.args.opts.now c.args.now) (g.H.Host.told c.args.host.now) (g.H.Host.told c.take_back.new.host) (g.H.Host.told c.change.new.host) here ends first
+    (c.change.ensures.kept honest first.sound (now_ends ends.0 (g.H.Host.told c.take_back.new.host) here ends.2))
+
+pub returns-in-Ok-Restored-clause-exit : goal.returns-in-Ok-Restored-clause-exit
+returns-in-Ok-Restored-clause-exit g c = λ honest sound.
+    let here = (g.met.H.Host.lawful c.take_back.new.host).reads (g.met.H.Host.honest_tells honest) in
+    let ends = c.in-Ok-Restored.ensures.ends honest sound in
+    after_exit (asked_of c.args.doc.now c.args.opts.now c.args.now) (g.H.Host.told c.args.host.now) (g.H.Host.told c.take_back.new.host) (g.H.Host.told c.change-in-Ok-Restored.new.host) here ends c.change-in-Ok-Restored.result c.take_back.ensures.later
+    (c.change-in-Ok-Restored.ensures.exit honest (c.take_back.ensures.kept honest sound).sound (now_ends ends.0 (g.H.Host.told c.take_back.new.host) here ends.2))
+
+pub returns-in-Ok-Restored-clause-kept : goal.returns-in-Ok-Restored-clause-kept
+returns-in-Ok-Restored-clause-kept g c = λ honest sound.
+    let here = (g.met.H.Host.lawful c.take_back.new.host).reads (g.met.H.Host.honest_tells honest) in
+    let ends = c.in-Ok-Restored.ensures.ends honest sound in
+    let first = c.take_back.ensures.kept honest sound in
+    after_kept (asked_of c.args.doc.now c.args.opts.now c.args.now) (g.H.Host.told c.args.host.now) (g.H.Host.told c.take_back.new.host) (g.H.Host.told c.change-in-Ok-Restored.new.host) here ends first
+    (c.change-in-Ok-Restored.ensures.kept honest first.sound (now_ends ends.0 (g.H.Host.told c.take_back.new.host) here ends.2))
+
+-- ---- on every host
+
+begun : (g : _) (c : After-take_back g) → (quiet : NoneRefused (g.H.Host.told c.args.host.now).kernel (g.H.Host.told c.take_back.new.host).kernel) → Follows (start_of (g.H.Host.told c.args.host.now)) (g.H.Host.told c.take_back.new.host)
+begun g c quiet = record { faults = c.take_back.ensures.later; moment = c.take_back.ensures.moves.later; quiet = quiet }
+
+pub returns-in-Ok-Waiting-clause-says : goal.returns-in-Ok-Waiting-clause-says
+returns-in-Ok-Waiting-clause-says g c =
+    waits_says g.H.Host.tells (asked c.args.doc.now c.args.opts.now c.args.now) (g.H.Host.told c.args.host.now) (g.H.Host.told c.take_back.new.host) c.in-Ok-Waiting.deadline
+    (λ tells. c.take_back.ensures.waiting tells c.in-Ok-Waiting.deadline (c.in-Ok-Waiting.is ∙ ap (λ r. Ok r) c.in-Ok-Waiting.field-0-is))
+
+pub returns-in-Ok-Nothing-clause-says : goal.returns-in-Ok-Nothing-clause-says
+returns-in-Ok-Nothing-clause-says g c =
+    let old = g.H.Host.told c.args.host.now in
+    said_says g.H.Host.tells (asked c.args.doc.now c.args.opts.now c.args.now) old (g.H.Host.told c.change.new.host) c.change.result
+    (c.change.ensures.says (start_of old) (begun g (goal.at.returns-in-Ok-Nothing-clause-says g c).After-take_back c.in-Ok-Nothing.ensures.quiet)
+    (λ is tells. c.take_back.ensures.nothing_same tells (c.in-Ok-Nothing.is ∙ ap (λ r. Ok r) c.in-Ok-Nothing.field-0-is)))
+
+pub returns-in-Ok-Restored-clause-says : goal.returns-in-Ok-Restored-clause-says
+returns-in-Ok-Restored-clause-says g c =
+    let old = g.H.Host.told c.args.host.now in
+    said_says g.H.Host.tells (asked c.args.doc.now c.args.opts.now c.args.now) old (g.H.Host.told c.change-in-Ok-Restored.new.host) c.change-in-Ok-Restored.result
+    (c.change-in-Ok-Restored.ensures.says (start_of old) (begun g (goal.at.returns-in-Ok-Restored-clause-says g c).After-take_back c.in-Ok-Restored.ensures.quiet)
+    (λ is. let e : RolledBack ≡ NotBegun = is in absurd (cc)))
+
+pub returns-in-Err-clause-says : goal.returns-in-Err-clause-says
+returns-in-Err-clause-says g c =
+    let old = g.H.Host.told c.args.host.now in
+    let new = g.H.Host.told c.take_back.new.host in
+    subst (λ (a : ApplyFault). ApplySays g.H.Host.tells (asked c.args.doc.now c.args.opts.now c.args.now) old new (Err a)) (sym c.unsettled.ensures)
+    (unsettled_says g.H.Host.tells (asked c.args.doc.now c.args.opts.now c.args.now) old new (g.met.H.Host.lawful c.args.host.now).stops (g.met.H.Host.lawful c.args.host.now).reads c.in-Err.fault
+    (λ is. c.in-Err.ensures.set_there (ap (λ e. Err e) is)) (λ left is. c.in-Err.ensures.fault left (ap (λ e. Err e) is)) (λ left is. c.in-Err.ensures.side left (ap (λ e. Err e) is)) c.in-Err.ensures.same
+    (λ k n left is. c.in-Err.ensures.refused k n left (ap (λ e. Err e) is)) c.in-Err.ensures.before (λ tells area is. c.in-Err.ensures.damaged tells area (ap (λ e. Err e) is)) (λ tells names is. c.in-Err.ensures.differs tells names (ap (λ e. Err e) is)))
+
+-- ---- what isn't touched
+
+pub returns-in-Ok-Nothing-clause-calm : goal.returns-in-Ok-Nothing-clause-calm
+returns-in-Ok-Nothing-clause-calm g c = λ honest sound from to is merges.
+    let tells = g.met.H.Host.honest_tells honest in
+    let old = g.H.Host.told c.args.host.now in
+    let mid = g.H.Host.told c.take_back.new.host in
+    let nothing = c.in-Ok-Nothing.is ∙ ap (λ r. Ok r) c.in-Ok-Nothing.field-0-is in
+    let net : old.state.net ≡ Some from = ap (λ (x : Standing). x.net) is in
+    let none : cell_of old.state.cell ≡ None = ap (λ (x : Standing). x.cell) is in
+    let first = calm_first from to old (g.met.H.Host.lawful c.args.host.now).stops ((g.met.H.Host.lawful c.args.host.now).reads tells) sound none net in
+    c.change.ensures.calm honest old.stops.moment c.take_back.ensures.moves.later from to (ap (λ (s : State). s.net) (c.take_back.ensures.nothing_same tells nothing) ∙ net) merges
+    (calm_stays from to old.stops.moment old mid (g.met.H.Host.lawful c.args.host.now).stops (omega arith) first (c.take_back.ensures.stays nothing))
+
+pub returns-in-Ok-Restored-clause-calm : goal.returns-in-Ok-Restored-clause-calm
+returns-in-Ok-Restored-clause-calm g c = λ honest sound from to is merges.
+    let taken = c.take_back.ensures.restored (g.met.H.Host.honest_tells honest) (c.in-Ok-Restored.is ∙ ap (λ r. Ok r) c.in-Ok-Restored.field-0-is) in
+    let e : None ≡ Some taken.checkpoint = sym (ap (λ (x : Standing). x.cell) is) ∙ taken.is in
+    absurd (cc)

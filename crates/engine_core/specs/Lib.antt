@@ -1,0 +1,5 @@
+pub mod Committing
+pub mod Attempts
+pub mod Saying
+pub mod Applying
+pub mod Calm

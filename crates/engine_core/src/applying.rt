@@ -1,0 +1,266 @@
+//! The whole change: what is wanted, the attempt, and what follows where it fails.
+ghost use Rattle.std.specs.Prelude.{◌≡◌, ◌≢◌, ◌⊎◌, ◌≤◌, ◌+◌, ◌^◌, ◌-◌, ℕ, Bool, if◌then◌else◌, min, true, false, None, Some, Ok, Err, OnOk, OnErr, IfOk, IfErr, IsErrOf, IsSome};
+ghost use Rattle.net_model.specs.Hardware.{hardware};
+ghost use Rattle.net_model.specs.NetData.{NetData};
+ghost use Rattle.document_model.specs.declared.Doc.{Doc};
+ghost use Rattle.document_model.specs.declared.Refused.{Refused};
+ghost use Rattle.document_model.specs.Entries.{is_document};
+ghost use Rattle.kernel_model.specs.Runs.{Runs};
+ghost use Rattle.host_core.specs.Faults.{Rose, RoseTwice, HasCause};
+ghost use Rattle.host_core.specs.Stops.{Steps, Stays};
+ghost use Rattle.host_core.specs.HostView.{State, HostView, HasNet, SameKernel, SameNet};
+ghost use Rattle.plan_model.specs.Plans.{IsPlan};
+ghost use Rattle.checkpoint_cell.specs.Cell.{Checkpoint, applying, cell_of, saved_net};
+ghost use Rattle.checkpoint_cell.specs.Steps.{Holds};
+ghost use Rattle.checkpoint_cell.specs.Settled.{standing, Standing, restored_to};
+ghost use Rattle.engine_model.specs.Merge.{merge};
+ghost use Rattle.engine_model.specs.Machine.{asked, apply_fault};
+ghost use Rattle.engine_model.specs.Undone.{stand, undone};
+ghost use Rattle.engine_model.specs.Sound.{Sound};
+ghost use Rattle.engine_model.specs.Stations.{Only, Kept, Ends, AllNear, IsSettled, Waits};
+ghost use Rattle.engine_model.specs.Answers.{IsUndone, IsTaken};
+ghost use Rattle.engine_model.specs.Faults.{ApplySays};
+ghost use Rattle.engine_core.specs.Attempts.{sealed, done, IsOnWay, IsEither, IsFault};
+ghost use Rattle.engine_core.specs.Saying.{Start, Follows, Why, Said, taken_back_as, pending_as, damaged_as, stopped_as};
+ghost use Rattle.engine_core.specs.Calm.{CalmSince};
+ghost use Rattle.engine_core.specs.Applying.{GaveUp, Exit, Asked, IsStation, IsApplied, ExitApply, asked_of};
+
+use crate::attempting::attempt;
+use crate::missed::Missed;
+use checkpoint_cell::clear;
+use document_model::Doc;
+use engine_model::{Applied, ApplyFault, ApplyOpts, BackFault, Left, Recovered};
+use engine_restore::{go_back, take_back};
+use host_core::{DumpFault, Failed, Host};
+use merge_core::merge;
+use merge_laws::merge_laws;
+use merge_model::MergeFault;
+use net_model::{Call, Net, OutOfMemory};
+use plan_core::plan;
+use std::alloc::Global;
+
+// The answer where the change was taken back.
+fn taken_back(missed: Missed) -> ApplyFault
+    ensures { result ≡ taken_back_as missed }
+{
+    match missed {
+        Missed::Failed => ApplyFault::HostFault(Left::RolledBack),
+        Missed::Refused(k, n) => ApplyFault::KernelRefused(k, n, Left::RolledBack),
+        Missed::Damaged => ApplyFault::Damaged(0),
+        Missed::Differs(found) => ApplyFault::NotVerified(found, Left::RolledBack),
+        Missed::OutOfMemory => ApplyFault::OutOfMemory,
+    }
+}
+
+// The answer of a restoring that didn't come to its end, as an apply's.
+fn pending(fault: BackFault) -> ApplyFault
+    ensures { result ≡ pending_as fault }
+{
+    match fault {
+        BackFault::NoCheckpoint => ApplyFault::Damaged(1),
+        BackFault::HostFault(_) => ApplyFault::HostFault(Left::Pending),
+        BackFault::KernelRefused(k, n, _) => ApplyFault::KernelRefused(k, n, Left::Pending),
+        BackFault::Damaged(area) => ApplyFault::Damaged(area),
+        BackFault::HardwareDiffers(names) => ApplyFault::HardwareDiffers(names),
+        BackFault::OutOfMemory => ApplyFault::OutOfMemory,
+    }
+}
+
+// The same where there was no network to verify.
+fn damaged(fault: BackFault) -> ApplyFault
+    ensures { result ≡ damaged_as fault }
+{
+    match fault {
+        BackFault::OutOfMemory => ApplyFault::OutOfMemory,
+        _ => ApplyFault::Damaged(0),
+    }
+}
+
+// The answer where the restoring didn't come to its end.
+fn stopped(missed: Missed, fault: BackFault) -> ApplyFault
+    ensures { result ≡ stopped_as missed fault }
+{
+    match missed {
+        Missed::OutOfMemory => ApplyFault::OutOfMemory,
+        Missed::Damaged => damaged(fault),
+        Missed::Failed => pending(fault),
+        Missed::Refused(_, _) => pending(fault),
+        Missed::Differs(_) => pending(fault),
+    }
+}
+
+// Restores after a failure, and gives the answer.
+fn give_up<H: Host>(host: &mut H, alloc: Global, missed: Missed) -> ApplyFault
+    ensures kept { H.honest → Sound (H.told host.old) → (from : NetData) → ((s : State) → (H.told host.old).stops.may_leave s → IsUndone s (restored_to from))
+        → Kept (Only (restored_to from)) (H.told host.old) (H.told host.new) }
+    ensures exit { H.honest → Sound (H.told host.old) → (from : NetData) → ((s : State) → (H.told host.old).stops.may_leave s → IsUndone s (restored_to from))
+        → IsFault missed → GaveUp from (H.told host.old).faults result (H.told host.new) }
+    ensures memory { missed ≡ Missed.OutOfMemory → result ≡ ApplyFault.OutOfMemory }
+    ensures begun { result ≡ ApplyFault.HostFault Left.NotBegun → ⊥ }
+    // On every host.
+    ensures says { (doc : Doc) (opts : ApplyOpts) (made : ℕ) (start : Start) → start.faults ≤ (H.told host.old).faults → start.moment ≤ (H.told host.old).stops.moment → Why H.tells doc start (H.told host.old) missed
+        → Said H.tells (asked doc opts made) start (H.told host.new) (Err result) }
+    ensures later { (H.told host.old).faults ≤ (H.told host.new).faults }
+{
+    match go_back(host, alloc) {
+        Ok(_) => taken_back(missed),
+        Err(fault) => stopped(missed, fault),
+    }
+}
+
+// Lets a change stand that is made: it waits, or its checkpoint is cleared.
+fn finish<H: Host>(host: &mut H, no_commit: bool, deadline: u64) -> Result<Applied, ApplyFault>
+    requires { H.tells → (made : ℕ) × (d : ℕ) × (from : NetData) × Holds (sealed no_commit made d from) (H.told host.old) }
+    ensures saved { H.tells → (made d : ℕ) (from : NetData) → Holds (sealed no_commit made d from) (H.told host.old) → OnOk result (saved_net (H.told host.new).state.cell ≡ Some from) }
+    ensures kernel { SameKernel H.tells (H.told host.old) (H.told host.new) }
+    ensures kept { H.tells → Sound (H.told host.old) → (made d : ℕ) (from to : NetData) → Holds (sealed no_commit made d from) (H.told host.old) → Ends (stand to (sealed no_commit made d from)) (H.told host.old)
+        → Kept (Only (done no_commit made d from to)) (H.told host.old) (H.told host.new) }
+    ensures ends { H.tells → (made d : ℕ) (from to : NetData) → Holds (sealed no_commit made d from) (H.told host.old) → Ends (stand to (sealed no_commit made d from)) (H.told host.old)
+        → OnOk result (Ends (done no_commit made d from to) (H.told host.new)) }
+    ensures nets { H.tells → (made d : ℕ) (from to : NetData) → Ends (stand to (sealed no_commit made d from)) (H.told host.old) → HasNet (Some to) (H.told host.new) }
+    ensures stays { OnOk result (Steps SameNet (H.told host.old).stops (H.told host.new).stops) }
+    ensures doubt { IfErr result (λ fault. fault ≡ ApplyFault.InDoubt) }
+    ensures fault { OnErr result (Rose (H.told host.old).faults (H.told host.new).faults) }
+    ensures value { IfOk result (λ applied. applied.deadline ≡ (if no_commit then Some deadline else None)) }
+    ensures later { (H.told host.old).faults ≤ (H.told host.new).faults }
+{
+    if no_commit {
+        return Ok(Applied {
+            deadline: Some(deadline),
+        });
+    }
+    match clear(host) {
+        Ok(()) => Ok(Applied { deadline: None }),
+        Err(Failed) => Err(ApplyFault::InDoubt),
+    }
+}
+
+// Makes a planned change, and restores where it fails.
+fn carry_out<H: Host>(
+    host: &mut H,
+    alloc: Global,
+    from: &Net,
+    to: &Net,
+    calls: &[Call],
+    opts: &ApplyOpts,
+    made: u64,
+    deadline: u64,
+) -> Result<Applied, ApplyFault>
+    requires settled { (H.told host.old).settled }
+    requires none { H.tells → Holds None (H.told host.old) }
+    ensures kept { H.honest → Sound (H.told host.old) → Ends (restored_to from.now) (H.told host.old) → (H.told host.old).state.net ≡ Some from.now → Runs calls.now from.now to.now
+        → Kept (IsEither opts.now.no_commit made deadline from.now to.now) (H.told host.old) (H.told host.new) }
+    ensures exit { H.honest → Sound (H.told host.old) → Ends (restored_to from.now) (H.told host.old) → (H.told host.old).state.net ≡ Some from.now → Runs calls.now from.now to.now
+        → (doc : Doc) → merge from.now doc ≡ Ok to.now
+        → Exit (record { doc = doc; no_commit = opts.now.no_commit; made = made; deadline = deadline }) (restored_to from.now) (H.told host.old).faults result (H.told host.new) }
+    ensures calm { H.honest → (t : ℕ) → t ≤ (H.told host.old).stops.moment → (H.told host.old).state.net ≡ Some from.now → IsPlan from.now to.now calls.now → CalmSince from.now to.now t (H.told host.old)
+        → OnOk result (CalmSince from.now to.now t (H.told host.new)) }
+    ensures value { IfOk result (λ applied. applied.deadline ≡ (if opts.now.no_commit then Some deadline else None)) }
+    // On every host.
+    ensures says { (doc : Doc) (start : Start) → Follows start (H.told host.old) → (H.told host.old).kernel.calls ≡ 0 → merge from.now doc ≡ Ok to.now
+        → Said H.tells (asked doc opts.now made) start (H.told host.new) result }
+    ensures begun { IsErrOf result (ApplyFault.HostFault Left.NotBegun) → ⊥ }
+    ensures later { (H.told host.old).faults ≤ (H.told host.new).faults }
+{
+    match attempt(host, alloc, from, to, calls, opts, made, deadline) {
+        Ok(()) => finish(host, opts.no_commit, deadline),
+        Err(missed) => Err(give_up(host, alloc, missed)),
+    }
+}
+
+// The network that a document makes of another.
+fn wanted(alloc: Global, from: &Net, doc: &Doc) -> Result<Net, MergeFault>
+    requires { is_document doc.now ≡ true }
+    ensures merged { IfOk result (λ to. merge from.now doc.now ≡ Ok to) }
+    ensures hardware { IfOk result (λ to. hardware from.now.links ≡ hardware to.links) }
+    ensures refused { (r : Refused) → IsErrOf result (MergeFault.Refused r) → merge from.now doc.now ≡ Err r }
+{
+    from.laws();
+    merge_laws();
+    merge(alloc, from, doc)
+}
+
+// Merges, plans and makes the change, where no checkpoint stands.
+fn change<H: Host>(
+    host: &mut H,
+    alloc: Global,
+    doc: &Doc,
+    opts: &ApplyOpts,
+    now: u64,
+    left: Left,
+) -> Result<Applied, ApplyFault>
+    requires document { is_document doc.now ≡ true }
+    requires none { H.tells → Holds None (H.told host.old) }
+    requires left { left ≢ Left.Pending }
+    ensures kept { H.honest → Sound (H.told host.old) → Ends (standing (H.told host.old).state) (H.told host.old)
+        → Kept (IsStation (asked_of doc.now opts.now now) (standing (H.told host.old).state)) (H.told host.old) (H.told host.new) }
+    ensures exit { H.honest → Sound (H.told host.old) → Ends (standing (H.told host.old).state) (H.told host.old)
+        → Exit (asked_of doc.now opts.now now) (standing (H.told host.old).state) (H.told host.old).faults result (H.told host.new) }
+    ensures unbegun { IsErrOf result (ApplyFault.HostFault Left.NotBegun) → (left ≡ Left.NotBegun) × Steps Stays (H.told host.old).stops (H.told host.new).stops }
+    ensures calm { H.honest → (t : ℕ) → t ≤ (H.told host.old).stops.moment → (from to : NetData) → (H.told host.old).state.net ≡ Some from → merge from doc.now ≡ Ok to → CalmSince from to t (H.told host.old)
+        → OnOk result (CalmSince from to t (H.told host.new)) }
+    ensures value { IfOk result (λ applied. applied.deadline ≡ (if opts.now.no_commit then Some (asked_of doc.now opts.now now).deadline else None)) }
+    // On every host.
+    ensures says { (start : Start) → Follows start (H.told host.old) → (left ≡ Left.NotBegun → H.tells → (H.told host.old).state ≡ start.state)
+        → Said H.tells (asked doc.now opts.now now) start (H.told host.new) result }
+    ensures later { (H.told host.old).faults ≤ (H.told host.new).faults }
+{
+    let from = match host.dump(alloc) {
+        Ok(found) => found,
+        Err(DumpFault::Failed) => return Err(ApplyFault::HostFault(left)),
+        Err(DumpFault::Damaged) => return Err(ApplyFault::Damaged(0)),
+        Err(DumpFault::OutOfMemory) => return Err(ApplyFault::OutOfMemory),
+    };
+    let to = match wanted(alloc, &from, doc) {
+        Ok(to) => to,
+        Err(MergeFault::Refused(r)) => return Err(ApplyFault::MergeRefused(r)),
+        Err(MergeFault::OutOfMemory) => return Err(ApplyFault::OutOfMemory),
+    };
+    let calls = match plan(alloc, &from, &to) {
+        Ok(calls) => calls,
+        Err(OutOfMemory) => return Err(ApplyFault::OutOfMemory),
+    };
+    let deadline = now.saturating_add(opts.timeout as u64);
+    carry_out(host, alloc, &from, &to, &calls, opts, now, deadline)
+}
+
+// The answer of a settling that failed, as an apply's.
+fn unsettled(fault: BackFault) -> ApplyFault
+    ensures { result ≡ apply_fault fault }
+{
+    match fault {
+        BackFault::NoCheckpoint => ApplyFault::Damaged(1),
+        BackFault::HostFault(left) => ApplyFault::HostFault(left),
+        BackFault::KernelRefused(k, n, left) => ApplyFault::KernelRefused(k, n, left),
+        BackFault::Damaged(area) => ApplyFault::Damaged(area),
+        BackFault::HardwareDiffers(names) => ApplyFault::HardwareDiffers(names),
+        BackFault::OutOfMemory => ApplyFault::OutOfMemory,
+    }
+}
+
+/// Settles, and makes the change that a document wants, whole or not at all.
+pub fn settle_and_change<H: Host>(
+    host: &mut H,
+    alloc: Global,
+    doc: &Doc,
+    opts: &ApplyOpts,
+    now: u64,
+) -> Result<Applied, ApplyFault>
+    requires { is_document doc.now ≡ true }
+    ensures kept { H.honest → Sound (H.told host.old) → Kept (IsApplied (asked_of doc.now opts.now now) (H.told host.old).state) (H.told host.old) (H.told host.new) }
+    ensures exit { H.honest → Sound (H.told host.old) → ExitApply (asked_of doc.now opts.now now) (H.told host.old) result (H.told host.new) }
+    ensures unbegun { IsErrOf result (ApplyFault.HostFault Left.NotBegun) → Steps Stays (H.told host.old).stops (H.told host.new).stops }
+    ensures calm { H.honest → Sound (H.told host.old) → (from to : NetData) → standing (H.told host.old).state ≡ restored_to from → merge from doc.now ≡ Ok to
+        → OnOk result (CalmSince from to (H.told host.old).stops.moment (H.told host.new)) }
+    ensures value { IfOk result (λ applied. applied.deadline ≡ (if opts.now.no_commit then Some (asked_of doc.now opts.now now).deadline else None)) }
+    // On every host.
+    ensures says { ApplySays H.tells (asked doc.now opts.now now) (H.told host.old) (H.told host.new) result }
+    ensures later { (H.told host.old).faults ≤ (H.told host.new).faults }
+{
+    match take_back(host, alloc, now) {
+        Ok(Recovered::Waiting { deadline }) => Err(ApplyFault::Pending(deadline)),
+        Ok(Recovered::Nothing) => change(host, alloc, doc, opts, now, Left::NotBegun),
+        Ok(Recovered::Restored) => change(host, alloc, doc, opts, now, Left::RolledBack),
+        Err(fault) => Err(unsettled(fault)),
+    }
+}

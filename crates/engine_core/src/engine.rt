@@ -1,0 +1,65 @@
+//! The calls that begin a change, and end one that waits.
+ghost use Rattle.std.specs.Prelude.{◌≡◌, ◌≢◌, ◌≤◌, true, Some, Ok, Err};
+ghost use Rattle.net_model.specs.NetData.{NetData};
+ghost use Rattle.document_model.specs.Entries.{is_document};
+ghost use Rattle.host_core.specs.Faults.{Rose, RoseTwice};
+ghost use Rattle.host_core.specs.HostView.{State, SameKernel};
+ghost use Rattle.checkpoint_cell.specs.Settled.{standing, restored_to};
+ghost use Rattle.plan_model.specs.Undisturbed.{IsUndisturbed};
+ghost use Rattle.engine_model.specs.Merge.{merge};
+ghost use Rattle.engine_model.specs.Machine.{asked, apply, commit};
+ghost use Rattle.engine_model.specs.Sound.{Sound};
+ghost use Rattle.engine_model.specs.Stations.{Only, Settled, Either, Kept, at, entry_of, left_by};
+ghost use Rattle.engine_model.specs.Exit.{ApplyExit, CommitExit};
+ghost use Rattle.engine_model.specs.Faults.{ApplyAnswers, CommitAnswers, ApplySays};
+
+use crate::applying::settle_and_change;
+use crate::committing::end_waiting;
+use document_model::Doc;
+use engine_model::{Applied, ApplyFault, ApplyOpts, CommitFault};
+use host_core::Host;
+use std::alloc::Global;
+
+/// Makes the change that a document wants, whole or not at all. The document is one that the readers give. The moment is
+/// in seconds. A change that is being made or is due is taken back first.
+pub fn apply<H: Host>(
+    host: &mut H,
+    alloc: Global,
+    doc: &Doc,
+    opts: &ApplyOpts,
+    now: u64,
+) -> Result<Applied, ApplyFault>
+    requires { is_document doc.now ≡ true }
+    // What is answered: on every host, and on an honest host that is sound.
+    ensures says { ApplySays H.tells (asked doc.now opts.now now) (H.told host.old) (H.told host.new) result }
+    ensures answer { H.honest → Sound (H.told host.old) → ApplyAnswers (asked doc.now opts.now now) (H.told host.old) (H.told host.new) result }
+    // What stops leave at the exit, what the host reads as then, and what stops leave at each moment.
+    ensures exit { H.honest → Sound (H.told host.old) → ApplyExit (asked doc.now opts.now now) (entry_of (H.told host.old)) (left_by (H.told host.new))
+        (Rose (H.told host.old).faults (H.told host.new).faults) (RoseTwice (H.told host.old).faults (H.told host.new).faults) result }
+    ensures reads { H.honest → Sound (H.told host.old) → ApplyExit (asked doc.now opts.now now) (at (standing (H.told host.old).state)) (Only (standing (H.told host.new).state))
+        (Rose (H.told host.old).faults (H.told host.new).faults) (RoseTwice (H.told host.old).faults (H.told host.new).faults) result }
+    ensures kept { H.honest → Sound (H.told host.old)
+        → Kept (Either (Settled now (entry_of (H.told host.old))) (Only (apply (asked doc.now opts.now now) (standing (H.told host.old).state)).after)) (H.told host.old) (H.told host.new) }
+    // Where no checkpoint stood and nothing failed, each pair that was left on the way has each link that the change needn't
+    // touch, its addresses and its routes that stand in both networks as they were.
+    ensures undisturbed { H.honest → Sound (H.told host.old) → (from to : NetData) → standing (H.told host.old).state ≡ restored_to from → merge from doc.now ≡ Ok to
+        → (Rose (H.told host.old).faults (H.told host.new).faults → ⊥) → result ≢ Err ApplyFault.OutOfMemory
+        → (s : State) → (H.told host.new).stops.left_since (H.told host.old).stops.moment s → (net : NetData) × (s.net ≡ Some net) × IsUndisturbed from to net }
+    ensures later { (H.told host.old).faults ≤ (H.told host.new).faults }
+{
+    settle_and_change(host, alloc, doc, opts, now)
+}
+
+/// Ends a change that waits and isn't due. The moment is in seconds. It takes no memory.
+pub fn commit<H: Host>(host: &mut H, now: u64) -> Result<(), CommitFault>
+    // What is answered on every host.
+    ensures answer { CommitAnswers H.tells now (H.told host.old) (H.told host.new) result }
+    // What stops leave at the exit, what the host reads as then, and what stops leave at each moment.
+    ensures exit { H.tells → Sound (H.told host.old) → CommitExit now (entry_of (H.told host.old)) (left_by (H.told host.new)) result }
+    ensures reads { H.tells → Sound (H.told host.old) → CommitExit now (at (standing (H.told host.old).state)) (Only (standing (H.told host.new).state)) result }
+    ensures kept { H.tells → Sound (H.told host.old) → Kept (Only (commit now (standing (H.told host.old).state)).after) (H.told host.old) (H.told host.new) }
+    ensures kernel { SameKernel H.tells (H.told host.old) (H.told host.new) }
+    ensures later { (H.told host.old).faults ≤ (H.told host.new).faults }
+{
+    end_waiting(host, now)
+}

@@ -1,0 +1,19 @@
+//! The commands of the tool, over any host.
+#![tactic(auto)]
+
+// Why a change that was begun didn't come to its end.
+mod missed;
+// Whether two networks are one.
+mod same;
+// A change from one network to another, behind a checkpoint.
+mod attempting;
+// The whole change: what is wanted, the attempt, and what follows where it fails.
+mod applying;
+// The end of a change that waits.
+mod committing;
+// The five calls.
+mod engine;
+
+pub use engine::{apply, commit};
+pub use engine_model::{Applied, ApplyFault, ApplyOpts, BackFault, CommitFault, Left, Recovered};
+pub use engine_restore::{recover, rollback, settle};

@@ -1,0 +1,17 @@
+//! Why a change that was begun didn't come to its end.
+
+use net_model::Net;
+
+/// Why a change that was begun didn't come to its end.
+#[derive(Drop)]
+pub enum Missed {
+    /// A call of the host failed.
+    Failed,
+    /// The kernel refused a call of the plan: the number of the refusal, and the number of the call from 1.
+    Refused(u8, u64),
+    /// There is no network to verify.
+    Damaged,
+    /// This network was found, and isn't the wanted one.
+    Differs(Net),
+    OutOfMemory,
+}
