@@ -1,0 +1,62 @@
+-- What was told of an answer, as the top call's relation says it of a run.
+use Rattle.std.proofs.Common.{◌≡◌, ◌⊎◌, inl, inr, refl, ap}
+use Rattle.std.specs.Prelude.{◌≢◌, [], ◌++◌, Result, Ok, Err}
+use Rattle.top_model.specs.Said.{Said, Says}
+use Rattle.top_model.specs.Orders.{Text, Order, notes_of}
+use Rattle.top_model.specs.Texts.{error_line, note_lines}
+use Rattle.top_model.specs.Runs.{Run}
+use Rattle.top_model.specs.Told.{Answer, cause_of, noted, ErrText, IsWhole, IsCut, Told}
+use Rattle.top_model.specs.declared.report.Cause.{Cause}
+use Rattle.top_model.specs.declared.report.Cause.TheVariants.{Done, DocRefused, MergeRefused, Usage, BadLine, Pending, NoCheckpoint, Unfinished, Expired, Exists, NoSuchName, ReadFault, WriteFault, HostFault, InDoubt, KernelRefused, NotVerified, Damaged, HardwareDiffers, OutOfMemory}
+use Rattle.answer_text.specs.Speaking.{Spoken}
+
+-- what was spoken in a run is whole or cut
+pub written : (r : Run) (answer : Answer) (out err : Text) → Spoken r.sinks_tell (cause_of answer) out err r.out r.out_after r.err r.err_after r.report
+    → IsWhole r answer out err ⊎ IsCut r answer out err
+written r answer out err (inl s) = inl (record { to_out = s.0.to_out; to_err = s.0.to_err; out_steady = s.0.out_steady; err_steady = s.0.err_steady; report = s.1 })
+written r answer out err (inr s) = inr (record { rose = s.0.rose; to_out = s.0.to_out; to_err = s.0.to_err; stops = s.0.stops; report = s.1 })
+
+-- every cause but an input that isn't read may have its notes before its line
+pub err_noted : (order : Result Order Cause) (cause : Cause) → cause ≢ ReadFault → ErrText order cause (noted order cause)
+err_noted order Done other = refl
+err_noted order (DocRefused fault) other = refl
+err_noted order (MergeRefused refused) other = refl
+err_noted order Usage other = refl
+err_noted order (BadLine n) other = refl
+err_noted order (Pending deadline) other = refl
+err_noted order NoCheckpoint other = refl
+err_noted order (Unfinished since deadline) other = refl
+err_noted order (Expired since deadline) other = refl
+err_noted order Exists other = refl
+err_noted order NoSuchName other = refl
+err_noted order ReadFault other = absurd (other refl)
+err_noted order (WriteFault status) other = refl
+err_noted order (HostFault left) other = refl
+err_noted order InDoubt other = refl
+err_noted order (KernelRefused k n left) other = refl
+err_noted order (NotVerified net left) other = refl
+err_noted order (Damaged area) other = refl
+err_noted order (HardwareDiffers names) other = refl
+err_noted order OutOfMemory other = inr refl
+
+-- a command that is done was told
+pub told_done : (r : Run) (order : Result Order Cause) (said : Said) (text notes : Text) → Says said text → notes ≡ note_lines (notes_of order)
+    → Spoken r.sinks_tell Done text (notes ++ error_line Done) r.out r.out_after r.err r.err_after r.report → Told r order (Ok said)
+told_done r order said text notes says same spoken = record {
+  out = text;
+  err = notes ++ error_line Done;
+  is_out = says;
+  is_err = ap (λ (bytes : Text). bytes ++ error_line Done) same;
+  written = written r (Ok said) text (notes ++ error_line Done) spoken;
+}
+
+-- a refusal was told: its text is the line with the notes, or the line alone where that may come
+pub told_refused : (r : Run) (order : Result Order Cause) (cause : Cause) (notes : Text) → ErrText order cause (notes ++ error_line cause)
+    → Spoken r.sinks_tell cause [] (notes ++ error_line cause) r.out r.out_after r.err r.err_after r.report → Told r order (Err cause)
+told_refused r order cause notes is_err spoken = record {
+  out = [];
+  err = notes ++ error_line cause;
+  is_out = refl;
+  is_err = is_err;
+  written = written r (Err cause) [] (notes ++ error_line cause) spoken;
+}

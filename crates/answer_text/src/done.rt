@@ -1,0 +1,70 @@
+//! The lines of commands that are done, each with its end. They take no memory.
+ghost use Rattle.std.specs.Prelude.{◌≡◌, ◌≤◌, ◌++◌, length, codes, decimal};
+ghost use Rattle.top_model.specs.Said.{Says, line, said_applied, said_recovered, committed, rolled_back, made};
+
+use crate::line::{Line, push_number};
+use engine_model::{Applied, Recovered};
+
+// Words, a number and more words.
+fn numbered(words: &'static [u8], number: u64, more: &'static [u8]) -> Line
+    requires words { length words.now ≤ 100 }
+    requires more { length more.now ≤ 100 }
+    ensures { result ≡ words.now ++ decimal number ++ more.now }
+{
+    let mut line = Line::new();
+    line.push(words);
+    push_number(&mut line, number);
+    line.push(more);
+    line
+}
+
+fn fixed(words: &'static [u8]) -> Line
+    requires { length words.now ≤ 100 }
+    ensures { result ≡ words.now }
+{
+    let mut line = Line::new();
+    line.push(words);
+    line
+}
+
+/// What is said of a change: that it was applied, and until when it waits where it does.
+pub fn applied_line(applied: Applied) -> Line
+    ensures { Says (said_applied applied) result }
+{
+    match applied.deadline {
+        None => fixed(b"applied\n"),
+        Some(deadline) => numbered(b"applied, waiting until ", deadline, b"\n"),
+    }
+}
+
+/// What is said of a change that was ended.
+pub fn committed_line() -> Line
+    ensures { Says committed result }
+{
+    fixed(b"committed\n")
+}
+
+/// What is said of a change that was taken back.
+pub fn rolled_back_line() -> Line
+    ensures { Says rolled_back result }
+{
+    fixed(b"rolled back\n")
+}
+
+/// What is said of a recovery.
+pub fn recovered_line(recovered: Recovered) -> Line
+    ensures { Says (said_recovered recovered) result }
+{
+    match recovered {
+        Recovered::Nothing => fixed(b"nothing to recover\n"),
+        Recovered::Waiting { deadline } => numbered(b"waiting until ", deadline, b"\n"),
+        Recovered::Restored => fixed(b"restored\n"),
+    }
+}
+
+/// What is said of a first network of so many links.
+pub fn made_line(count: u64) -> Line
+    ensures { Says (made count) result }
+{
+    numbered(b"made ", count, b" links\n")
+}
