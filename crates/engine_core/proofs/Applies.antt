@@ -1,5 +1,5 @@
 -- What the machine of an apply makes of what stands, and the clauses of an apply from those of its body.
-use Rattle.std.proofs.Common.{◌≡◌, ◌≢◌, ◌⊎◌, ◌≤◌, ◌+◌, ◌-◌, ◌^◌, min, arith, inl, inr, ℕ, Bool, true, false, refl, sym, ap, ◌∙◌, subst, Option, Some, None, Result, Ok, Err}
+use Rattle.std.proofs.Common.{◌≡◌, arith, inl, inr, ℕ, Bool, true, false, refl, sym, ap, ◌∙◌, subst, Option, Some, None, Result, Ok, Err}
 use Rattle.std.specs.Prelude.{if◌then◌else◌, IsErrOf, IfOk}
 use Rattle.net_model.specs.NetData.{NetData}
 use Rattle.document_model.specs.declared.Refused.{Refused}
@@ -10,11 +10,11 @@ use Rattle.checkpoint_cell.specs.Cell.{Checkpoint, cell_of}
 use Rattle.checkpoint_cell.specs.Settled.{Standing, standing, settled, taken_back, restored_to}
 use Rattle.document_model.specs.declared.Doc.{Doc}
 use Rattle.engine_model.specs.Merge.{merge}
-use Rattle.engine_model.specs.Machine.{Outcome, Asked, asked, apply, apply_step, apply_settled, change, merged_as, changed, deadline_of, waiting, recover, stays}
+use Rattle.engine_model.specs.Machine.{Outcome, Asked, asked, apply, apply_step, change, merged_as, changed, deadline_of, waiting, recover, stays}
 use Rattle.engine_model.specs.Sound.{Fit}
-use Rattle.engine_model.specs.Stations.{Stands, Near, Only, Leads, Ends, AllNear, Waits, IsSettled, Either, Before, Within, Settled, Entry, at, entry_of, left_by, FromRead}
+use Rattle.engine_model.specs.Stations.{Stands, Only, Leads, Ends, AllNear, Waits, IsSettled, Either, Before, Within, Settled, at, entry_of, left_by, FromRead}
 use Rattle.engine_core.specs.Attempts.{done, IsOnWay, IsEither}
-use Rattle.engine_core.specs.Applying.{asked_of, Change, IsStation, IsApplied, ExitApply}
+use Rattle.engine_core.specs.Applying.{asked_of, Change, IsApplied, ExitApply}
 use Rattle.engine_model.specs.Answers.{IsTaken}
 use Rattle.engine_model.specs.Faults.{IsOutcome, ApplyAnswers}
 use Rattle.checkpoint_cell.specs.declared.Phase.{Phase}

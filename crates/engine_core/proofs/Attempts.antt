@@ -1,16 +1,15 @@
 -- What the parts of a change keep.
-use Rattle.std.proofs.Common.{◌≡◌, ◌≢◌, ◌⊎◌, inl, inr, ℕ, List, [], refl, sym, ap, ◌∙◌, subst, Bool, true, false, Option, Some, None}
+use Rattle.std.proofs.Common.{◌≡◌, ◌≢◌, inl, inr, ℕ, [], refl, sym, ap, ◌∙◌, Bool, true, Option, Some, None}
 use Rattle.net_model.specs.Hardware.{hardware}
 use Rattle.net_model.specs.NetData.{NetData}
-use Rattle.host_core.specs.HostView.{State, HostView, HasNet, SameNet}
-use Rattle.host_core.specs.Stops.{Stops, Steps, Stays}
-use Rattle.checkpoint_cell.specs.declared.Phase.TheVariants.{Applying, Waiting}
-use Rattle.checkpoint_cell.specs.Cell.{Checkpoint, cell_of, applying, in_phase}
-use Rattle.checkpoint_cell.specs.Steps.{CellIn, Holds, NoneOr, EitherPhase}
-use Rattle.checkpoint_cell.specs.Settled.{Standing, standing, Alike, settled}
+use Rattle.host_core.specs.HostView.{HostView}
+use Rattle.checkpoint_cell.specs.declared.Phase.TheVariants.{Waiting}
+use Rattle.checkpoint_cell.specs.Cell.{Checkpoint, applying, in_phase}
+use Rattle.checkpoint_cell.specs.Steps.{NoneOr, EitherPhase}
+use Rattle.checkpoint_cell.specs.Settled.{Standing}
 use Rattle.engine_model.specs.Undone.{undone, stand}
-use Rattle.engine_model.specs.Sound.{Fit, Sound}
-use Rattle.engine_model.specs.Stations.{Near, Only, Kept, Ends, AllNear}
+use Rattle.engine_model.specs.Sound.{Sound}
+use Rattle.engine_model.specs.Stations.{Near, Only, Ends}
 use Rattle.checkpoint_cell.specs.Settled.{restored_to}
 use Rattle.engine_core.specs.Attempts.{IsOnWay, done}
 use Rattle.engine_model.proofs.lemmas.Leading.{alike_is, Good, saved_alike, alike_undone}

@@ -1,5 +1,5 @@
 -- What a change leaves as it was, carried through its parts.
-use Rattle.std.proofs.Common.{◌≡◌, ◌⊎◌, inl, inr, ◌≤◌, ℕ, ◌++◌, refl, sym, ap, ◌∙◌, subst, List, Option, Some, None, Result, Ok, Err, Bool, true, false, arith}
+use Rattle.std.proofs.Common.{◌≡◌, inl, inr, ◌≤◌, ℕ, refl, sym, ap, ◌∙◌, subst, List, Option, Some, None, Result, Ok, Err, Bool, true, false, arith}
 use Rattle.std.specs.Prelude.{OnOk}
 use Rattle.net_model.specs.NetData.{NetData}
 use Rattle.net_model.specs.declared.Call.{Call}
@@ -7,8 +7,8 @@ use Rattle.document_model.specs.declared.Refused.{Refused}
 use Rattle.host_core.specs.HostView.{State, HostView, HasNet, SameNet}
 use Rattle.host_core.specs.Stops.{Stops, Steps, Stays, IsLawful}
 use Rattle.host_core.proofs.lemmas.Moments.{follow, weaken}
-use Rattle.checkpoint_cell.specs.Cell.{Checkpoint, cell_of, applying}
-use Rattle.checkpoint_cell.specs.Settled.{Standing, standing, settled, restored_to}
+use Rattle.checkpoint_cell.specs.Cell.{cell_of, applying}
+use Rattle.checkpoint_cell.specs.Settled.{standing, settled, restored_to}
 use Rattle.host_core.specs.Faults.{Rose}
 use Rattle.engine_model.specs.Merge.{merge}
 use Rattle.engine_model.specs.Machine.{Asked, apply, deadline_of}

@@ -1,19 +1,16 @@
 -- What a commit keeps.
-use Rattle.std.proofs.Common.{◌≡◌, ◌≢◌, ◌⊎◌, inl, inr, ℕ, refl, sym, ap, ◌∙◌, subst, Option, Some, None, true, false}
-use Rattle.net_model.specs.NetData.{NetData}
+use Rattle.std.proofs.Common.{◌≡◌, inl, inr, ℕ, sym, ap, ◌∙◌, Option, Some, None, false}
 use Rattle.host_core.specs.HostView.{State, HostView, HasNet}
-use Rattle.host_core.specs.Stops.{Stops, Steps, Stays}
+use Rattle.host_core.specs.Stops.{Steps, Stays}
 use Rattle.checkpoint_cell.specs.declared.Phase.{Phase}
 use Rattle.checkpoint_cell.specs.declared.Phase.TheVariants.{Applying, Waiting}
-use Rattle.checkpoint_cell.specs.Cell.{Checkpoint, cell_of, applying, seen_of, is_due}
+use Rattle.checkpoint_cell.specs.Cell.{Checkpoint, cell_of, applying, is_due}
 use Rattle.checkpoint_cell.specs.Steps.{CellIn, Holds, NoneOr}
-use Rattle.checkpoint_cell.specs.Settled.{Standing, standing}
-use Rattle.engine_model.specs.Undone.{stand}
-use Rattle.engine_model.specs.Sound.{Fit, Sound, IsWhole}
+use Rattle.engine_model.specs.Sound.{Sound}
 use Rattle.engine_model.specs.Stations.{Waits, Kept, Ends, committed, IsCommitted}
-use Rattle.engine_model.proofs.lemmas.Leading.{cell_kept, kept_stays, kept_on, sound_stays, ends_stays, same_kind}
+use Rattle.engine_model.proofs.lemmas.Leading.{cell_kept, kept_stays, kept_on, sound_stays}
 use Rattle.engine_model.proofs.lemmas.Restores.{clearing, ends_held}
-use Rattle.engine_model.proofs.lemmas.Settles.{SetAs, set_as}
+use Rattle.engine_model.proofs.lemmas.Settles.{SetAs}
 
 pub waits_as : (now : ℕ) (cell : Option Checkpoint) (phase : Phase) (made deadline : ℕ) → SetAs cell phase made deadline → phase ≡ Waiting → is_due made deadline now ≡ false → Waits now cell
 waits_as now cell phase made deadline set waiting in_time = record {

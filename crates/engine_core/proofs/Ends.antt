@@ -1,35 +1,20 @@
 -- What a commit answers and leaves, by the machine.
-use Rattle.std.proofs.Common.{◌≡◌, ◌≢◌, ◌⊎◌, inl, inr, ℕ, Bool, true, false, refl, sym, ap, ◌∙◌, subst, Option, Some, None, Result, Ok, Err, List, []}
-use Rattle.std.specs.Prelude.{⊤, if◌then◌else◌, option_map, OnOk, IfErr, IsErrOf}
-use Rattle.net_model.specs.NetData.{NetData}
-use Rattle.net_model.specs.Hardware.{hardware}
+use Rattle.std.proofs.Common.{◌≡◌, ◌⊎◌, inl, inr, ℕ, Bool, true, refl, sym, ap, ◌∙◌, subst, Some, None, Result, Ok, Err}
+use Rattle.std.specs.Prelude.{⊤, if◌then◌else◌, OnOk, IfErr, IsErrOf}
 use Rattle.host_core.specs.Faults.{Rose}
-use Rattle.host_core.specs.HostView.{State, HostView, HasNet}
-use Rattle.host_core.specs.Stops.{Stops, Steps, Stays}
-use Rattle.checkpoint_cell.specs.declared.Phase.{Phase}
+use Rattle.host_core.specs.HostView.{HostView}
+use Rattle.host_core.specs.Stops.{Steps, Stays}
 use Rattle.checkpoint_cell.specs.declared.Phase.TheVariants.{Applying, Waiting}
-use Rattle.checkpoint_cell.specs.Cell.{Checkpoint, cell_of, applying, is_due}
+use Rattle.checkpoint_cell.specs.Cell.{Checkpoint, cell_of, is_due}
 use Rattle.checkpoint_cell.specs.Steps.{Holds}
-use Rattle.checkpoint_cell.specs.Settled.{Standing, standing, settled, settled_from, taken_back, Alike, restored_to}
-use Rattle.engine_model.specs.Differing.{differing}
-use Rattle.engine_model.specs.Undone.{restored, undone, undone_cell}
-use Rattle.engine_model.specs.Machine.{Outcome, stays, committed, commit, commit_cell, commit_phase, commit_waiting, unless_differing, saved_on, restored_as, restore, rollback, rollback_cell, recover, recover_cell}
-use Rattle.engine_model.specs.Sound.{IsWhole, Fit, IsApplying, Sound}
-use Rattle.engine_model.specs.Stations.{Stands, Near, Only, Leads, Kept, Ends, Waits, FromRead, IsSettled, Entry, entry_of, at, left_by, Within, Before, BeforeAsRead, Either, IsCommitted}
-use Rattle.engine_model.specs.Answers.{IsBefore, IsHealthy, IsUndone}
+use Rattle.checkpoint_cell.specs.Settled.{Standing, standing}
+use Rattle.engine_model.specs.Machine.{Outcome, stays, committed, commit, commit_cell, commit_phase}
+use Rattle.engine_model.specs.Stations.{Only, Ends, Waits, FromRead, entry_of, at, left_by, IsCommitted}
 use Rattle.engine_core.specs.Committing.{IsRefusal, IsLook}
-use Rattle.engine_model.specs.Exit.{CommitExit, BackExit}
-use Rattle.engine_model.specs.Faults.{IsOutcome, CommitAnswers, BackAnswers}
-use Rattle.engine_model.specs.declared.answers.Left.{Left}
-use Rattle.engine_model.specs.declared.answers.Left.TheVariants.{NotBegun, RolledBack, Pending}
-use Rattle.engine_model.specs.declared.answers.Recovered.{Recovered}
-use Rattle.engine_model.specs.declared.answers.Recovered.TheVariants.{Nothing, Waiting as Waits_for, Restored}
+use Rattle.engine_model.specs.Exit.{CommitExit}
+use Rattle.engine_model.specs.Faults.{IsOutcome, CommitAnswers}
 use Rattle.engine_model.specs.declared.answers.CommitFault.{CommitFault}
 use Rattle.engine_model.specs.declared.answers.CommitFault.TheVariants as co
-use Rattle.engine_model.specs.declared.answers.BackFault.{BackFault}
-use Rattle.engine_model.specs.declared.answers.BackFault.TheVariants as ba
-use Rattle.engine_model.proofs.lemmas.SameDevices.{differing_none}
-use Rattle.engine_model.proofs.lemmas.Leading.{alike_is, near_wider, saved_alike}
 use Rattle.engine_model.proofs.lemmas.Machines.{before_within, read_within, ends_within, ends_reads, same_reads, going_within, going_reads, going_as}
 
 abbrev Ending : Type 0

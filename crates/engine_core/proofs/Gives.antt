@@ -1,8 +1,8 @@
 -- What an apply leaves, by how its parts end.
-use Rattle.std.proofs.Common.{◌≡◌, ◌≢◌, ◌⊎◌, inl, inr, ℕ, ◌≤◌, ◌+◌, ◌^◌, ◌-◌, min, arith, refl, sym, ap, ◌∙◌, subst, Bool, true, false, Option, Some, None, Result, Ok, Err}
+use Rattle.std.proofs.Common.{◌≡◌, inl, inr, ℕ, ◌≤◌, arith, refl, sym, ap, ◌∙◌, subst, Bool, true, false, Some, Result, Ok, Err}
 use Rattle.net_model.specs.NetData.{NetData}
 use Rattle.host_core.specs.Faults.{Rose, RoseTwice}
-use Rattle.host_core.specs.HostView.{State, HostView, HasNet}
+use Rattle.host_core.specs.HostView.{HostView, HasNet}
 use Rattle.checkpoint_cell.specs.Settled.{Standing, standing}
 use Rattle.engine_model.specs.Undone.{undone, stand}
 use Rattle.std.specs.Prelude.{OnOk, IfErr}

@@ -6,3 +6,4 @@ mod Says
 mod Applies
 mod Wanted
 mod Calms
+mod Sames

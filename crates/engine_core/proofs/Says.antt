@@ -1,26 +1,24 @@
 -- What the answers of an apply say on every host, carried through its parts.
-use Rattle.std.proofs.Common.{◌≡◌, ◌≢◌, ◌≤◌, ◌+◌, ◌-◌, ◌^◌, min, arith, ℕ, refl, sym, ap, ◌∙◌, subst, true, false, Option, Some, None, Result, Ok, Err, List}
+use Rattle.std.proofs.Common.{◌≡◌, ◌≢◌, ◌≤◌, arith, ℕ, refl, sym, ap, ◌∙◌, subst, false, Some, None, Result, Ok, Err, List}
 use Rattle.std.specs.Prelude.{OnOk, OnErr, IfErr}
 use Rattle.net_model.specs.NetData.{NetData}
 use Rattle.document_model.specs.declared.Doc.{Doc}
 use Rattle.document_model.specs.declared.Refused.{Refused}
 use Rattle.host_core.specs.Faults.{Rose}
 use Rattle.host_core.specs.HostView.{State, Kernel, HostView, WasRefused, NoneRefused, dumped}
-use Rattle.host_core.specs.Stops.{Stops, Steps, Stays, IsLawful}
-use Rattle.checkpoint_cell.specs.Cell.{Checkpoint, cell_of, saved_net, applying}
+use Rattle.host_core.specs.Stops.{Steps, Stays, IsLawful}
+use Rattle.checkpoint_cell.specs.Cell.{cell_of, saved_net}
 use Rattle.checkpoint_cell.specs.Settled.{standing, taken_back}
 use Rattle.checkpoint_cell.specs.declared.Phase.{Phase}
 use Rattle.engine_model.specs.Merge.{merge}
-use Rattle.engine_model.specs.Machine.{Asked, asked, apply, apply_step, apply_fault, Outcome, stays}
+use Rattle.engine_model.specs.Machine.{Asked, asked, apply, apply_step, apply_fault, Outcome}
 use Rattle.engine_model.specs.Stations.{Any, Waits}
 use Rattle.engine_model.specs.Answers.{IsBefore}
-use Rattle.engine_model.specs.Faults.{Verified, IsDamaged, HadDamaged, Differs, ApplySays}
+use Rattle.engine_model.specs.Faults.{IsDamaged, Differs, ApplySays}
 use Rattle.engine_model.specs.declared.answers.Left.{Left}
 use Rattle.engine_model.specs.declared.answers.Left.TheVariants.{NotBegun, RolledBack, Pending}
 use Rattle.engine_model.specs.declared.answers.Applied.{Applied}
 use Rattle.engine_model.specs.declared.answers.ApplyOpts.{ApplyOpts}
-use Rattle.engine_model.specs.declared.answers.Recovered.{Recovered}
-use Rattle.engine_model.specs.declared.answers.Recovered.TheVariants.{Waiting as Waits_for}
 use Rattle.engine_model.specs.declared.answers.BackFault.{BackFault}
 use Rattle.engine_model.specs.declared.answers.BackFault.TheVariants as ba
 use Rattle.engine_model.specs.declared.answers.ApplyFault.{ApplyFault}
@@ -28,7 +26,7 @@ use Rattle.engine_model.specs.declared.answers.ApplyFault.TheVariants as ap_
 use Rattle.engine_model.proofs.lemmas.Backs.{recover_waits}
 use Rattle.engine_core.specs.declared.missed.Missed.{Missed}
 use Rattle.engine_core.specs.declared.missed.Missed.TheVariants as missed
-use Rattle.engine_core.specs.Saying.{Start, start_of, Follows, DamagedSince, IsOther, Why, SaidLeft, Said, taken_back_as, pending_as, damaged_as, stopped_as}
+use Rattle.engine_core.specs.Saying.{Start, start_of, Follows, DamagedSince, Why, Said, taken_back_as, pending_as, damaged_as, stopped_as}
 
 abbrev merged_with : NetData → Result NetData Refused
 merged_with to = Ok to

@@ -1,5 +1,5 @@
--- What the answer of the merge says in the engine's words, and that equal images are of equal networks.
-use Rattle.std.proofs.Common.{◌≡◌, ◌↔◌, IsTrue, Bool, true, ℕ, List, ap, sym, subst, ◌∙◌, Option, Some, None, Result, Ok, Err}
+-- What the answer of the merge says in the engine's words.
+use Rattle.std.proofs.Common.{◌≡◌, true, ap, sym, subst, ◌∙◌, Some, None, Result, Ok, Err}
 use Rattle.std.specs.Prelude.{IfOk}
 use Rattle.net_model.specs.NetData.{NetData, IsNet, ordered}
 use Rattle.net_model.specs.Hardware.{hardware}
@@ -11,8 +11,6 @@ use Rattle.merge_model.specs.Merge.{least_refusal, merged}
 use Rattle.merge_model.specs.declared.fault.MergeFault.{MergeFault}
 use Rattle.merge_model.specs.declared.fault.MergeFault.TheVariants as fault
 use Rattle.merge_laws.specs.Laws.{IsMergeable, target}
-use Rattle.net_image.specs.Image.{IsImage}
-use Rattle.net_image.specs.Laws.{ImageLaws}
 use Rattle.engine_model.specs.Merge.{merge, unless_refused}
 
 abbrev merged_with : NetData → Result NetData Refused
@@ -39,8 +37,3 @@ module _ (net : NetData) (doc : Doc) where
 
   pub refused_is : (r : Refused) (result : Result NetData MergeFault) → result ≡ Err (fault.Refused r) → Merges net doc result → merge net doc ≡ Err r
   refused_is r result is m = merge_broken net doc r (subst (λ (x : Result NetData MergeFault). Merges net doc x) is m)
-
--- a network has one image, and an image is of one network
-pub same_images : ImageLaws → (x y : List ℕ) (m n : NetData) → IsImage x m → IsImage y n → (r : Bool) → (IsTrue r ↔ (x ≡ y)) → IsTrue r ↔ (m ≡ n)
-same_images laws x y m n one other r is =
-    (λ yes. laws.alone x m n one (subst (λ (l : List ℕ). IsImage l n) (sym (is.0 yes)) other), λ same. is.1 (laws.one x y n (subst (λ (k : NetData). IsImage x k) same one) other))

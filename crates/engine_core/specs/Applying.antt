@@ -1,5 +1,5 @@
 -- What an apply may leave on an honest host that is sound, by its answer.
-use Rattle.std.specs.Prelude.{◌≡◌, ◌≢◌, ◌⊎◌, ℕ, ◌+◌, ◌-◌, ◌^◌, min, Bool, true, Option, Some, None, Result, Ok, Err}
+use Rattle.std.specs.Prelude.{◌≡◌, ◌⊎◌, ℕ, ◌+◌, ◌-◌, ◌^◌, min, Bool, Some, None, Result, Ok, Err}
 use Rattle.net_model.specs.NetData.{NetData}
 use Rattle.document_model.specs.declared.Doc.{Doc}
 use Rattle.host_core.specs.Faults.{Rose, RoseTwice}
@@ -10,7 +10,6 @@ use Rattle.checkpoint_cell.specs.Settled.{Standing, restored_to}
 use Rattle.engine_model.specs.Merge.{merge}
 use Rattle.engine_model.specs.Stations.{Only, Ends, AllNear, Leads, IsSettled, Waits, FromRead}
 use Rattle.engine_model.specs.Answers.{IsTaken}
-use Rattle.engine_model.specs.declared.answers.Left.{Left}
 use Rattle.engine_model.specs.declared.answers.Left.TheVariants.{NotBegun, RolledBack, Pending}
 use Rattle.engine_model.specs.declared.answers.Applied.{Applied}
 use Rattle.engine_model.specs.declared.answers.ApplyOpts.{ApplyOpts}

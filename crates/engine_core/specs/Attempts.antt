@@ -1,7 +1,6 @@
 -- What a change leaves on its way, and why one misses.
 use Rattle.std.specs.Prelude.{◌≡◌, ◌⊎◌, ℕ, if◌then◌else◌, Bool, true, Option, Some, None}
 use Rattle.net_model.specs.NetData.{NetData}
-use Rattle.host_core.specs.HostView.{State}
 use Rattle.checkpoint_cell.specs.declared.Phase.TheVariants.{Waiting}
 use Rattle.checkpoint_cell.specs.Cell.{Checkpoint, applying, in_phase}
 use Rattle.checkpoint_cell.specs.Settled.{Standing, restored_to}

@@ -24,7 +24,7 @@ use checkpoint_cell::{PutFault, mark_waiting, put};
 use engine_model::ApplyOpts;
 use engine_restore::{RunFault, run};
 use host_core::{DumpFault, Failed, Host};
-use net_model::{Call, Net, OutOfMemory};
+use net_model::{Call, Net};
 use std::alloc::Global;
 
 // Stores the checkpoint, and makes the calls.
@@ -82,11 +82,13 @@ fn verify<H: Host>(host: &mut H, alloc: Global, to: &Net, no_verify: bool) -> Re
         return Ok(());
     }
     match host.dump(alloc) {
-        Ok(found) => match same_net(alloc, &found, to) {
-            Ok(true) => Ok(()),
-            Ok(false) => Err(Missed::Differs(found)),
-            Err(OutOfMemory) => Err(Missed::OutOfMemory),
-        },
+        Ok(found) => {
+            if same_net(&found, to) {
+                Ok(())
+            } else {
+                Err(Missed::Differs(found))
+            }
+        }
         Err(DumpFault::Failed) => Err(Missed::Failed),
         Err(DumpFault::Damaged) => Err(Missed::Damaged),
         Err(DumpFault::OutOfMemory) => Err(Missed::OutOfMemory),

@@ -1,17 +1,14 @@
-use Rattle.std.proofs.Common.{◌≡◌, ◌∙◌, arith, inl, inr, ℕ, Option, Some, None, Err, true, false, ap, subst, sym, refl}
-use Rattle.net_model.specs.NetData.{NetData}
+use Rattle.std.proofs.Common.{◌≡◌, arith, inl, inr, Some, Err, ap, subst, sym, refl}
 use Rattle.kernel_model.specs.Runs.{Runs}
 use Rattle.host_core.specs.HostView.{State}
-use Rattle.engine_model.specs.declared.answers.ApplyFault.{ApplyFault}
 use Rattle.checkpoint_cell.specs.Settled.{Standing}
-use Rattle.engine_model.specs.Undone.{stand}
 use Rattle.engine_model.specs.Sound.{Sound}
 use Rattle.engine_model.specs.Stations.{Only, Kept, Ends, Near, AllNear}
 use Rattle.checkpoint_cell.specs.Settled.{restored_to}
 use Rattle.engine_model.specs.Answers.{IsUndone}
-use Rattle.engine_core.specs.Attempts.{IsOnWay, IsEither, sealed, done}
-use Rattle.engine_core.specs.Applying.{Exit, Change, Asked}
-use Rattle.engine_model.proofs.lemmas.Leading.{kept_on, kept_wider, near_kept, near_ends, kept_stays}
+use Rattle.engine_core.specs.Attempts.{IsOnWay, IsEither, done}
+use Rattle.engine_core.specs.Applying.{Change, Asked}
+use Rattle.engine_model.proofs.lemmas.Leading.{kept_on, kept_wider, near_kept, near_ends}
 use Rattle.std.proofs.lemmas.Result.{on_ok_weaker}
 use Rattle.engine_core.proofs.Calms.{calm_on}
 use Rattle.engine_core.proofs.Attempts.{way_back}

@@ -1,26 +1,22 @@
-use Rattle.std.proofs.Common.{◌≡◌, ◌∙◌, ◌+◌, ◌-◌, ◌^◌, min, inl, inr, ℕ, List, Option, Some, None, Err, Ok, Result, arith, ap, subst, sym, refl}
+use Rattle.std.proofs.Common.{◌≡◌, ◌∙◌, inl, ℕ, List, Some, None, Err, Ok, arith, ap, subst, sym, refl}
 use Rattle.std.specs.Prelude.{if◌then◌else◌, IfOk}
 use Rattle.net_model.specs.NetData.{NetData}
 use Rattle.net_model.specs.declared.Call.{Call}
 use Rattle.kernel_model.specs.Runs.{Runs}
 use Rattle.engine_model.specs.Merge.{merge}
-use Rattle.host_core.specs.HostView.{State, HostView}
-use Rattle.checkpoint_cell.specs.Cell.{cell_of}
-use Rattle.checkpoint_cell.specs.Steps.{Holds}
+use Rattle.host_core.specs.HostView.{State}
 use Rattle.checkpoint_cell.specs.Settled.{Standing, standing}
-use Rattle.engine_model.specs.Undone.{stand}
 use Rattle.engine_model.specs.Sound.{Sound}
-use Rattle.engine_model.specs.Stations.{Only, Kept, Ends, Near, AllNear}
+use Rattle.engine_model.specs.Stations.{Kept, Ends}
 use Rattle.checkpoint_cell.specs.Settled.{restored_to}
 use Rattle.engine_core.specs.Attempts.{IsEither}
 use Rattle.engine_core.specs.Applying.{IsStation, Exit, Change, Asked, asked_of}
-use Rattle.engine_model.proofs.lemmas.Leading.{kept_on, kept_wider, near_ends, kept_stays, ends_stays, sound_stays}
-use Rattle.engine_model.proofs.lemmas.Restores.{held_stays}
+use Rattle.engine_model.proofs.lemmas.Leading.{kept_on, kept_wider, kept_stays, ends_stays, sound_stays}
 use Rattle.std.proofs.lemmas.Result.{on_ok_weaker}
 use Rattle.plan_model.specs.Plans.{IsPlan}
 use Rattle.engine_core.proofs.Calms.{calm_as, calm_stays, one_net, one_merged}
 use Rattle.engine_core.proofs.Gives.{change_exit, either_station}
-use Rattle.engine_core.proofs.Says.{quiet_same, quiet_dumped, follows_on, since, since_keeps, left_says, rose_after}
+use Rattle.engine_core.proofs.Says.{quiet_dumped, follows_on, since, since_keeps, left_says, rose_after}
 use Rattle.host_core.specs.HostView.{Kernel}
 use Rattle.host_core.specs.Stops.{Stays}
 use Rattle.engine_model.specs.Machine.{asked}

@@ -1,14 +1,13 @@
-use Rattle.std.proofs.Common.{◌≡◌, ◌∙◌, ℕ, inl, inr, Option, Some, None, true, false, ap, subst, sym, refl}
-use Rattle.std.proofs.lemmas.Result.{on_ok_weaker}
+use Rattle.std.proofs.Common.{◌∙◌, ℕ, Some, false, subst, sym, refl}
 use Rattle.net_model.specs.NetData.{NetData}
-use Rattle.checkpoint_cell.specs.Cell.{Checkpoint, applying, cell_of}
+use Rattle.checkpoint_cell.specs.Cell.{applying}
 use Rattle.checkpoint_cell.specs.Steps.{Holds, NoneOr}
-use Rattle.checkpoint_cell.proofs.lemmas.Saved.{saved_is, saved_stays}
+use Rattle.checkpoint_cell.proofs.lemmas.Saved.{saved_stays}
 use Rattle.engine_model.specs.Sound.{Sound}
 use Rattle.engine_model.specs.Undone.{stand}
 use Rattle.engine_model.specs.Stations.{Only, Ends, Kept}
 use Rattle.engine_core.specs.Attempts.{sealed, done}
-use Rattle.engine_model.proofs.lemmas.Leading.{cell_kept, same_kind, ends_cell, kept_stays}
+use Rattle.engine_model.proofs.lemmas.Leading.{cell_kept, same_kind}
 use Rattle.engine_model.proofs.lemmas.Restores.{clearing}
 use Rattle.engine_core.proofs.Gives.{sealed_net}
 use Rattle.engine_core.proofs.Calms.{still}

@@ -1,10 +1,10 @@
-use Rattle.std.proofs.Common.{◌≡◌, ◌∙◌, Option, Some, None, Err, ap, subst, sym, refl}
+use Rattle.std.proofs.Common.{◌∙◌, Err, ap, subst, sym}
 use Rattle.net_model.specs.NetData.{NetData}
 use Rattle.host_core.specs.HostView.{State}
-use Rattle.checkpoint_cell.specs.Settled.{Standing, standing, restored_to}
+use Rattle.checkpoint_cell.specs.Settled.{standing, restored_to}
 use Rattle.engine_model.specs.Sound.{Sound}
 use Rattle.engine_model.specs.Machine.{asked}
-use Rattle.engine_model.specs.Stations.{Only, Kept, Ends}
+use Rattle.engine_model.specs.Stations.{Only, Kept}
 use Rattle.engine_model.specs.Answers.{IsUndone}
 use Rattle.engine_model.specs.declared.answers.ApplyFault.{ApplyFault}
 use Rattle.engine_model.proofs.lemmas.Leading.{kept_wider}

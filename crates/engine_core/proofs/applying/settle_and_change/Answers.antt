@@ -1,12 +1,11 @@
-use Rattle.std.proofs.Common.{◌≡◌, ◌∙◌, inl, inr, ℕ, Option, Some, None, Err, Ok, arith, ap, subst, sym, refl}
-use Rattle.host_core.specs.HostView.{State, HostView}
-use Rattle.checkpoint_cell.specs.Settled.{Standing, standing}
-use Rattle.engine_model.specs.Sound.{Sound}
+use Rattle.std.proofs.Common.{◌≡◌, ◌∙◌, inl, Some, None, Err, Ok, arith, ap, subst, sym}
+use Rattle.host_core.specs.HostView.{State}
+use Rattle.checkpoint_cell.specs.Settled.{Standing}
 use Rattle.engine_model.specs.declared.answers.ApplyFault.{ApplyFault}
-use Rattle.engine_model.specs.Stations.{Only, Kept, Ends, IsSettled}
-use Rattle.engine_core.specs.Applying.{IsStation, IsApplied, Exit, ExitApply, AfterSettling, Asked, asked_of}
-use Rattle.engine_model.proofs.lemmas.Leading.{kept_on, kept_wider}
-use Rattle.engine_model.specs.Machine.{asked, apply_fault}
+use Rattle.engine_model.specs.Stations.{IsSettled}
+use Rattle.engine_core.specs.Applying.{IsApplied, ExitApply, asked_of}
+use Rattle.engine_model.proofs.lemmas.Leading.{kept_wider}
+use Rattle.engine_model.specs.Machine.{asked}
 use Rattle.engine_model.specs.Faults.{ApplySays}
 use Rattle.engine_model.specs.declared.answers.Left.TheVariants.{NotBegun, RolledBack}
 use Rattle.engine_core.specs.Saying.{start_of, Follows}

@@ -1,10 +1,9 @@
 use Rattle.std.proofs.lemmas.Result.{on_ok_weaker}
 use Rattle.engine_core.proofs.Calms.{calm_on}
-use Rattle.std.proofs.Common.{arith, ◌≡◌, ◌∙◌, inl, Option, Some, None, true, false, ap, subst, sym, refl}
-use Rattle.checkpoint_cell.specs.Settled.{Standing}
-use Rattle.engine_model.specs.Stations.{Only, Kept, AllNear, Ends}
+use Rattle.std.proofs.Common.{arith, inl, refl}
+use Rattle.engine_model.specs.Stations.{Only}
 use Rattle.checkpoint_cell.specs.Settled.{restored_to}
-use Rattle.engine_core.specs.Attempts.{IsOnWay, sealed}
+use Rattle.engine_core.specs.Attempts.{IsOnWay}
 use Rattle.checkpoint_cell.specs.Cell.{applying}
 use Rattle.checkpoint_cell.proofs.lemmas.Saved.{saved_is}
 use Rattle.engine_core.proofs.Says.{follows_on}

@@ -1,11 +1,8 @@
-use Rattle.std.proofs.Common.{◌≡◌, ◌∙◌, Option, Some, None, Err, ℕ, arith, ap, subst, sym, refl}
+use Rattle.std.proofs.Common.{◌≡◌, ◌∙◌, Option, Some, None, Err, arith, ap, subst, refl}
 use Rattle.net_model.specs.NetData.{NetData}
-use Rattle.kernel_model.specs.Runs.{Runs}
 use Rattle.host_core.specs.HostView.{HasNet}
 use Rattle.checkpoint_cell.specs.Cell.{applying}
-use Rattle.checkpoint_cell.specs.Steps.{Holds, NoneOr}
-use Rattle.checkpoint_cell.specs.Settled.{Standing}
-use Rattle.engine_model.specs.Undone.{stand}
+use Rattle.checkpoint_cell.specs.Steps.{NoneOr}
 use Rattle.engine_model.specs.Sound.{Sound}
 use Rattle.engine_model.specs.Stations.{Only, Kept, Ends}
 use Rattle.checkpoint_cell.specs.Settled.{restored_to}

@@ -1,4 +1,4 @@
-use Rattle.std.proofs.Common.{◌≡◌, ◌∙◌, Option, Some, None, true, false, ap, subst, sym, refl}
+use Rattle.std.proofs.Common.{Some, true, subst, sym, refl}
 use Rattle.std.proofs.lemmas.Result.{on_ok_weaker}
 use Rattle.checkpoint_cell.specs.Cell.{applying}
 use Rattle.checkpoint_cell.specs.Steps.{Holds, EitherPhase}

@@ -1,6 +1,6 @@
-use Rattle.std.proofs.Common.{◌≡◌, ◌∙◌, arith, Option, Some, None, true, false, ap, subst, sym, refl}
+use Rattle.std.proofs.Common.{arith, ap}
 use Rattle.host_core.specs.HostView.{State}
-use Rattle.engine_core.specs.Attempts.{IsOnWay, sealed}
+use Rattle.engine_core.specs.Attempts.{IsOnWay}
 use Rattle.engine_core.proofs.Calms.{stays_nets}
 use Rattle.engine_core.proofs.Says.{quiet_same, quiet_on, rose_after}
 use Rattle.engine_model.proofs.lemmas.Leading.{kept_stays, kept_on, ends_stays, sound_stays}

@@ -1,10 +1,9 @@
-use Rattle.std.proofs.Common.{◌≡◌, ◌∙◌, Option, Some, None, sym, ap, subst}
+use Rattle.std.proofs.Common.{◌∙◌, Option, sym, subst}
 use Rattle.checkpoint_cell.specs.Cell.{Checkpoint, cell_of}
 use Rattle.checkpoint_cell.specs.Steps.{Holds}
 use Rattle.engine_model.specs.Stations.{IsCommitted}
-use Rattle.engine_model.proofs.lemmas.Leading.{kept_stays}
 use Rattle.engine_model.proofs.lemmas.Settles.{set_as}
-use Rattle.engine_core.proofs.Commits.{waits_as, commits, commits_after, commits_done}
+use Rattle.engine_core.proofs.Commits.{waits_as, commits, commits_after}
 use Rattle.engine_model.proofs.lemmas.Machines.{from_read}
 use Rattle.engine_core.proofs.committing.end_waiting.Goals as goal
 

@@ -1,4 +1,3 @@
-use Rattle.std.proofs.Common.{◌≡◌}
 use Rattle.engine_model.specs.declared.answers.Left.TheVariants.{NotBegun}
 use Rattle.engine_core.proofs.Says.{said_left, said_doubt}
 use Rattle.engine_model.specs.Stations.{Only, Either, Settled, entry_of}

@@ -1,4 +1,3 @@
-use Rattle.std.proofs.Common.{◌≡◌}
 use Rattle.engine_model.specs.Stations.{Only, IsCommitted}
 use Rattle.engine_model.specs.Machine.{commit}
 use Rattle.checkpoint_cell.specs.Settled.{standing}
