@@ -1,0 +1,5 @@
+mod Inputs
+mod Alone
+mod Documents
+mod Readings
+mod Parts

@@ -1,0 +1,12 @@
+use Rattle.std.proofs.lemmas.Result.{err_from_is_err_and}
+use Rattle.top_model.specs.Orders.{input, hardware_list}
+use Rattle.order_reading.specs.Reading.{itself}
+use Rattle.order_reading.proofs.Readings.{unread, no_usage_hardware}
+use Rattle.order_reading.proofs.order.read_hardware.Goals as goal
+
+pub returns-in_err-bytes-clause-read : goal.returns-in_err-bytes-clause-read
+returns-in_err-bytes-clause-read g c =
+    let p = err_from_is_err_and c.from_residual.result c.from_residual.ensures.1 in
+    rw (p.1, p.2)
+    (unread g.S.Source.tells (λ inputs. input c.args.in_script inputs c.args.file.now) hardware_list itself (g.S.Source.told c.args.src.now) (g.S.Source.told c.read_input.new.src) c.in_err-bytes.field-0.0 no_usage_hardware
+    c.in_err-bytes.ensures.bytes)

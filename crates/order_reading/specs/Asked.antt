@@ -1,0 +1,54 @@
+-- The order that is handed over, and what is known of it.
+use Rattle.std.specs.Prelude.{◌≡◌, List, Bool, true, false, not, ◌&&◌, is_none, Option, Some, None, map, Result, Ok, Err}
+use Rattle.document_model.specs.Entries.{is_document, has_short_doc}
+use Rattle.document_model.specs.declared.Doc.{Doc}
+use Rattle.host_core.specs.Streams.{SourceView}
+use Rattle.command_words.specs.declared.Command.{Command}
+use Rattle.command_words.specs.declared.Command.TheVariants as command
+use Rattle.top_model.specs.Orders.{Text, showing, planning, applying, committing, rolling_back, recovering, making}
+use Rattle.top_model.specs.Orders as model
+use Rattle.top_model.specs.Lines.{Timed, timed_of}
+use Rattle.top_model.specs.declared.Step.{Step}
+use Rattle.top_model.specs.declared.Cause.{Cause}
+use Rattle.order_reading.specs.declared.order.Order.{Order}
+use Rattle.order_reading.specs.declared.order.Order.TheVariants.{Show, Plan, Apply, Commit, Rollback, Recover, Init}
+use Rattle.order_reading.specs.Reading.{Takes}
+
+-- the order as the definitions have it
+abbrev pub asked : Order → model.Order
+asked (Show only json) = showing only json
+asked (Plan doc) = planning doc
+asked (Apply doc opts) = applying doc opts
+asked Commit = committing
+asked Rollback = rolling_back
+asked Recover = recovering
+asked (Init links) = making links
+
+-- the document of an order is right: what holds of each document that was read holds of it
+abbrev pub has_right_document : Order → Bool
+has_right_document (Plan doc) = is_document doc && has_short_doc doc
+has_right_document (Apply doc opts) = is_document doc && has_short_doc doc
+has_right_document _ = true
+
+-- ---- the FILE of a command
+
+-- the FILE that a command reads there; within a script nothing is read for a FILE that is missing, nor for `script`
+abbrev pub read_there : Bool → Option Text → Option (Option Text)
+read_there true None = None
+read_there in_script file = Some file
+
+abbrev pub file_read : Bool → Option Command → Option (Option Text)
+file_read in_script (Some (command.Plan file)) = read_there in_script file
+file_read in_script (Some (command.Apply file no_commit no_verify timeout)) = read_there in_script file
+file_read in_script (Some (command.Init file)) = read_there in_script file
+file_read in_script _ = None
+
+-- nothing but that FILE is read, and of it no more than the limit of a document and one byte
+abbrev pub TakesFile : {A : Type 0} → Type 0 → Type 0 → SourceView → SourceView → Option (Option Text) → Result A Cause → Type 0
+TakesFile untouched tells old new None result = untouched
+TakesFile untouched tells old new (Some file) result = Takes tells old new file result
+
+-- ---- a script's steps
+
+abbrev pub steps_seen : List Step → List Timed
+steps_seen steps = map timed_of steps

@@ -1,0 +1,5 @@
+pub mod Reading
+pub mod Pieces
+pub mod Faults
+pub mod Asked
+pub mod Steps
