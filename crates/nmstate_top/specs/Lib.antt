@@ -1,11 +1,3 @@
-pub mod Words
-pub mod Documents
-pub mod Inputs
-pub mod Merge
-pub mod Texts
-pub mod Reports
-pub mod Changes
-pub mod Answers
-pub mod Expected
-pub mod Runs
-pub mod Promises
+pub mod First
+pub mod Looked
+pub mod Carried

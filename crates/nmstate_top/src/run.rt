@@ -1,118 +1,150 @@
-//! The top call.
-ghost use Rattle.std.specs.Prelude.{◌≡◌, [], map, string_bytes, IfOk, IsTrue};
-ghost use Rattle.nmstate_top.specs.Words.{is_apply};
-ghost use Rattle.nmstate_top.specs.Documents.{mtu_fits};
-ghost use Rattle.nmstate_top.specs.Changes.{MakesCall, ChangesHost};
-ghost use Rattle.nmstate_top.specs.Answers.{asking, ReadsDocument, Applies, Means};
-ghost use Rattle.nmstate_top.specs.Runs.{run_of, Answered};
-ghost use Rattle.nmstate_top.specs.Promises.{Applied, Complete, UsageExactly, NoSuchNames, ReadFaults, NotYetExactly, MergeRefusedExactly, HostFaults, KernelRefusals, WriteFaultExactly, DamagedExactly, WantsOfMemory, Texts, Statuses};
+//! One command, at the prompt or as a step of a script.
+ghost use Rattle.std.specs.Prelude.{◌≡◌, true, false, None, map, string_bytes};
+ghost use Rattle.command_words.specs.Words.{command_of};
+ghost use Rattle.order_reading.specs.Asked.{asked, has_right_document};
+ghost use Rattle.top_model.specs.Answered.{Answered};
+ghost use Rattle.top_model.specs.Headline.{Headline};
+ghost use Rattle.top_model.specs.Moments.{AtMoment};
+ghost use Rattle.top_model.specs.Promises.{Complete, DoneOnly, RefusedExactly, CommitTakesNone, Statuses, Texts};
+ghost use Rattle.top_model.specs.Runs.{run_of};
+ghost use Rattle.top_model.specs.Scripts.{IsScript, file_of};
+ghost use Rattle.top_model.specs.Undisturbed.{Undisturbed};
+ghost use Rattle.nmstate_top.specs.Carried.{Carried};
+ghost use Rattle.nmstate_top.specs.First.{has_hardware};
 
-use crate::document::{LinkEntry, read_form};
-use crate::input::read_input;
-use crate::merging::change_of;
-use crate::report::tell;
-use crate::{Cause, Left, Report};
-use host_core::{CallFault, Clock, DumpFault, Host, Sink, Source};
-use kernel_model::is_of_devices;
-use net_model::Call;
+use crate::apply::apply_run;
+use crate::commit::commit_run;
+use crate::init::init_run;
+use crate::plan::plan_run;
+use crate::recover::recover_run;
+use crate::rollback::rollback_run;
+use crate::script::run_file;
+use crate::show::show_run;
+use answer_text::tell_refused;
+use base_model::{OutOfMemory, Str};
+use host_core::{Clock, Host, Sink, Source};
+use order_reading::{Order, read_order, script_file};
 use std::alloc::Global;
+use top_model::{Cause, Report};
 
-/// The number by which an answer names the kernel area.
-const KERNEL_AREA: u8 = 0;
-
-/// Whether the words are the one command that is built.
-fn is_apply(words: &[String]) -> bool
-    ensures { result ≡ is_apply (map string_bytes words.now) }
+// Carries out an order.
+fn run_order<H: Host, S: Source, W: Sink>(
+    alloc: Global,
+    order: Order,
+    host: &mut H,
+    out: &mut W,
+    err: &mut W,
+    now: u64,
+) -> Report
+    requires document { has_right_document order ≡ true }
+    requires hardware { has_hardware order ≡ true }
+    ensures { Carried H.Host S.Source W.Sink (asked order) now host.old host.new out.old out.new err.old err.new result }
 {
-    match words {
-        [command, file] => command.as_str() == "apply" && file.as_str() == "-",
-        _ => false,
+    match order {
+        Order::Show { only, json } => show_run::<H, S, W>(alloc, &only, json, host, out, err),
+        Order::Plan { doc } => plan_run::<H, S, W>(alloc, &doc, host, out, err),
+        Order::Apply { doc, opts } => {
+            apply_run::<H, S, W>(alloc, &doc, &opts, host, out, err, now)
+        }
+        Order::Commit => commit_run::<H, S, W>(host, out, err, now),
+        Order::Rollback => rollback_run::<H, S, W>(alloc, host, out, err),
+        Order::Recover => recover_run::<H, S, W>(alloc, host, out, err, now),
+        Order::Init { links } => init_run::<H, S, W>(alloc, links, host, out, err),
     }
 }
 
-/// Reads the document on standard input.
-fn read_document<S: Source>(alloc: Global, src: &mut S) -> Result<LinkEntry, Cause>
-    ensures read { ReadsDocument S.tells (S.told src.old) (S.told src.new) result }
-    ensures in_range { IfOk result (λ entry. IsTrue (mtu_fits entry.mtu)) }
+// One command, at the prompt or as a step of a script.
+pub(crate) fn run_one<H: Host, S: Source, W: Sink>(
+    alloc: Global,
+    words: &Vec<String>,
+    in_script: bool,
+    host: &mut H,
+    src: &mut S,
+    out: &mut W,
+    err: &mut W,
+    now: u64,
+) -> Report
+    ensures { Answered (run_of H.Host S.Source W.Sink words.now.items in_script now host.old host.new src.old src.new out.old out.new err.old err.new result) }
 {
-    let bytes = read_input(alloc, "-", src)?;
-    read_form(alloc, &bytes)
-}
-
-/// Makes the one call of a change.
-fn make_call<H: Host>(alloc: Global, call: &Call, host: &mut H) -> Result<(), Cause>
-    requires { (H.told host.old).settled }
-    ensures { MakesCall H.honest H.tells call.now (H.told host.old) (H.told host.new) result }
-{
-    match host.call(alloc, call) {
-        Ok(()) => Ok(()),
-        Err(CallFault::Refused(number)) => Err(Cause::KernelRefused(number, 1, Left::Pending)),
-        Err(CallFault::Failed) => Err(Cause::HostFault(Left::Pending)),
-        Err(CallFault::OutOfMemory) => Err(Cause::OutOfMemory),
+    match read_order(alloc, words.as_slice(), in_script, src) {
+        Ok(order) => run_order::<H, S, W>(alloc, order, host, out, err, now),
+        Err(refusal) => tell_refused(b"", refusal, out, err),
     }
 }
 
-/// Makes the document's change on the host.
-fn change_host<H: Host>(alloc: Global, entry: &LinkEntry, host: &mut H) -> Result<(), Cause>
-    requires { IsTrue (mtu_fits entry.now.mtu) }
-    ensures { ChangesHost H.honest H.tells entry.now (H.told host.old) (H.told host.new) result }
-{
-    let net = match host.dump(alloc) {
-        Ok(net) => net,
-        Err(DumpFault::Failed) => return Err(Cause::HostFault(Left::NotBegun)),
-        Err(DumpFault::Damaged) => return Err(Cause::Damaged(KERNEL_AREA)),
-        Err(DumpFault::OutOfMemory) => return Err(Cause::OutOfMemory),
-    };
-    if !is_of_devices(&net) {
-        return Err(Cause::NotYet);
-    }
-    match change_of(&net, entry) {
-        Ok(Some(call)) => make_call(alloc, &call, host),
-        Ok(None) => Ok(()),
-        Err(refused) => Err(Cause::MergeRefused(refused)),
-    }
-}
-
-fn apply<H: Host, S: Source>(alloc: Global, host: &mut H, src: &mut S) -> Result<(), Cause>
-    ensures { Applies (asking [] H.honest H.tells S.tells (H.told host.old) (H.told host.new) (S.told src.old) (S.told src.new) (host.new ≡ host.old)) result }
-{
-    let entry = read_document(alloc, src)?;
-    change_host(alloc, &entry, host)
-}
-
-/// The answer to the words, before it is told.
-fn answer<H: Host, S: Source>(alloc: Global, words: &[String], host: &mut H, src: &mut S) -> Cause
-    ensures { Means (asking (map string_bytes words.now) H.honest H.tells S.tells (H.told host.old) (H.told host.new) (S.told src.old) (S.told src.new) (host.new ≡ host.old)) result }
-{
-    if !is_apply(words) {
-        return Cause::Usage;
-    }
-    match apply(alloc, host, src) {
-        Ok(()) => Cause::Done,
-        Err(cause) => cause,
-    }
-}
-
-/// Answers the words, and tells the answer.
-fn run<H: Host, S: Source, W: Sink>(
+/// Answers one command at a moment, in seconds, and tells the answer to the sinks. The words are those after the
+/// program's name; for `script` it answers `Usage`.
+pub fn run_at<H: Host, S: Source, W: Sink>(
     alloc: Global,
     words: &Vec<String>,
     host: &mut H,
     src: &mut S,
     out: &mut W,
     err: &mut W,
+    now: u64,
 ) -> Report
-    ensures { Answered (run_of words.now.items H.honest H.tells H.told host.old host.new S.tells S.told src.old src.new
-        W.tells W.told out.old out.new err.old err.new result) }
+    // Every valid running state, document and pattern of faults, in one sentence.
+    ensures headline { Headline (run_of H.Host S.Source W.Sink words.now.items false now host.old host.new src.old src.new out.old out.new err.old err.new result) }
+    // The answer, when it comes, what it leaves, and how it is told.
+    ensures answered { Answered (run_of H.Host S.Source W.Sink words.now.items false now host.old host.new src.old src.new out.old out.new err.old err.new result) }
+    // What the report says of it: where no fault came, and with faults.
+    ensures complete { Complete (run_of H.Host S.Source W.Sink words.now.items false now host.old host.new src.old src.new out.old out.new err.old err.new result) }
+    ensures done { DoneOnly (run_of H.Host S.Source W.Sink words.now.items false now host.old host.new src.old src.new out.old out.new err.old err.new result) }
+    ensures refused { RefusedExactly (run_of H.Host S.Source W.Sink words.now.items false now host.old host.new src.old src.new out.old out.new err.old err.new result) }
+    ensures memory { CommitTakesNone (run_of H.Host S.Source W.Sink words.now.items false now host.old host.new src.old src.new out.old out.new err.old err.new result) }
+    ensures status { Statuses (run_of H.Host S.Source W.Sink words.now.items false now host.old host.new src.old src.new out.old out.new err.old err.new result) }
+    // What is written, on every host.
+    ensures texts { Texts (run_of H.Host S.Source W.Sink words.now.items false now host.old host.new src.old src.new out.old out.new err.old err.new result) }
+    // What an apply leaves alone on its way.
+    ensures undisturbed { Undisturbed (run_of H.Host S.Source W.Sink words.now.items false now host.old host.new src.old src.new out.old out.new err.old err.new result) }
 {
-    let cause = answer(alloc, words, host, src);
-    tell(cause, out, err)
+    run_one(alloc, words, false, host, src, out, err, now)
 }
 
-/// Does all that the program does: answers the words over the host, and tells the answer to the sinks.
-///
-/// The words are those after the program's name. Standard input is read up to the limit of a document and one byte, the
-/// clock is asked once, and a line of the answer goes to `out` where it is done, else to `err`.
+// The command of the words: `script` with this FILE, or another one.
+fn run_named<H: Host, S: Source, W: Sink>(
+    alloc: Global,
+    script: &Option<Option<Str>>,
+    words: &Vec<String>,
+    host: &mut H,
+    src: &mut S,
+    out: &mut W,
+    err: &mut W,
+    now: u64,
+) -> Report
+    requires { script.now ≡ file_of (command_of (map string_bytes words.now.items)) }
+    ensures answered { file_of (command_of (map string_bytes words.now.items)) ≡ None
+        → Answered (run_of H.Host S.Source W.Sink words.now.items false now host.old host.new src.old src.new out.old out.new err.old err.new result) }
+    ensures script { IsScript (run_of H.Host S.Source W.Sink words.now.items false 0 host.old host.new src.old src.new out.old out.new err.old err.new result) }
+{
+    match script {
+        Some(file) => run_file(alloc, file, host, src, out, err),
+        None => run_one(alloc, words, false, host, src, out, err, now),
+    }
+}
+
+// The command of the words, which may be `script`.
+fn run_words<H: Host, S: Source, W: Sink>(
+    alloc: Global,
+    words: &Vec<String>,
+    host: &mut H,
+    src: &mut S,
+    out: &mut W,
+    err: &mut W,
+    now: u64,
+) -> Report
+    ensures answered { file_of (command_of (map string_bytes words.now.items)) ≡ None
+        → Answered (run_of H.Host S.Source W.Sink words.now.items false now host.old host.new src.old src.new out.old out.new err.old err.new result) }
+    ensures script { IsScript (run_of H.Host S.Source W.Sink words.now.items false 0 host.old host.new src.old src.new out.old out.new err.old err.new result) }
+{
+    match script_file(alloc, words.as_slice()) {
+        Ok(script) => run_named(alloc, &script, words, host, src, out, err, now),
+        Err(OutOfMemory) => tell_refused(b"", Cause::OutOfMemory, out, err),
+    }
+}
+
+/// Does all that the program does: asks the clock once, and is `run_at` at that moment for every command but `script`,
+/// whose lines have moments of their own. The words are those after the program's name.
 pub fn run_command<H: Host, S: Source, W: Sink, C: Clock>(
     alloc: Global,
     words: &Vec<String>,
@@ -122,40 +154,23 @@ pub fn run_command<H: Host, S: Source, W: Sink, C: Clock>(
     err: &mut W,
     clock: &mut C,
 ) -> Report
-    // Without a fault: what is answered, what the host is left with, and what is printed.
-    ensures applied { Applied (run_of words.now.items H.honest H.tells H.told host.old host.new S.tells S.told src.old src.new
-        W.tells W.told out.old out.new err.old err.new result) }
-    ensures complete { Complete (run_of words.now.items H.honest H.tells H.told host.old host.new S.tells S.told src.old src.new
-        W.tells W.told out.old out.new err.old err.new result) }
-
-    // When each answer comes, and what it leaves.
-    ensures usage { UsageExactly (run_of words.now.items H.honest H.tells H.told host.old host.new S.tells S.told src.old src.new
-        W.tells W.told out.old out.new err.old err.new result) }
-    ensures no_such_name { NoSuchNames (run_of words.now.items H.honest H.tells H.told host.old host.new S.tells S.told src.old src.new
-        W.tells W.told out.old out.new err.old err.new result) }
-    ensures read_fault { ReadFaults (run_of words.now.items H.honest H.tells H.told host.old host.new S.tells S.told src.old src.new
-        W.tells W.told out.old out.new err.old err.new result) }
-    ensures not_yet { NotYetExactly (run_of words.now.items H.honest H.tells H.told host.old host.new S.tells S.told src.old src.new
-        W.tells W.told out.old out.new err.old err.new result) }
-    ensures merge_refused { MergeRefusedExactly (run_of words.now.items H.honest H.tells H.told host.old host.new S.tells S.told src.old src.new
-        W.tells W.told out.old out.new err.old err.new result) }
-    ensures host_fault { HostFaults (run_of words.now.items H.honest H.tells H.told host.old host.new S.tells S.told src.old src.new
-        W.tells W.told out.old out.new err.old err.new result) }
-    ensures kernel_refused { KernelRefusals (run_of words.now.items H.honest H.tells H.told host.old host.new S.tells S.told src.old src.new
-        W.tells W.told out.old out.new err.old err.new result) }
-    ensures write_fault { WriteFaultExactly (run_of words.now.items H.honest H.tells H.told host.old host.new S.tells S.told src.old src.new
-        W.tells W.told out.old out.new err.old err.new result) }
-    ensures damaged { DamagedExactly (run_of words.now.items H.honest H.tells H.told host.old host.new S.tells S.told src.old src.new
-        W.tells W.told out.old out.new err.old err.new result) }
-    ensures out_of_memory { WantsOfMemory (run_of words.now.items H.honest H.tells H.told host.old host.new S.tells S.told src.old src.new
-        W.tells W.told out.old out.new err.old err.new result) }
-
-    // What is written for each answer, on every host, and its status.
-    ensures texts { Texts (run_of words.now.items H.honest H.tells H.told host.old host.new S.tells S.told src.old src.new
-        W.tells W.told out.old out.new err.old err.new result) }
-    ensures status { Statuses (run_of words.now.items H.honest H.tells H.told host.old host.new S.tells S.told src.old src.new
-        W.tells W.told out.old out.new err.old err.new result) }
+    // Every valid running state, document and pattern of faults, in one sentence.
+    ensures headline { AtMoment C.Clock clock.old clock.new words.now.items (λ now. Headline (run_of H.Host S.Source W.Sink words.now.items false now host.old host.new src.old src.new out.old out.new err.old err.new result)) }
+    // The answer, when it comes, what it leaves, and how it is told.
+    ensures answered { AtMoment C.Clock clock.old clock.new words.now.items (λ now. Answered (run_of H.Host S.Source W.Sink words.now.items false now host.old host.new src.old src.new out.old out.new err.old err.new result)) }
+    // What the report says of it: where no fault came, and with faults.
+    ensures complete { AtMoment C.Clock clock.old clock.new words.now.items (λ now. Complete (run_of H.Host S.Source W.Sink words.now.items false now host.old host.new src.old src.new out.old out.new err.old err.new result)) }
+    ensures done { AtMoment C.Clock clock.old clock.new words.now.items (λ now. DoneOnly (run_of H.Host S.Source W.Sink words.now.items false now host.old host.new src.old src.new out.old out.new err.old err.new result)) }
+    ensures refused { AtMoment C.Clock clock.old clock.new words.now.items (λ now. RefusedExactly (run_of H.Host S.Source W.Sink words.now.items false now host.old host.new src.old src.new out.old out.new err.old err.new result)) }
+    ensures memory { AtMoment C.Clock clock.old clock.new words.now.items (λ now. CommitTakesNone (run_of H.Host S.Source W.Sink words.now.items false now host.old host.new src.old src.new out.old out.new err.old err.new result)) }
+    ensures status { AtMoment C.Clock clock.old clock.new words.now.items (λ now. Statuses (run_of H.Host S.Source W.Sink words.now.items false now host.old host.new src.old src.new out.old out.new err.old err.new result)) }
+    // What is written, on every host.
+    ensures texts { AtMoment C.Clock clock.old clock.new words.now.items (λ now. Texts (run_of H.Host S.Source W.Sink words.now.items false now host.old host.new src.old src.new out.old out.new err.old err.new result)) }
+    // What an apply leaves alone on its way.
+    ensures undisturbed { AtMoment C.Clock clock.old clock.new words.now.items (λ now. Undisturbed (run_of H.Host S.Source W.Sink words.now.items false now host.old host.new src.old src.new out.old out.new err.old err.new result)) }
+    // A script reads all its lines, and is then the fold of its steps.
+    ensures script { IsScript (run_of H.Host S.Source W.Sink words.now.items false 0 host.old host.new src.old src.new out.old out.new err.old err.new result) }
 {
-    let _moment = clock.now();
-    run(alloc, words, host, src, out, err)
+    let now = clock.now();
+    run_words(alloc, words, host, src, out, err, now)
 }

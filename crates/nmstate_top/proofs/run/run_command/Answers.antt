@@ -1,60 +1,33 @@
-use Rattle.nmstate_top.specs.Runs.{run_of}
-use Rattle.nmstate_top.proofs.Telling.{texts, statuses}
-use Rattle.nmstate_top.proofs.Promised.{applied, complete, usage, no_such_name, read_fault, not_yet, merge_refused, host_fault, kernel_refused, write_fault_exactly, damaged, out_of_memory}
+use Rattle.top_model.proofs.lemmas.Headlines.{headline}
+use Rattle.top_model.proofs.lemmas.Promised.{complete, done_only}
+use Rattle.top_model.proofs.lemmas.Reports.{refused_exactly, commit_takes_none, statuses}
+use Rattle.top_model.proofs.lemmas.Spared.{undisturbed}
+use Rattle.top_model.proofs.lemmas.Written.{texts}
 use Rattle.nmstate_top.proofs.run.run_command.Goals as goal
 
-pub returns-clause-applied : goal.returns-clause-applied
-returns-clause-applied g c = applied (run_of c.args.words.now.items g.H.Host.honest g.H.Host.tells g.H.Host.told c.args.host.now c.run.new.host g.S.Source.tells g.S.Source.told c.args.src.now c.run.new.src
-    g.W.Sink.tells g.W.Sink.told c.args.out.now c.run.new.out c.args.err.now c.run.new.err c.run.result) c.run.ensures
+pub returns-clause-headline : goal.returns-clause-headline
+returns-clause-headline g c = (c.now-now.result, c.now-now.ensures, λ other. headline _ (c.run_words.ensures.answered other))
+
+pub returns-clause-answered : goal.returns-clause-answered
+returns-clause-answered g c = (c.now-now.result, c.now-now.ensures, λ other. c.run_words.ensures.answered other)
 
 pub returns-clause-complete : goal.returns-clause-complete
-returns-clause-complete g c = complete (run_of c.args.words.now.items g.H.Host.honest g.H.Host.tells g.H.Host.told c.args.host.now c.run.new.host g.S.Source.tells g.S.Source.told c.args.src.now c.run.new.src
-    g.W.Sink.tells g.W.Sink.told c.args.out.now c.run.new.out c.args.err.now c.run.new.err c.run.result) c.run.ensures
+returns-clause-complete g c = (c.now-now.result, c.now-now.ensures, λ other. complete _ (c.run_words.ensures.answered other))
 
-pub returns-clause-usage : goal.returns-clause-usage
-returns-clause-usage g c = usage (run_of c.args.words.now.items g.H.Host.honest g.H.Host.tells g.H.Host.told c.args.host.now c.run.new.host g.S.Source.tells g.S.Source.told c.args.src.now c.run.new.src
-    g.W.Sink.tells g.W.Sink.told c.args.out.now c.run.new.out c.args.err.now c.run.new.err c.run.result) c.run.ensures
+pub returns-clause-done : goal.returns-clause-done
+returns-clause-done g c = (c.now-now.result, c.now-now.ensures, λ other. done_only _ (c.run_words.ensures.answered other))
 
-pub returns-clause-no_such_name : goal.returns-clause-no_such_name
-returns-clause-no_such_name g c = no_such_name (run_of c.args.words.now.items g.H.Host.honest g.H.Host.tells g.H.Host.told c.args.host.now c.run.new.host g.S.Source.tells g.S.Source.told c.args.src.now c.run.new.src
-    g.W.Sink.tells g.W.Sink.told c.args.out.now c.run.new.out c.args.err.now c.run.new.err c.run.result) c.run.ensures
+pub returns-clause-refused : goal.returns-clause-refused
+returns-clause-refused g c = (c.now-now.result, c.now-now.ensures, λ other. refused_exactly _ (c.run_words.ensures.answered other))
 
-pub returns-clause-read_fault : goal.returns-clause-read_fault
-returns-clause-read_fault g c = read_fault (run_of c.args.words.now.items g.H.Host.honest g.H.Host.tells g.H.Host.told c.args.host.now c.run.new.host g.S.Source.tells g.S.Source.told c.args.src.now c.run.new.src
-    g.W.Sink.tells g.W.Sink.told c.args.out.now c.run.new.out c.args.err.now c.run.new.err c.run.result) c.run.ensures
-
-pub returns-clause-not_yet : goal.returns-clause-not_yet
-returns-clause-not_yet g c = not_yet (run_of c.args.words.now.items g.H.Host.honest g.H.Host.tells g.H.Host.told c.args.host.now c.run.new.host g.S.Source.tells g.S.Source.told c.args.src.now c.run.new.src
-    g.W.Sink.tells g.W.Sink.told c.args.out.now c.run.new.out c.args.err.now c.run.new.err c.run.result) c.run.ensures
-
-pub returns-clause-merge_refused : goal.returns-clause-merge_refused
-returns-clause-merge_refused g c = merge_refused (run_of c.args.words.now.items g.H.Host.honest g.H.Host.tells g.H.Host.told c.args.host.now c.run.new.host g.S.Source.tells g.S.Source.told c.args.src.now c.run.new.src
-    g.W.Sink.tells g.W.Sink.told c.args.out.now c.run.new.out c.args.err.now c.run.new.err c.run.result) c.run.ensures
-
-pub returns-clause-host_fault : goal.returns-clause-host_fault
-returns-clause-host_fault g c = host_fault (run_of c.args.words.now.items g.H.Host.honest g.H.Host.tells g.H.Host.told c.args.host.now c.run.new.host g.S.Source.tells g.S.Source.told c.args.src.now c.run.new.src
-    g.W.Sink.tells g.W.Sink.told c.args.out.now c.run.new.out c.args.err.now c.run.new.err c.run.result) c.run.ensures
-
-pub returns-clause-kernel_refused : goal.returns-clause-kernel_refused
-returns-clause-kernel_refused g c = kernel_refused (run_of c.args.words.now.items g.H.Host.honest g.H.Host.tells g.H.Host.told c.args.host.now c.run.new.host g.S.Source.tells g.S.Source.told c.args.src.now c.run.new.src
-    g.W.Sink.tells g.W.Sink.told c.args.out.now c.run.new.out c.args.err.now c.run.new.err c.run.result) c.run.ensures
-
-pub returns-clause-write_fault : goal.returns-clause-write_fault
-returns-clause-write_fault g c = write_fault_exactly (run_of c.args.words.now.items g.H.Host.honest g.H.Host.tells g.H.Host.told c.args.host.now c.run.new.host g.S.Source.tells g.S.Source.told c.args.src.now c.run.new.src
-    g.W.Sink.tells g.W.Sink.told c.args.out.now c.run.new.out c.args.err.now c.run.new.err c.run.result) c.run.ensures
-
-pub returns-clause-damaged : goal.returns-clause-damaged
-returns-clause-damaged g c = damaged (run_of c.args.words.now.items g.H.Host.honest g.H.Host.tells g.H.Host.told c.args.host.now c.run.new.host g.S.Source.tells g.S.Source.told c.args.src.now c.run.new.src
-    g.W.Sink.tells g.W.Sink.told c.args.out.now c.run.new.out c.args.err.now c.run.new.err c.run.result) c.run.ensures
-
-pub returns-clause-out_of_memory : goal.returns-clause-out_of_memory
-returns-clause-out_of_memory g c = out_of_memory (run_of c.args.words.now.items g.H.Host.honest g.H.Host.tells g.H.Host.told c.args.host.now c.run.new.host g.S.Source.tells g.S.Source.told c.args.src.now c.run.new.src
-    g.W.Sink.tells g.W.Sink.told c.args.out.now c.run.new.out c.args.err.now c.run.new.err c.run.result) c.run.ensures
-
-pub returns-clause-texts : goal.returns-clause-texts
-returns-clause-texts g c = texts (run_of c.args.words.now.items g.H.Host.honest g.H.Host.tells g.H.Host.told c.args.host.now c.run.new.host g.S.Source.tells g.S.Source.told c.args.src.now c.run.new.src
-    g.W.Sink.tells g.W.Sink.told c.args.out.now c.run.new.out c.args.err.now c.run.new.err c.run.result) c.run.ensures
+pub returns-clause-memory : goal.returns-clause-memory
+returns-clause-memory g c = (c.now-now.result, c.now-now.ensures, λ other. commit_takes_none _ (c.run_words.ensures.answered other))
 
 pub returns-clause-status : goal.returns-clause-status
-returns-clause-status g c = statuses (run_of c.args.words.now.items g.H.Host.honest g.H.Host.tells g.H.Host.told c.args.host.now c.run.new.host g.S.Source.tells g.S.Source.told c.args.src.now c.run.new.src
-    g.W.Sink.tells g.W.Sink.told c.args.out.now c.run.new.out c.args.err.now c.run.new.err c.run.result) c.run.ensures
+returns-clause-status g c = (c.now-now.result, c.now-now.ensures, λ other. statuses _ (c.run_words.ensures.answered other))
+
+pub returns-clause-texts : goal.returns-clause-texts
+returns-clause-texts g c = (c.now-now.result, c.now-now.ensures, λ other. texts _ (c.run_words.ensures.answered other))
+
+pub returns-clause-undisturbed : goal.returns-clause-undisturbed
+returns-clause-undisturbed g c = (c.now-now.result, c.now-now.ensures, λ other. undisturbed _ (c.run_words.ensures.answered other))

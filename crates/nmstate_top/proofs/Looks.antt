@@ -1,0 +1,261 @@
+-- All that is said of a command that only looks at the network.
+use Rattle.std.proofs.Common.{◌≡◌, ◌∙◌, inl, inr, refl, sym, ap, subst, arith, ℕ, Bool, List, [], ◌++◌, Option, None, Some}
+use Rattle.std.specs.Prelude.{◌≢◌, ◌≤◌, Vec, Result, Ok, Err}
+use Rattle.std.specs.declared.alloc.Global.{Global}
+use Rattle.net_model.specs.NetData.{NetData}
+use Rattle.document_model.specs.declared.Doc.{Doc}
+use Rattle.document_model.specs.declared.Refused.{Refused}
+use Rattle.host_core.specs.HostView.{HostView, IsLawfulHost}
+use Rattle.host_core.specs.Stops.{Steps, Stays}
+use Rattle.host_core.proofs.lemmas.Moments.{stays as stays_there}
+use Rattle.checkpoint_cell.specs.Settled.{Standing, standing}
+use Rattle.engine_model.specs.Merge.{merge}
+use Rattle.engine_model.specs.Machine.{Outcome, stays}
+use Rattle.engine_model.specs.Sound.{Sound}
+use Rattle.engine_model.specs.Stations.{Stands, Within, Only, Before, Kept, at}
+use Rattle.engine_model.specs.Faults.{IsOutcome, HadDamaged}
+use Rattle.engine_model.specs.declared.Left.TheVariants as left
+use Rattle.engine_model.proofs.lemmas.Leading.{alike_is, kept_stays}
+use Rattle.top_model.specs.Said.{Said, Says, printed, planned}
+use Rattle.top_model.specs.Orders.{Text, Inputs, Order, showing, planning, committing, rolling_back, recovering, notes_of, order_of}
+use Rattle.top_model.specs.Machine.{looked, plan_to, machine_of}
+use Rattle.top_model.specs.Texts.{error_line, note_lines}
+use Rattle.top_model.specs.Runs.{Run, entry, reads, left_at_exit, MayRead}
+use Rattle.top_model.specs.Told.{Answer, Told, ErrText}
+use Rattle.top_model.specs.Causes.{MayWant, MayAnswer, Comes, Expects}
+use Rattle.top_model.specs.Answered.{GoesOn, Answered}
+use Rattle.top_model.specs.declared.report.Cause.{Cause}
+use Rattle.top_model.specs.declared.report.Cause.TheVariants.{Done, MergeRefused, ReadFault, HostFault, Damaged, OutOfMemory}
+use Rattle.top_model.proofs.lemmas.Wanting.{may_want_order}
+use Rattle.answer_text.specs.Speaking.{Spoken}
+use Rattle.answer_text.proofs.lemmas.Told.{err_noted, told_done, told_refused}
+use Rattle.nmstate_top.specs.Looked.{ChangesNothing, IsFound, Finds, Looked, HasText, LooksAs, TextOf}
+
+not_rolled : left.NotBegun ≢ left.RolledBack
+not_rolled e = cc
+
+abbrev says : Said → Answer
+says said = Ok said
+
+abbrev refuses : Cause → Answer
+refuses cause = Err cause
+
+same_said : (a b : Said) → says a ≡ says b → a ≡ b
+same_said a b e = cc
+
+said_refused : (said : Said) (cause : Cause) → says said ≡ refuses cause → ⊥
+said_refused said cause e = cc
+
+same_refused : (a b : Refused) → refuses (MergeRefused a) ≡ refuses (MergeRefused b) → a ≡ b
+same_refused a b e = cc
+
+abbrev broken_by : Refused → Result NetData Refused
+broken_by refused = Err refused
+
+showing_committing : (only : Option Text) (json : Bool) → showing only json ≢ committing
+showing_committing only json e = cc
+
+showing_rolling_back : (only : Option Text) (json : Bool) → showing only json ≢ rolling_back
+showing_rolling_back only json e = cc
+
+showing_recovering : (only : Option Text) (json : Bool) → showing only json ≢ recovering
+showing_recovering only json e = cc
+
+planning_committing : (doc : Doc) → planning doc ≢ committing
+planning_committing doc e = cc
+
+planning_rolling_back : (doc : Doc) → planning doc ≢ rolling_back
+planning_rolling_back doc e = cc
+
+planning_recovering : (doc : Doc) → planning doc ≢ recovering
+planning_recovering doc e = cc
+
+-- nothing is changed where nothing is done
+pub unchanged : (tells : Type 0) (host : HostView) → ChangesNothing tells host host
+unchanged tells host = record { state = λ t. refl; stops = stays_there host.stops; later = omega arith }
+
+-- ---- how it is told
+
+module _ (r : Run) (order : Order) (notes : Text) (same : notes ≡ note_lines (notes_of (Ok order))) where
+  -- what is said was told
+  pub told_text : (answer : Answer) (text : Vec ℕ Global) (line : Text) → line ≡ text.items → HasText answer (Ok text)
+      → Spoken r.sinks_tell Done line (notes ++ error_line Done) r.out r.out_after r.err r.err_after r.report → Told r (Ok order) answer
+  told_text (Ok said) text line is has spoken = told_done r (Ok order) said line notes (subst (Says said) (sym is) has) same spoken
+  told_text (Err cause) text line is has spoken = absurd has
+
+  -- a refusal was told
+  pub told_refusal : (answer : Answer) (refusal : Cause) → HasText answer (Err refusal) → refusal ≢ ReadFault
+      → Spoken r.sinks_tell refusal [] (notes ++ error_line refusal) r.out r.out_after r.err r.err_after r.report → Told r (Ok order) answer
+  told_refusal (Ok said) refusal has other spoken = absurd has
+  told_refusal (Err cause) refusal has other spoken =
+      subst (λ c. Told r (Ok order) (Err c)) has
+      (told_refused r (Ok order) refusal notes (subst (λ (n : Text). ErrText (Ok order) refusal (n ++ error_line refusal)) (sym same) (err_noted (Ok order) refusal other)) spoken)
+
+-- ---- what it answers
+
+-- the text depends on what is answered of this network alone
+pub text_as : (say other : NetData → Answer) (net : NetData) (result : Result (Vec ℕ Global) Cause) → other net ≡ say net → TextOf say net result → TextOf other net result
+text_as say other net (Ok text) same t = (t.0, same ∙ t.1, t.2)
+text_as say other net (Err (MergeRefused refused)) same t = same ∙ t
+text_as say other net (Err OutOfMemory) same t = tt
+text_as say other net (Err cause) same t = absurd t
+
+module _ (tells honest : Type 0) (say : NetData → Answer) (old new : HostView) where
+  -- why no network is found is answered
+  pub looks_fault : (cause : Cause) → Finds tells honest old new (Err cause) → LooksAs tells honest say old new (Err cause)
+  looks_fault (HostFault left.NotBegun) f = record { answer = Err (HostFault left.NotBegun); looked = f; text = refl }
+  looks_fault (Damaged area) f = record { answer = Err (Damaged area); looked = f; text = refl }
+  looks_fault OutOfMemory f = record { answer = Err OutOfMemory; looked = tt; text = refl }
+  looks_fault cause f = absurd f
+
+  -- the text of the network that is found is answered
+  pub looks_text : (net : NetData) (result : Result (Vec ℕ Global) Cause) → Finds tells honest old new (Ok net) → TextOf say net result → LooksAs tells honest say old new result
+  looks_text net (Ok text) f t = record { answer = Ok t.0; looked = (net, f, t.1); text = t.2 }
+  looks_text net (Err (MergeRefused refused)) f t = record { answer = Err (MergeRefused refused); looked = (net, f, t); text = refl }
+  looks_text net (Err OutOfMemory) f t = record { answer = Err OutOfMemory; looked = tt; text = refl }
+  looks_text net (Err cause) f t = absurd t
+
+-- an input isn't read any more
+pub not_unread : (tells honest : Type 0) (say : NetData → Answer) (old new : HostView) (answer : Answer) (refusal : Cause)
+    → Looked tells honest say old new answer → HasText answer (Err refusal) → refusal ≢ ReadFault
+not_unread tells honest say old new (Ok said) refusal is has same = has
+not_unread tells honest say old new (Err cause) refusal is has same = subst (λ c. Looked tells honest say old new (Err c)) (sym has ∙ same) is
+
+module _ (r : Run) (nothing : ChangesNothing r.host_tells r.host r.host_after) where
+  same_reads : r.host_tells → standing r.host_after.state ≡ reads r
+  same_reads t = ap standing (nothing.state t)
+
+  -- what is left was there
+  left_before : Within (left_at_exit r) (Before (entry r))
+  left_before stands left =
+      let from = nothing.stops.now left.0 left.1 in
+      record { station = stands; is = (from.0, from.1, ap standing (sym from.2) ∙ left.2); like = alike_is stands stands refl }
+
+  reads_before : r.host_tells → Within (Only (standing r.host_after.state)) (Before (at (reads r)))
+  reads_before t stands is = record { station = stands; is = is ∙ same_reads t; like = alike_is stands stands refl }
+
+  -- where no network was found, none was there
+  had_damaged : IsLawfulHost r.host_tells r.host → (area : ℕ) → area ≡ 0 → (r.host_tells → r.host.state.net ≡ None) → r.host_tells → HadDamaged area r.host r.host_after
+  had_damaged lawful area is none t = record {
+    pair = r.host.state;
+    left = nothing.stops.keeps r.host.stops.moment r.host.state (omega arith) (lawful.stops.counts_now r.host.stops.moment r.host.state (omega arith) (lawful.reads t));
+    damaged = inl (is, none t);
+  }
+
+  -- the machine's answer
+  module _ (order : Order) (say : NetData → Answer) (machine : machine_of r.now (Ok order) (reads r) ≡ stays (reads r) (looked r.host.state.net say)) (t : r.host_tells) (h : r.honest) where
+    outcome : (answer : Answer) → looked r.host.state.net say ≡ answer → IsOutcome (machine_of r.now (Ok order) (reads r)) r.host_after answer
+    outcome answer is = subst (λ (m : Outcome Said Cause). IsOutcome m r.host_after answer) (sym machine) (record { answer = is; after = same_reads t })
+
+    of_found : (net : NetData) (answer : Answer) → IsFound r.host_tells r.honest r.host r.host_after net → say net ≡ answer → IsOutcome (machine_of r.now (Ok order) (reads r)) r.host_after answer
+    of_found net answer found is = outcome answer (ap (λ (n : Option NetData). looked n say) (found.is h) ∙ is)
+
+    expects : (answer : Answer) → MayWant r → Looked r.host_tells r.honest say r.host r.host_after answer → Expects r (Ok order) answer
+    expects (Ok said) want l = of_found l.0 (Ok said) l.1 l.2
+    expects (Err (MergeRefused refused)) want l = of_found l.0 (Err (MergeRefused refused)) l.1 l.2
+    expects (Err (HostFault left.NotBegun)) want l = l
+    expects (Err (Damaged area)) want l = outcome (Err (Damaged area)) (ap (λ (n : Option NetData). looked n say) (l.1 t) ∙ ap (λ (a : ℕ). refuses (Damaged a)) (sym l.0))
+    expects (Err OutOfMemory) want l = want
+    expects (Err cause) want l = absurd l
+
+-- what is known of the run beside what the host did
+pub record Ran (r : Run) (order : Order) (answer : Answer) : Type 0 where
+  pub inputs : Inputs
+  pub may_read : MayRead r inputs
+  pub is : order_of r.in_script inputs r.words ≡ Ok order
+  pub told : Told r (Ok order) answer
+  pub goes_on : GoesOn r
+
+-- ---- show
+
+module _ (r : Run) (only : Option Text) (json : Bool) (nothing : ChangesNothing r.host_tells r.host r.host_after) where
+  abbrev shows : NetData → Answer
+  shows net = Ok (printed only json net)
+
+  show_comes : IsLawfulHost r.host_tells r.host → MayWant r → (answer : Answer) → Looked r.host_tells r.honest shows r.host r.host_after answer → Comes r (Ok (showing only json)) answer
+  show_comes lawful want (Ok said) l = record { net = l.0; dumped = l.1.fresh; is_said = same_said said (printed only json l.0) (sym l.2) }
+  show_comes lawful want (Err (MergeRefused refused)) l = absurd (said_refused (printed only json l.0) (MergeRefused refused) l.2)
+  show_comes lawful want (Err (HostFault left.NotBegun)) l = (l, (nothing.state, not_rolled))
+  show_comes lawful want (Err (Damaged area)) l = had_damaged r nothing lawful area l.0 l.1
+  show_comes lawful want (Err OutOfMemory) l = want
+  show_comes lawful want (Err cause) l = absurd l
+
+  show_may : (answer : Answer) → Looked r.host_tells r.honest shows r.host r.host_after answer → MayAnswer (Ok (showing only json)) answer
+  show_may (Ok said) l = tt
+  show_may (Err (MergeRefused refused)) l = absurd (said_refused (printed only json l.0) (MergeRefused refused) l.2)
+  show_may (Err (HostFault left.NotBegun)) l = tt
+  show_may (Err (Damaged area)) l = l.0
+  show_may (Err OutOfMemory) l = tt
+  show_may (Err cause) l = absurd l
+
+  -- all that is said of a show
+  pub show_answered : (answer : Answer) → Looked r.host_tells r.honest shows r.host r.host_after answer → Ran r (showing only json) answer → Answered r
+  show_answered answer l ran =
+      let want : MayWant r = may_want_order r ran.inputs (showing only json) ran.is (showing_committing only json) (showing_rolling_back only json) (showing_recovering only json) in
+      record {
+        order = Ok (showing only json);
+        gives = (ran.inputs, ran.may_read, ran.is);
+        answer = answer;
+        may = show_may answer l;
+        comes = show_comes ran.goes_on.lawful want answer l;
+        told = ran.told;
+        goes_on = ran.goes_on;
+        expects = λ a. expects r nothing (showing only json) shows refl (ran.goes_on.tells a.honest) a.honest answer want l;
+        leaves = λ a. left_before r nothing;
+        reads_as = λ a. reads_before r nothing (ran.goes_on.tells a.honest);
+        kept = λ a. kept_stays _ r.host r.host_after a.sound nothing.stops;
+        spares = λ a. tt;
+      }
+
+-- ---- plan
+
+module _ (r : Run) (doc : Doc) (nothing : ChangesNothing r.host_tells r.host r.host_after) where
+  abbrev plans : NetData → Answer
+  plans net = plan_to net (merge net doc)
+
+  -- a plan is to the merge
+  plan_says : (net : NetData) (merged : Result NetData Refused) (said : Said) → plan_to net merged ≡ Ok said → (to : NetData) × (merged ≡ Ok to) × (said ≡ planned net to)
+  plan_says net (Ok to) said is = (to, refl, same_said said (planned net to) (sym is))
+  plan_says net (Err refused) said is = absurd (said_refused said (MergeRefused refused) (sym is))
+
+  plan_breaks : (net : NetData) (merged : Result NetData Refused) (refused : Refused) → plan_to net merged ≡ Err (MergeRefused refused) → merged ≡ Err refused
+  plan_breaks net (Ok to) refused is = absurd (said_refused (planned net to) (MergeRefused refused) is)
+  plan_breaks net (Err broken) refused is = ap broken_by (same_refused broken refused is)
+
+  plan_comes : IsLawfulHost r.host_tells r.host → MayWant r → (answer : Answer) → Looked r.host_tells r.honest plans r.host r.host_after answer → Comes r (Ok (planning doc)) answer
+  plan_comes lawful want (Ok said) l =
+      let p = plan_says l.0 (merge l.0 doc) said l.2 in
+      record { from = l.0; to = p.0; dumped = l.1.fresh; merges = p.1; is_said = p.2 }
+  plan_comes lawful want (Err (MergeRefused refused)) l =
+      (λ t. record { doc = doc; net = l.0; is_doc = refl; dumped = l.1.fresh t; broken = plan_breaks l.0 (merge l.0 doc) refused l.2 }, same_reads r nothing)
+  plan_comes lawful want (Err (HostFault left.NotBegun)) l = (l, (nothing.state, not_rolled))
+  plan_comes lawful want (Err (Damaged area)) l = had_damaged r nothing lawful area l.0 l.1
+  plan_comes lawful want (Err OutOfMemory) l = want
+  plan_comes lawful want (Err cause) l = absurd l
+
+  plan_may : (answer : Answer) → Looked r.host_tells r.honest plans r.host r.host_after answer → MayAnswer (Ok (planning doc)) answer
+  plan_may (Ok said) l = tt
+  plan_may (Err (MergeRefused refused)) l = tt
+  plan_may (Err (HostFault left.NotBegun)) l = tt
+  plan_may (Err (Damaged area)) l = l.0
+  plan_may (Err OutOfMemory) l = tt
+  plan_may (Err cause) l = absurd l
+
+  -- all that is said of a plan
+  pub plan_answered : (answer : Answer) → Looked r.host_tells r.honest plans r.host r.host_after answer → Ran r (planning doc) answer → Answered r
+  plan_answered answer l ran =
+      let want : MayWant r = may_want_order r ran.inputs (planning doc) ran.is (planning_committing doc) (planning_rolling_back doc) (planning_recovering doc) in
+      record {
+        order = Ok (planning doc);
+        gives = (ran.inputs, ran.may_read, ran.is);
+        answer = answer;
+        may = plan_may answer l;
+        comes = plan_comes ran.goes_on.lawful want answer l;
+        told = ran.told;
+        goes_on = ran.goes_on;
+        expects = λ a. expects r nothing (planning doc) plans refl (ran.goes_on.tells a.honest) a.honest answer want l;
+        leaves = λ a. left_before r nothing;
+        reads_as = λ a. reads_before r nothing (ran.goes_on.tells a.honest);
+        kept = λ a. kept_stays _ r.host r.host_after a.sound nothing.stops;
+        spares = λ a. tt;
+      }

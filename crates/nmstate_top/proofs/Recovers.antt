@@ -1,0 +1,95 @@
+-- All that is said of a recovery, from what the engine promises of it.
+use Rattle.std.proofs.Common.{◌≡◌, refl, ap}
+use Rattle.std.specs.Prelude.{Result, Ok, Err, IsErrOf}
+use Rattle.checkpoint_cell.specs.Settled.{Standing, standing}
+use Rattle.engine_model.specs.Machine.{recover}
+use Rattle.engine_model.specs.Sound.{Sound}
+use Rattle.engine_model.specs.Stations.{Stands, Entry, Only, Kept, at}
+use Rattle.engine_model.specs.Exit.{BackExit}
+use Rattle.engine_model.specs.Faults.{BackAnswers, BackSays, HasTaken}
+use Rattle.engine_model.specs.declared.Left.TheVariants as sides
+use Rattle.engine_model.specs.declared.Recovered.{Recovered}
+use Rattle.engine_model.specs.declared.BackFault.{BackFault}
+use Rattle.engine_model.specs.declared.BackFault.TheVariants.{NoCheckpoint, HostFault, KernelRefused, Damaged, HardwareDiffers, OutOfMemory}
+use Rattle.top_model.specs.Said.{said_recovered}
+use Rattle.top_model.specs.Orders.{Inputs, recovering, order_of}
+use Rattle.top_model.specs.Machine.{told, back_cause}
+use Rattle.top_model.specs.Runs.{Run, MayRead, entry, reads, left_at_exit}
+use Rattle.top_model.specs.Told.{Answer, Told}
+use Rattle.top_model.specs.Causes.{MayWant, MayAnswer, Comes, Expects}
+use Rattle.top_model.specs.Exits.{BackLeaves}
+use Rattle.top_model.specs.Answered.{GoesOn, Answered}
+use Rattle.top_model.proofs.lemmas.Wanting.{may_want_recovering}
+
+abbrev pub answer_of : Result Recovered BackFault → Answer
+answer_of result = told said_recovered back_cause result
+
+leaves : (after : Standing) (entry : Entry) (left : Stands) (result : Result Recovered BackFault) → BackExit after entry left result → BackLeaves after entry left (answer_of result)
+leaves after entry left (Ok x) exit = exit
+leaves after entry left (Err NoCheckpoint) exit = exit
+leaves after entry left (Err (HostFault sides.NotBegun)) exit = exit
+leaves after entry left (Err (HostFault sides.RolledBack)) exit = absurd exit
+leaves after entry left (Err (HostFault sides.Pending)) exit = exit
+leaves after entry left (Err (KernelRefused k n side)) exit = absurd exit
+leaves after entry left (Err (Damaged area)) exit = absurd exit
+leaves after entry left (Err (HardwareDiffers names)) exit = absurd exit
+leaves after entry left (Err OutOfMemory) exit = exit
+
+module _ (r : Run) where
+  abbrev Says : Result Recovered BackFault → Type 0
+  Says result = BackSays r.host_tells (recover r.now (reads r)).answer r.host r.host_after result
+
+  abbrev Answers : Result Recovered BackFault → Type 0
+  Answers result = BackAnswers (HasTaken r.now (reads r).cell) (recover r.now (reads r)) r.host r.host_after result
+
+  may : (result : Result Recovered BackFault) → Says result → (IsErrOf result NoCheckpoint → ⊥) → MayAnswer (Ok recovering) (answer_of result)
+  may (Ok x) says never = tt
+  may (Err NoCheckpoint) says never = absurd (never refl)
+  may (Err (HostFault side)) says never = says.2
+  may (Err (KernelRefused k n side)) says never = tt
+  may (Err (Damaged area)) says never = tt
+  may (Err (HardwareDiffers names)) says never = tt
+  may (Err OutOfMemory) says never = tt
+
+  comes : (result : Result Recovered BackFault) → Says result → (IsErrOf result OutOfMemory → MayWant r) → Comes r (Ok recovering) (answer_of result)
+  comes (Ok x) says wants = λ t. tt
+  comes (Err NoCheckpoint) says wants = λ t. ap answer_of (says t)
+  comes (Err (HostFault side)) says wants = (says.0, (says.1, says.2))
+  comes (Err (KernelRefused k n side)) says wants = says
+  comes (Err (Damaged area)) says wants = says
+  comes (Err (HardwareDiffers names)) says wants = says
+  comes (Err OutOfMemory) says wants = wants refl
+
+  expects : (result : Result Recovered BackFault) → Answers result → (IsErrOf result OutOfMemory → MayWant r) → Expects r (Ok recovering) (answer_of result)
+  expects (Ok x) is wants = record { answer = ap answer_of is.answer; after = is.after }
+  expects (Err NoCheckpoint) is wants = record { answer = ap answer_of is.answer; after = is.after }
+  expects (Err (HostFault side)) is wants = is.0
+  expects (Err (KernelRefused k n side)) is wants = absurd is
+  expects (Err (Damaged area)) is wants = record { answer = ap answer_of is.answer; after = is.after }
+  expects (Err (HardwareDiffers names)) is wants = record { answer = ap answer_of is.answer; after = is.after }
+  expects (Err OutOfMemory) is wants = wants refl
+
+  module _ (inputs : Inputs) (may_read : MayRead r inputs) (is : order_of r.in_script inputs r.words ≡ Ok recovering) (result : Result Recovered BackFault) (says : Says result)
+      (answers : r.honest → Sound r.host → Answers result)
+      (exits : r.honest → Sound r.host → BackExit (recover r.now (reads r)).after (entry r) (left_at_exit r) result)
+      (read_exits : r.honest → Sound r.host → BackExit (recover r.now (reads r)).after (at (reads r)) (Only (standing r.host_after.state)) result)
+      (kept : r.honest → Sound r.host → Kept (Only (recover r.now (reads r)).after) r.host r.host_after)
+      (never : IsErrOf result NoCheckpoint → ⊥) (memory : r.host_tells → IsErrOf result OutOfMemory → HasTaken r.now (reads r).cell) where
+    wants : IsErrOf result OutOfMemory → MayWant r
+    wants out = may_want_recovering r inputs recovering is refl (λ t. memory t out)
+
+    pub answered : GoesOn r → Told r (Ok recovering) (answer_of result) → Answered r
+    answered goes_on told = record {
+      order = Ok recovering;
+      gives = (inputs, may_read, is);
+      answer = answer_of result;
+      may = may result says never;
+      comes = comes result says wants;
+      told = told;
+      goes_on = goes_on;
+      expects = λ a. expects result (answers a.honest a.sound) wants;
+      leaves = λ a. leaves (recover r.now (reads r)).after (entry r) (left_at_exit r) result (exits a.honest a.sound);
+      reads_as = λ a. leaves (recover r.now (reads r)).after (at (reads r)) (Only (standing r.host_after.state)) result (read_exits a.honest a.sound);
+      kept = λ a. kept a.honest a.sound;
+      spares = λ a. tt;
+    }

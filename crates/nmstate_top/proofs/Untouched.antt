@@ -1,0 +1,243 @@
+-- What is said of a command that ended before any call on the host.
+use Rattle.std.proofs.Common.{◌≡◌, ◌∙◌, ◌⊎◌, inl, inr, refl, sym, ap, subst, Bool, Option, Some, None}
+use Rattle.std.specs.Prelude.{◌≢◌, ℕ, true, false, List, IsSome, Result, Ok, Err}
+use Rattle.net_model.specs.NetData.{NetData}
+use Rattle.net_model.specs.declared.Link.{Link}
+use Rattle.document_model.specs.declared.Doc.{Doc}
+use Rattle.host_core.specs.HostView.{State, HostView, HasNet, IsLawfulHost}
+use Rattle.host_core.proofs.lemmas.Moments.{stays}
+use Rattle.checkpoint_cell.specs.Cell.{Checkpoint, cell_of, applying as applying_cell}
+use Rattle.checkpoint_cell.specs.Settled.{Standing, standing, restored_to}
+use Rattle.engine_model.specs.Sound.{Sound}
+use Rattle.engine_model.specs.Stations.{Stands, Entry, Near, Within, Before, Only, at}
+use Rattle.engine_model.specs.declared.ApplyOpts.{ApplyOpts}
+use Rattle.engine_model.proofs.lemmas.Leading.{kept_stays, near_wider}
+use Rattle.command_words.specs.declared.Command.{Command}
+use Rattle.command_words.specs.declared.Command.TheVariants.{Show, Plan, Apply, Commit, Rollback, Recover, Init, Script}
+use Rattle.order_reading.specs.Asked.{file_read}
+use Rattle.top_model.specs.Said.{Said}
+use Rattle.top_model.specs.Orders.{Inputs, Order, showing, planning, applying, committing, rolling_back, recovering, making, and_then, input, document, hardware_list, opts, order_named, order_of}
+use Rattle.top_model.specs.Runs.{Run, Gives, Alone, SourceRose, HostRose, HostRoseTwice, reads, entry, left_at_exit}
+use Rattle.top_model.specs.Told.{Answer, Told}
+use Rattle.top_model.specs.Causes.{MayWant, Refuses, MayAnswer, Comes, Expects}
+use Rattle.top_model.specs.Exits.{AtExit, Leaves, ReadsAs, KeptBy, Reaches}
+use Rattle.top_model.specs.Undisturbed.{Spares, LeavesAlone}
+use Rattle.top_model.specs.Answered.{GoesOn, Rests, Answered}
+use Rattle.top_model.specs.declared.report.Cause.{Cause}
+use Rattle.top_model.specs.declared.report.Cause.TheVariants.{Usage, ReadFault, OutOfMemory}
+
+-- the host is as it was
+abbrev pub still : Run → Run
+still r = record r { host_after = r.host }
+
+-- ---- the commands that read an input
+
+abbrev pub ReadsInput : Result Order Cause → Type 0
+ReadsInput (Ok (showing only json)) = ⊥
+ReadsInput (Ok (planning doc)) = Unit {0}
+ReadsInput (Ok (applying doc how)) = Unit {0}
+ReadsInput (Ok committing) = ⊥
+ReadsInput (Ok rolling_back) = ⊥
+ReadsInput (Ok recovering) = ⊥
+ReadsInput (Ok (making links)) = Unit {0}
+ReadsInput (Err refusal) = Unit {0}
+
+abbrev asks : Order → Result Order Cause
+asks order = Ok order
+
+plans : (x : Result Doc Cause) → ReadsInput (and_then x (λ doc. asks (planning doc)))
+plans (Ok doc) = tt
+plans (Err c) = tt
+
+applies : (how : ApplyOpts) (x : Result Doc Cause) → ReadsInput (and_then x (λ doc. asks (applying doc how)))
+applies how (Ok doc) = tt
+applies how (Err c) = tt
+
+makes : (x : Result (List Link) Cause) → ReadsInput (and_then x (λ links. asks (making links)))
+makes (Ok links) = tt
+makes (Err c) = tt
+
+never : false ≡ true → ⊥
+never e = cc
+
+-- a command whose FILE is read is one of those
+pub reads_input : (in_script : Bool) (inputs : Inputs) (command : Option Command) → IsSome (file_read in_script command) → ReadsInput (order_named in_script inputs command)
+reads_input in_script inputs None file = tt
+reads_input in_script inputs (Some (Show only json)) file = absurd (never file)
+reads_input in_script inputs (Some (Plan name)) file = plans (and_then (input in_script inputs name) document)
+reads_input in_script inputs (Some (Apply name no_commit no_verify timeout)) file = applies (opts no_commit no_verify timeout) (and_then (input in_script inputs name) document)
+reads_input in_script inputs (Some Commit) file = absurd (never file)
+reads_input in_script inputs (Some Rollback) file = absurd (never file)
+reads_input in_script inputs (Some Recover) file = absurd (never file)
+reads_input in_script inputs (Some (Init name)) file = makes (and_then (input in_script inputs name) hardware_list)
+reads_input in_script inputs (Some (Script name)) file = tt
+
+-- ---- what stops leave
+
+-- what stood there is near itself
+near_same : (P : Stands) (stands : Standing) → P stands → Near P stands
+near_same P stands is = record { station = stands; is = is; like = λ now. refl }
+
+module _ (now : ℕ) (entry : Entry) (left : Stands) (within : Within left (Before entry)) (rose twice : Type 0) where
+  more : (P : Stands) → ((s : Standing) → Before entry s → P s) → Within left P
+  more P wider s is = near_wider (Before entry) P wider s (within s is)
+
+  exit_memory : (order : Result Order Cause) → AtExit now entry left rose twice order (Err OutOfMemory)
+  exit_memory (Ok (showing only json)) = within
+  exit_memory (Ok (planning doc)) = within
+  exit_memory (Ok (applying doc how)) = inl within
+  exit_memory (Ok committing) = within
+  exit_memory (Ok rolling_back) = more _ (λ s is. inl is)
+  exit_memory (Ok recovering) = more _ (λ s is. inl is)
+  exit_memory (Ok (making links)) = more _ (λ s is. inl is)
+  exit_memory (Err refusal) = within
+
+  exit_unread : (order : Result Order Cause) → ReadsInput order → AtExit now entry left rose twice order (Err ReadFault)
+  exit_unread (Ok (showing only json)) file = absurd file
+  exit_unread (Ok (planning doc)) file = within
+  exit_unread (Ok (applying doc how)) file = within
+  exit_unread (Ok committing) file = absurd file
+  exit_unread (Ok rolling_back) file = absurd file
+  exit_unread (Ok recovering) file = absurd file
+  exit_unread (Ok (making links)) file = within
+  exit_unread (Err refusal) file = within
+
+-- ---- at each moment
+
+ok_err : (said : Said) (c : Cause) → Err c ≡ Ok said → ⊥
+ok_err said c e = cc
+
+kept : (r : Run) (order : Result Order Cause) (c : Cause) → Rests r order → KeptBy (still r) order (Err c)
+kept r (Ok (making links)) c rests = record { during = inl (stays r.host.stops); sound = λ clear sound. sound; made = λ said e. absurd (ok_err said c e) }
+kept r (Ok (showing only json)) c rests = kept_stays (Reaches r.now (entry r) (Ok (showing only json))) r.host r.host rests.sound (stays r.host.stops)
+kept r (Ok (planning doc)) c rests = kept_stays (Reaches r.now (entry r) (Ok (planning doc))) r.host r.host rests.sound (stays r.host.stops)
+kept r (Ok (applying doc how)) c rests = kept_stays (Reaches r.now (entry r) (Ok (applying doc how))) r.host r.host rests.sound (stays r.host.stops)
+kept r (Ok committing) c rests = kept_stays (Reaches r.now (entry r) (Ok committing)) r.host r.host rests.sound (stays r.host.stops)
+kept r (Ok rolling_back) c rests = kept_stays (Reaches r.now (entry r) (Ok rolling_back)) r.host r.host rests.sound (stays r.host.stops)
+kept r (Ok recovering) c rests = kept_stays (Reaches r.now (entry r) (Ok recovering)) r.host r.host rests.sound (stays r.host.stops)
+kept r (Err refusal) c rests = kept_stays (Reaches r.now (entry r) (Err refusal)) r.host r.host rests.sound (stays r.host.stops)
+
+none_some : (c : Checkpoint) → None ≡ Some c → ⊥
+none_some c e = cc
+
+-- where one network stands and no checkpoint, each stop leaves that network
+leaves_alone : (r : Run) → IsLawfulHost r.host_tells r.host → (r.honest → r.host_tells) → Alone r → (from to : NetData) → reads r ≡ restored_to from → LeavesAlone from to r.host r.host
+leaves_alone r lawful tells alone from to stood s left =
+    let here = lawful.reads (tells alone.honest) in (
+      from,
+      elim alone.sound.one as (λ v. s.net ≡ Some from) [
+        | inl one ↦ one.1 s (lawful.stops.only_now s left) ∙ sym (one.1 r.host.state here) ∙ ap (λ (e : Standing). e.net) stood
+        | inr all ↦ let is = all.1 r.host.state here in absurd (none_some (applying_cell is.0 is.1 all.0) (sym (ap (λ (e : Standing). e.cell) stood) ∙ is.2))
+      ],
+      record { links = λ name calm. refl; routes = λ route calm there wanted. there },
+    )
+
+spares : (r : Run) (order : Result Order Cause) (answer : Answer) → IsLawfulHost r.host_tells r.host → (r.honest → r.host_tells) → Rests r order → Spares (still r) order answer
+spares r (Ok (applying doc how)) answer lawful tells rests = λ from to stood merges quiet other. leaves_alone r lawful tells rests from to stood
+spares r (Ok (showing only json)) answer lawful tells rests = tt
+spares r (Ok (planning doc)) answer lawful tells rests = tt
+spares r (Ok committing) answer lawful tells rests = tt
+spares r (Ok rolling_back) answer lawful tells rests = tt
+spares r (Ok recovering) answer lawful tells rests = tt
+spares r (Ok (making links)) answer lawful tells rests = tt
+spares r (Err refusal) answer lawful tells rests = tt
+
+-- ---- what is asked of the host
+
+alone : (r : Run) → Alone (still r) → Alone r
+alone r a = record { honest = a.honest; sound = a.sound }
+
+rests_still : (r : Run) (order : Result Order Cause) → Rests (still r) order → Rests r order
+rests_still r (Ok (making links)) rests = rests
+rests_still r (Ok (showing only json)) rests = alone r rests
+rests_still r (Ok (planning doc)) rests = alone r rests
+rests_still r (Ok (applying doc how)) rests = alone r rests
+rests_still r (Ok committing) rests = alone r rests
+rests_still r (Ok rolling_back) rests = alone r rests
+rests_still r (Ok recovering) rests = alone r rests
+rests_still r (Err refusal) rests = alone r rests
+
+-- ---- which answers come
+
+may_memory : (order : Result Order Cause) → MayAnswer order (Err OutOfMemory)
+may_memory (Ok (showing only json)) = tt
+may_memory (Ok (planning doc)) = tt
+may_memory (Ok (applying doc how)) = tt
+may_memory (Ok committing) = tt
+may_memory (Ok rolling_back) = tt
+may_memory (Ok recovering) = tt
+may_memory (Ok (making links)) = tt
+may_memory (Err refusal) = tt
+
+may_unread : (order : Result Order Cause) → ReadsInput order → MayAnswer order (Err ReadFault)
+may_unread (Ok (showing only json)) file = absurd file
+may_unread (Ok (planning doc)) file = tt
+may_unread (Ok (applying doc how)) file = tt
+may_unread (Ok committing) file = absurd file
+may_unread (Ok rolling_back) file = absurd file
+may_unread (Ok recovering) file = absurd file
+may_unread (Ok (making links)) file = tt
+may_unread (Err refusal) file = tt
+
+comes_memory : (r : Run) (order : Result Order Cause) → r.untouched → MayWant r → Comes (still r) order (Err OutOfMemory)
+comes_memory r (Ok order) untouched wants = record { commit = wants.commit; rollback = wants.rollback; recover = wants.recover }
+comes_memory r (Err refusal) untouched wants = (untouched, record { commit = wants.commit; rollback = wants.rollback; recover = wants.recover })
+
+comes_unread : (r : Run) (order : Result Order Cause) → r.untouched → SourceRose r → (order ≢ Err Usage) → Comes (still r) order (Err ReadFault)
+comes_unread r (Ok order) untouched rose other = (rose, untouched)
+comes_unread r (Err refusal) untouched rose other = (untouched, (rose, λ is. other (ap (λ (c : Cause). refuse c) is)))
+  where
+    refuse : Cause → Result Order Cause
+    refuse c = Err c
+
+module _ (r : Run) (untouched : r.untouched) (goes_on : GoesOn (still r)) where
+  -- memory ran out
+  pub out_of_memory : (order : Result Order Cause) → Gives r order → MayWant r → Told (still r) order (Err OutOfMemory) → Answered (still r)
+  out_of_memory order gives wants told = record {
+    order = order;
+    gives = gives;
+    answer = Err OutOfMemory;
+    may = may_memory order;
+    comes = comes_memory r order untouched wants;
+    told = told;
+    goes_on = goes_on;
+    expects = λ rests. record { commit = wants.commit; rollback = wants.rollback; recover = wants.recover };
+    leaves = λ rests. exit_memory r.now (entry r) (left_at_exit (still r)) (λ s is. near_same (Before (entry r)) s is) (HostRose (still r)) (HostRoseTwice (still r)) order;
+    reads_as = λ rests. exit_memory r.now (at (reads r)) (Only (standing r.host.state)) (λ s is. near_same (Before (at (reads r))) s is) (HostRose (still r)) (HostRoseTwice (still r)) order;
+    kept = λ rests. kept r order OutOfMemory (rests_still r order rests);
+    spares = λ rests. spares r order (Err OutOfMemory) goes_on.lawful goes_on.tells (rests_still r order rests);
+  }
+
+  -- the input wasn't read
+  pub unread : (order : Result Order Cause) → Gives r order → SourceRose r → ReadsInput order → (order ≢ Err Usage) → Told (still r) order (Err ReadFault) → Answered (still r)
+  unread order gives rose file other told = record {
+    order = order;
+    gives = gives;
+    answer = Err ReadFault;
+    may = may_unread order file;
+    comes = comes_unread r order untouched rose other;
+    told = told;
+    goes_on = goes_on;
+    expects = λ rests. rose;
+    leaves = λ rests. exit_unread r.now (entry r) (left_at_exit (still r)) (λ s is. near_same (Before (entry r)) s is) (HostRose (still r)) (HostRoseTwice (still r)) order file;
+    reads_as = λ rests. exit_unread r.now (at (reads r)) (Only (standing r.host.state)) (λ s is. near_same (Before (at (reads r))) s is) (HostRose (still r)) (HostRoseTwice (still r)) order file;
+    kept = λ rests. kept r order ReadFault (rests_still r order rests);
+    spares = λ rests. spares r order (Err ReadFault) goes_on.lawful goes_on.tells (rests_still r order rests);
+  }
+
+  -- words or inputs were refused
+  pub refused : (c : Cause) → Gives r (Err c) → Refuses (still r) c (Err c) → Expects (still r) (Err c) (Err c) → Told (still r) (Err c) (Err c) → Answered (still r)
+  refused c gives refuses expects told = record {
+    order = Err c;
+    gives = gives;
+    answer = Err c;
+    may = tt;
+    comes = (untouched, refuses);
+    told = told;
+    goes_on = goes_on;
+    expects = λ rests. expects;
+    leaves = λ rests s is. near_same (Before (entry r)) s is;
+    reads_as = λ rests s is. near_same (Before (at (reads r))) s is;
+    kept = λ rests. kept r (Err c) c (rests_still r (Err c) rests);
+    spares = λ rests. tt;
+  }

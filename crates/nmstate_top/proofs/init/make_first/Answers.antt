@@ -1,0 +1,8 @@
+use Rattle.std.proofs.Common.{sym, subst}
+use Rattle.net_model.specs.NetData.{NetData}
+use Rattle.host_core.specs.HostView.{IsFirst}
+use Rattle.nmstate_top.proofs.Makes.{first_is, unmade}
+use Rattle.nmstate_top.proofs.init.make_first.Goals as goal
+
+pub make-requires : goal.make-requires
+make-requires g c = subst IsFirst (sym c.in-Ok.ensures) (first_is c.args.links c.requires)

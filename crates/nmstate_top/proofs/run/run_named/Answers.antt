@@ -1,0 +1,19 @@
+use Rattle.std.proofs.Common.{◌≡◌, ◌∙◌, sym, Option, Some, None}
+use Rattle.top_model.specs.Orders.{Text}
+use Rattle.top_model.proofs.lemmas.Scripted.{is_script, no_script}
+use Rattle.nmstate_top.proofs.run.run_named.Goals as goal
+
+some_none : (file : Option Text) → Some file ≡ None → ⊥
+some_none file e = cc
+
+pub returns-in-Some-clause-answered : goal.returns-in-Some-clause-answered
+returns-in-Some-clause-answered g c = λ none. absurd (some_none c.in-Some.file (sym c.in-Some.is ∙ (c.requires ∙ none)))
+
+pub returns-in-Some-clause-script : goal.returns-in-Some-clause-script
+returns-in-Some-clause-script g c = is_script _ (c.run_file.ensures c.args.words.now.items (sym c.requires ∙ c.in-Some.is))
+
+pub returns-in-None-clause-answered : goal.returns-in-None-clause-answered
+returns-in-None-clause-answered g c = λ none. c.run_one.ensures
+
+pub returns-in-None-clause-script : goal.returns-in-None-clause-script
+returns-in-None-clause-script g c = no_script _ (sym c.requires ∙ c.in-None.is)

@@ -1,0 +1,100 @@
+//! The command that prints the calls of a change.
+ghost use Rattle.std.specs.Prelude.{◌≡◌, ℕ, true, Ok, Err, IfOk, IsErrOf};
+ghost use Rattle.document_model.specs.Entries.{is_document};
+ghost use Rattle.document_model.specs.declared.Refused.{Refused};
+ghost use Rattle.net_model.specs.Hardware.{hardware};
+ghost use Rattle.engine_model.specs.Merge.{merge};
+ghost use Rattle.top_model.specs.Machine.{plan_to};
+ghost use Rattle.top_model.specs.Said.{Says, planned};
+ghost use Rattle.top_model.specs.Orders.{planning};
+ghost use Rattle.nmstate_top.specs.Carried.{Carried};
+ghost use Rattle.nmstate_top.specs.Looked.{ChangesNothing, LooksAs, TextOf};
+
+use crate::look::look;
+use answer_text::{call_text, note_text, tell_done, tell_refused};
+use base_model::OutOfMemory;
+use document_model::Doc;
+use host_core::{Host, Sink, Source};
+use merge_core::merge;
+use merge_laws::merge_laws;
+use merge_model::MergeFault;
+use net_model::Net;
+use plan_core::plan;
+use std::alloc::Global;
+use top_model::{Cause, Report};
+
+// The network that a document makes of another, of the same devices.
+fn wanted(alloc: Global, from: &Net, doc: &Doc) -> Result<Net, MergeFault>
+    requires { is_document doc.now ≡ true }
+    ensures merged { IfOk result (λ to. merge from.now doc.now ≡ Ok to) }
+    ensures devices { IfOk result (λ to. hardware from.now.links ≡ hardware to.links) }
+    ensures refused { (r : Refused) → IsErrOf result (MergeFault.Refused r) → merge from.now doc.now ≡ Err r }
+{
+    from.laws();
+    merge_laws();
+    merge(alloc, from, doc)
+}
+
+// The lines of a plan.
+fn plan_text(alloc: Global, from: &Net, to: &Net) -> Result<Vec<u8>, OutOfMemory>
+    requires { hardware from.now.links ≡ hardware to.now.links }
+    ensures { IfOk result (λ text. Says (planned from.now to.now) text.items) }
+{
+    let calls = plan(alloc, from, to)?;
+    call_text(alloc, calls.as_slice())
+}
+
+fn lines_to(alloc: Global, from: &Net, to: &Net) -> Result<Vec<u8>, Cause>
+    requires { hardware from.now.links ≡ hardware to.now.links }
+    ensures { TextOf (λ net. Ok (planned net to.now)) from.now result }
+{
+    match plan_text(alloc, from, to) {
+        Ok(text) => Ok(text),
+        Err(OutOfMemory) => Err(Cause::OutOfMemory),
+    }
+}
+
+// The lines of a plan to what a document makes of a network.
+fn planned_of(alloc: Global, from: &Net, doc: &Doc) -> Result<Vec<u8>, Cause>
+    requires { is_document doc.now ≡ true }
+    ensures { TextOf (λ net. plan_to net (merge net doc.now)) from.now result }
+{
+    match wanted(alloc, from, doc) {
+        Ok(to) => lines_to(alloc, from, &to),
+        Err(MergeFault::Refused(refused)) => Err(Cause::MergeRefused(refused)),
+        Err(MergeFault::OutOfMemory) => Err(Cause::OutOfMemory),
+    }
+}
+
+// The lines of a plan from the network that is found.
+fn planned<H: Host>(alloc: Global, doc: &Doc, host: &mut H) -> Result<Vec<u8>, Cause>
+    requires { is_document doc.now ≡ true }
+    ensures text { LooksAs H.tells H.honest (λ net. plan_to net (merge net doc.now)) (H.told host.old) (H.told host.new) result }
+    ensures looks { ChangesNothing H.tells (H.told host.old) (H.told host.new) }
+{
+    match look(alloc, host) {
+        Ok(from) => planned_of(alloc, &from, doc),
+        Err(cause) => Err(cause),
+    }
+}
+
+// Prints the calls that would make the change that a document wants, after the notes of the document. Nothing is changed.
+pub(crate) fn plan_run<H: Host, S: Source, W: Sink>(
+    alloc: Global,
+    doc: &Doc,
+    host: &mut H,
+    out: &mut W,
+    err: &mut W,
+) -> Report
+    requires { is_document doc.now ≡ true }
+    ensures { (now : ℕ) → Carried H.Host S.Source W.Sink (planning doc.now) now host.old host.new out.old out.new err.old err.new result }
+{
+    let notes = match note_text(alloc, doc.notes.items()) {
+        Ok(notes) => notes,
+        Err(OutOfMemory) => return tell_refused(b"", Cause::OutOfMemory, out, err),
+    };
+    match planned(alloc, doc, host) {
+        Ok(text) => tell_done(notes.as_slice(), text.as_slice(), out, err),
+        Err(cause) => tell_refused(notes.as_slice(), cause, out, err),
+    }
+}
