@@ -1,0 +1,84 @@
+//! Declarative network state at the command line. What it does is `run_command`; here are the folder of the state, and
+//! the adapters over files, the standard streams and the clock.
+#![tactic(auto)]
+
+mod clock;
+mod sink;
+mod source;
+mod state;
+
+ghost use Rattle.std.specs.Prelude.{◌≡◌};
+ghost use Rattle.std.specs.Process.{exit_status};
+
+use crate::clock::SystemClock;
+use crate::sink::{Stream, StreamSink};
+use crate::source::FileSource;
+use crate::state::take_folder;
+use disk_host::DiskHost;
+use file_disk::FileDisk;
+use nmstate_top::{Report, run_command};
+use std::env;
+use std::io::{self, Write};
+use std::process::ExitCode;
+
+/// The words after the program's name. Words that aren't all UTF-8 are no command, as no words are.
+fn words(rt: &HostRuntime) -> io::Result<Vec<String>> {
+    match env::args(rt) {
+        Ok(args) => Ok(args.skip(1).collect(rt.alloc())?),
+        Err(error) if error.kind() == io::ErrorKind::InvalidData => Ok(Vec::new(rt.alloc())),
+        Err(error) => Err(error),
+    }
+}
+
+/// The status where memory is refused before a command is read.
+const OUT_OF_MEMORY: u8 = 8;
+
+/// Says on the errors that memory was refused, and gives its status.
+fn out_of_memory(rt: &HostRuntime) -> ExitCode
+    ensures { exit_status result ≡ 8 }
+{
+    let _ = rt.stderr().write_all(b"error: out of memory\n");
+    ExitCode::from(OUT_OF_MEMORY)
+}
+
+/// Ends with the status of a report.
+fn ending(report: &Report) -> ExitCode
+    ensures { exit_status result ≡ report.now.status }
+{
+    ExitCode::from(report.status)
+}
+
+/// The folder of the state, where the words name none.
+const HERE: &str = ".";
+
+/// The host whose state stands in the folder that was named.
+fn host_in(rt: &HostRuntime, named: &Option<String>) -> DiskHost<FileDisk> {
+    let folder = match named {
+        Some(folder) => folder.as_str(),
+        None => HERE,
+    };
+    DiskHost::new(FileDisk::open(rt, folder))
+}
+
+fn main(rt: HostRuntime) -> ExitCode {
+    let alloc = rt.alloc();
+    let Ok(mut words) = words(&rt) else {
+        return out_of_memory(&rt);
+    };
+    let named = take_folder(&mut words);
+    let mut host = host_in(&rt, &named);
+    let mut source = FileSource::new(&rt);
+    let mut out = StreamSink::new(Stream::Out(rt.stdout()));
+    let mut err = StreamSink::new(Stream::Err(rt.stderr()));
+    let mut clock = SystemClock::new(&rt);
+    let report = run_command(
+        alloc,
+        &words,
+        &mut host,
+        &mut source,
+        &mut out,
+        &mut err,
+        &mut clock,
+    );
+    ending(&report)
+}
