@@ -1,12 +1,11 @@
 //! The texts of addresses, written (RFC 5952 section 4).
 ghost use Rattle.std.specs.Prelude.{◌≡◌, ◌++◌, ◌∷◌, [], ◌+◌, ◌≤◌, ◌%◌, OnOk, IfOk, length, drop};
-ghost use Rattle.std.specs.Fmt.{decimal};
 ghost use Rattle.addr_text.specs.Dotted.{dotted, IsDotted};
 ghost use Rattle.addr_text.specs.Parts.{joined};
 ghost use Rattle.addr_text.specs.V6.{IsV6};
 ghost use Rattle.addr_text.specs.V6Text.{fields_of, hex, fields_text, zeros, longest, first_run, shortened, compressed, v6_text, IsCanonical};
 
-use base_model::OutOfMemory;
+use base_model::{OutOfMemory, push_decimal};
 use std::alloc::Global;
 
 // The last sixteen bits.
@@ -138,14 +137,6 @@ pub fn v6_text(alloc: Global, bits: u128) -> Result<Vec<u8>, OutOfMemory>
     let mut text = Vec::new(alloc);
     push_compressed(&fields_of(bits), &mut text)?;
     Ok(text)
-}
-
-fn push_decimal(number: u32, line: &mut Vec<u8>) -> Result<(), OutOfMemory>
-    ensures { OnOk result (line.new.items ≡ line.old.items ++ decimal number) }
-{
-    let text = number.to_string(*line.allocator())?;
-    line.extend_from_slice(text.as_bytes())?;
-    Ok(())
 }
 
 /// The text of the IPv4 address of this number. Reading it gives the number again.

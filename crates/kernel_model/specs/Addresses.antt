@@ -8,6 +8,7 @@ use Rattle.net_model.specs.Order.{block_cmp}
 use Rattle.net_model.specs.Links.{named_passes}
 use Rattle.net_model.specs.Valid.{is_bond_or_bridge_port, same_address, same_block, address_count, route_on_link}
 use Rattle.net_model.specs.Lists.{NetData}
+use Rattle.net_model.specs.declared.limits.TheConstants.{MAX_LINK_ADDRESSES, MAX_ADDRESSES}
 use Rattle.net_model.specs.declared.Link.{Link}
 use Rattle.net_model.specs.declared.Route.{Route}
 use Rattle.kernel_model.specs.Words.{has_link, is_full, edit_link}
@@ -28,7 +29,7 @@ add_address_refusals name block net =
     (NO_LINK, not (has_link name net.links)) ∷ (PORT_ADDRESS, named_passes (is_bond_or_bridge_port net.links) net.links name)
     ∷ (ADDRESS_EXISTS, named_passes (λ l. has_address block l.addrs) net.links name)
     ∷ (LINK_DOWN, block.addr.v6 && named_passes (λ l. not l.up) net.links name)
-    ∷ (LIMIT, named_passes (λ l. is_full 64 l.addrs) net.links name || nat_le 4096 (address_count net.links)) ∷ []
+    ∷ (LIMIT, named_passes (λ l. is_full MAX_LINK_ADDRESSES l.addrs) net.links name || nat_le MAX_ADDRESSES (address_count net.links)) ∷ []
 
 abbrev pub with_address : Block → Link → Link
 with_address block l = record l { addrs = put block_cmp block l.addrs }

@@ -8,11 +8,8 @@ use crate::kinds::{base_of, permanent_of};
 use crate::members::Members;
 use crate::options::{bond_of, bridge_of, port_of};
 use crate::slot::{Slot, is_absent, is_stated_up};
-use net_model::{Link, Mac};
+use net_model::{DEFAULT_MTU, Link, Mac};
 use std::alloc::{AllocError, Global};
-
-/// The MTU of a new link, in bytes.
-const DEFAULT_MTU: u32 = 1500;
 
 fn base_member<'a, 'b>(members: &'b Members<'a>, slot: &Slot<'a>) -> Option<&'b Slot<'a>>
     ensures { option_copied result ≡ base_member members.now slot.now }

@@ -77,8 +77,8 @@ module _ (start target net : NetData) (good : IsNet target) (is : IsNet net) (qu
     | true ↦ λ e. absurd (other (way.bond_port e c control.link has control.there (ap is_bond now_way.kind ∙ bond)))
   ] refl
 
-  bare : is_bond_or_bridge now.0.kind ≡ true → link.addrs ≡ []
-  bare h = none link.addrs (λ b on. ap (has_block b) (sym (control.bare (ap is_bond_or_bridge now_way.kind ∙ h))) ∙ way.addrs b on)
+  empty : is_bond_or_bridge now.0.kind ≡ true → link.addrs ≡ []
+  empty h = none link.addrs (λ b on. ap (has_block b) (sym (control.without_addresses (ap is_bond_or_bridge now_way.kind ∙ h))) ∙ way.addrs b on)
     where
       none : (bs : List Block) → ((b : Block) → has_block b bs ≡ true → has_block b [] ≡ true) → bs ≡ []
       none [] all = refl
@@ -89,12 +89,12 @@ module _ (start target net : NetData) (good : IsNet target) (is : IsNet net) (qu
     link = link;
     there = found;
     control = now.0;
-    beside = now.1;
+    controller_there = now.1;
     off_cycle = attaches_within n c there net target is good (within_target target net toward) at has;
     free = free;
     takes_it = ap (λ k. takes k link.kind) (sym now_way.kind) ∙ ap (takes control.link.kind) (sym way.kind) ∙ control.takes_it;
     down = down;
-    bare = bare;
+    without_addresses = empty;
   })
 
   leads : Leads (Attach n c) net (after (Attach n c) net)

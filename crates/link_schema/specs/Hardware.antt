@@ -2,7 +2,7 @@
 use Rattle.std.specs.Prelude.{ℕ, suc, false, List, [], ◌∷◌, ◌++◌, nat_lt, Some, None, Ok, Err, if◌then◌else◌, codes}
 use Rattle.std.specs.List.{list_any}
 use Rattle.net_model.specs.Links.{is_named}
-use Rattle.net_model.specs.declared.limits.TheConstants.{MAX_LINKS}
+use Rattle.net_model.specs.declared.limits.TheConstants.{MAX_LINKS, DEFAULT_MTU}
 use Rattle.net_model.specs.Options.{default_bond, default_bridge, default_port}
 use Rattle.net_model.specs.declared.Mac.{Mac}
 use Rattle.net_model.specs.declared.Link.{Link}
@@ -37,7 +37,7 @@ no_device = record { name = None; mac = None }
 
 -- a link as it is built in: down, with its permanent MAC
 abbrev pub built_in : List ℕ → Mac → Link
-built_in name mac = record { name = name; kind = Ethernet mac; up = false; mtu = 1500; mac = mac; controller = None; bond = default_bond; bridge = default_bridge; port = default_port; addrs = [] }
+built_in name mac = record { name = name; kind = Ethernet mac; up = false; mtu = DEFAULT_MTU; mac = mac; controller = None; bond = default_bond; bridge = default_bridge; port = default_port; addrs = [] }
 
 -- both are needed
 abbrev pub device_of : DeviceDraft → Reading Link

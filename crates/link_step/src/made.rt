@@ -9,12 +9,9 @@ ghost use Rattle.kernel_model.specs.MadeLinks.{first_mtu, first_mac, new_link, u
 use crate::hanging::{hanging, is_among};
 use crate::lookup::find_link;
 use net_model::{
-    BondOpts, BridgeOpts, Items, Kind, Link, Mac, Name, OutOfMemory, Parts, PortOpts, Route,
+    BondOpts, BridgeOpts, DEFAULT_MTU, Items, Kind, Link, Mac, Name, OutOfMemory, Parts, PortOpts, Route,
 };
 use std::alloc::Global;
-
-/// The MTU of a new link that has no base, in bytes.
-const DEFAULT_MTU: u32 = 1500;
 
 fn first_mtu(links: &[Link], kind: &Kind) -> u32
     requires { rises link_cmp links.now ≡ true }

@@ -2,6 +2,7 @@
 use Rattle.std.specs.Prelude.{ℕ, Bool, true, ◌&&◌, ◌||◌, min, List, length, map, Option, Some, None, if◌then◌else◌, zero, suc}
 use Rattle.std.specs.Option.{option_map, option_or, option_and_then, unwrap_or}
 use Rattle.net_model.specs.Hardware.{virtual_mac}
+use Rattle.net_model.specs.declared.limits.TheConstants.{DEFAULT_MTU}
 use Rattle.net_model.specs.declared.Mac.{Mac}
 use Rattle.net_model.specs.declared.Link.{Link}
 use Rattle.merge_model.specs.Stated.{is_absent, is_stated_up}
@@ -31,12 +32,12 @@ up_over m below = is_stated_up m.wish || m.lifted || (is_unstated m && was_up m 
 
 -- an Ethernet link that is stated absent has 1500
 abbrev pub stated_mtu : Member → Option ℕ
-stated_mtu m = if is_absent m.wish then Some 1500 else option_and_then (λ e. e.mtu) m.entry
+stated_mtu m = if is_absent m.wish then Some DEFAULT_MTU else option_and_then (λ e. e.mtu) m.entry
 
 -- a new VLAN has that of its base, another VLAN the smaller of its current one and that of its base; any other link has
 -- its current one, and a new one 1500
 abbrev pub unstated_mtu : Option ℕ → Option ℕ → ℕ
-unstated_mtu None below = unwrap_or below 1500
+unstated_mtu None below = unwrap_or below DEFAULT_MTU
 unstated_mtu (Some now) None = now
 unstated_mtu (Some now) (Some below) = min now below
 

@@ -8,6 +8,7 @@ use Rattle.net_model.specs.Standing.{on_cycle, ends}
 use Rattle.net_model.specs.Options.{bond_ok, bridge_in_range, port_in_range, is_default_bond, is_default_bridge, is_default_port}
 use Rattle.net_model.specs.Valid.{HasAllParts, all_v4, addresses_differ, same_key, same_rule, keys_differ, rules_differ, address_count, route_on_link}
 use Rattle.net_model.specs.NetData.{NetData}
+use Rattle.net_model.specs.declared.limits.TheConstants.{MIN_MTU, MAX_MTU, MAX_LINKS, MAX_LINK_ADDRESSES, MAX_ADDRESSES, MAX_ROUTES, MAX_RULES, MAX_SERVERS, MAX_SEARCH}
 use Rattle.net_model.specs.declared.link.Link.{Link}
 use Rattle.net_model.specs.declared.link.Kind.TheVariants.{Bond, Vlan}
 use Rattle.net_model.specs.declared.options.BondMode.{BondMode}
@@ -16,14 +17,14 @@ use Rattle.net_model.specs.declared.route.Route.{Route}
 
 -- of a link alone: its name and MTU, that it is on no cycle and its chain of bases ends, its addresses, its options
 pub record LinkFacts (links : List Link) (l : Link) : Type 0 where
-  pub least_mtu : 68 ≤ l.mtu
-  pub most_mtu : l.mtu ≤ 65535
+  pub least_mtu : MIN_MTU ≤ l.mtu
+  pub most_mtu : l.mtu ≤ MAX_MTU
   pub off_cycle : on_cycle links l ≡ false
   pub grounded : ends links (length links) l.kind ≡ true
   pub down_without_v6 : l.up ≡ false → all_v4 l.addrs ≡ true
   pub addresses_rise : rises block_cmp l.addrs ≡ true
   pub address_once : addresses_differ l.addrs ≡ true
-  pub few_addresses : length l.addrs ≤ 64
+  pub few_addresses : length l.addrs ≤ MAX_LINK_ADDRESSES
   pub bond_right : (mode : BondMode) → l.kind ≡ Bond mode → bond_ok mode l.bond (ports_of links l.name) ≡ true
   pub bridge_right : bridge_in_range l.bridge ≡ true
   pub port_right : port_in_range l.port ≡ true
@@ -44,7 +45,7 @@ pub record ControllerFacts (links : List Link) (l : Link) (controller : List ℕ
   pub link : Link
   pub there : find_link controller links ≡ Some link
   pub takes_it : takes link.kind l.kind ≡ true
-  pub bare : is_bond_or_bridge link.kind ≡ true → l.addrs ≡ []
+  pub without_addresses : is_bond_or_bridge link.kind ≡ true → l.addrs ≡ []
   pub port_unused : is_bridge link.kind ≡ false → is_default_port l.port ≡ true
 
 -- of a route and its device
@@ -69,9 +70,9 @@ pub record Facts (net : NetData) : Type 0 where
   pub one_rule : (i j : ℕ) (d : RuleParts) → i < length net.rules → j < length net.rules → same_rule (slice_index_or net.rules i d) (slice_index_or net.rules j d) ≡ true → i ≡ j
   pub keys : keys_differ net.routes ≡ true
   pub rules : rules_differ net.rules ≡ true
-  pub few_links : length net.links ≤ 512
-  pub few_addresses : address_count net.links ≤ 4096
-  pub few_routes : length net.routes ≤ 4096
-  pub few_rules : length net.rules ≤ 1024
-  pub few_servers : length net.dns.servers ≤ 16
-  pub few_searched : length net.dns.search ≤ 16
+  pub few_links : length net.links ≤ MAX_LINKS
+  pub few_addresses : address_count net.links ≤ MAX_ADDRESSES
+  pub few_routes : length net.routes ≤ MAX_ROUTES
+  pub few_rules : length net.rules ≤ MAX_RULES
+  pub few_servers : length net.dns.servers ≤ MAX_SERVERS
+  pub few_searched : length net.dns.search ≤ MAX_SEARCH

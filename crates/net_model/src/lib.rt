@@ -37,6 +37,7 @@ pub use dns::Dns;
 pub use domain::Domain;
 pub use id::{TableId, VlanId};
 pub use limits::{
+    DEFAULT_MTU,
     MAX_ADDRESSES, MAX_DOMAIN_LEN, MAX_LINK_ADDRESSES, MAX_LINKS, MAX_MTU, MAX_NAME_LEN,
     MAX_ROUTES, MAX_RULES, MAX_SEARCH, MAX_SERVERS, MAX_VLAN_ID, MIN_MTU,
 };

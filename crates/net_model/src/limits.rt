@@ -4,6 +4,8 @@
 pub const MIN_MTU: u32 = 68;
 /// The greatest MTU of a link, in bytes.
 pub const MAX_MTU: u32 = 65535;
+/// The MTU of a link that nothing says another of, in bytes.
+pub const DEFAULT_MTU: u32 = 1500;
 /// The greatest VLAN id.
 pub const MAX_VLAN_ID: u16 = 4094;
 /// The most bytes of a link's name.

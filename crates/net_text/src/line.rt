@@ -4,8 +4,9 @@ ghost use Rattle.net_text.specs.AddrText.{prefix_text};
 ghost use Rattle.net_text.specs.Line.{call_line, has_line};
 
 use crate::options::{push_bond, push_bridge, push_kind, push_port};
-use crate::pieces::{push_decimal, push_mac, push_name, push_prefix};
+use crate::pieces::{push_mac, push_name, push_prefix};
 use crate::routing::{push_dns, push_route, push_rule};
+use base_model::push_decimal;
 use net_model::{Call, Mac, Name, OutOfMemory, Prefix};
 
 // A word and a name.

@@ -3,8 +3,9 @@ ghost use Rattle.std.specs.Prelude.{◌≡◌, ◌++◌, OnOk};
 ghost use Rattle.std.specs.Fmt.{decimal};
 ghost use Rattle.net_text.specs.Line.{kind_words, monitor_words, bond_words, timer_words, bridge_words, port_words};
 
-use crate::pieces::{push_decimal, push_name, push_name_or_dash};
+use crate::pieces::{push_name, push_name_or_dash};
 use crate::words::{bool_word, mode_word, policy_word, proto_word, rate_word};
+use base_model::push_decimal;
 use net_model::{BondOpts, BridgeOpts, Kind, Name, OutOfMemory, PortOpts, Proto, VlanId};
 
 // A key and a number.

@@ -1,21 +1,13 @@
 //! Pieces of a line, appended one after another. After a fault the line is of no use.
 ghost use Rattle.std.specs.Prelude.{◌≡◌, ◌++◌, OnOk};
-ghost use Rattle.std.specs.Fmt.{decimal};
 ghost use Rattle.addr_text.specs.Mac.{IsMac, mac_text};
 ghost use Rattle.net_model.specs.Address.{IsAddress, IsPrefix};
 ghost use Rattle.net_text.specs.AddrText.{addr_text, prefix_text};
 ghost use Rattle.net_text.specs.Line.{name_or_dash, prefix_or_dash};
 
 use addr_text::{dotted_text, mac_text, v6_text};
+use base_model::push_decimal;
 use net_model::{Addr, Mac, Name, OutOfMemory, Prefix, Subnet};
-
-pub(crate) fn push_decimal(number: u32, line: &mut Vec<u8>) -> Result<(), OutOfMemory>
-    ensures { OnOk result (line.new.items ≡ line.old.items ++ decimal number) }
-{
-    let text = number.to_string(*line.allocator())?;
-    line.extend_from_slice(text.as_bytes())?;
-    Ok(())
-}
 
 pub(crate) fn push_name(name: &Name, line: &mut Vec<u8>) -> Result<(), OutOfMemory>
     ensures { OnOk result (line.new.items ≡ line.old.items ++ name.now) }

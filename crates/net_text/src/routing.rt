@@ -4,10 +4,9 @@ ghost use Rattle.addr_text.specs.Parts.{joined};
 ghost use Rattle.net_text.specs.AddrText.{addr_text};
 ghost use Rattle.net_text.specs.Line.{gateway_words, key_words, route_words, target_word, selector_words, rule_words, dns_words};
 
-use crate::pieces::{
-    push_addr, push_decimal, push_name, push_name_or_dash, push_prefix, push_prefix_or_dash,
-};
+use crate::pieces::{push_addr, push_name, push_name_or_dash, push_prefix, push_prefix_or_dash};
 use crate::words::family_word;
+use base_model::push_decimal;
 use net_model::{Addr, Dns, Domain, OutOfMemory, Route, Rule, Target};
 
 fn push_gateway(gateway: Option<Addr>, line: &mut Vec<u8>) -> Result<(), OutOfMemory>

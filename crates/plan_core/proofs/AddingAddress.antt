@@ -130,7 +130,7 @@ module _ (start target net : NetData) (is : IsNet net) (good : IsNet target) (qu
         let kinds : f.link.kind ≡ control.kind = ap (λ (x : Link). x.kind) one ∙ ap (λ (x : Link). x.kind) (sym k.2) in
         elim (is_bond_or_bridge control.kind) as (λ v. is_bond_or_bridge control.kind ≡ v → v ≡ false) [
           | true ↦ λ e.
-              let bare : goal_link.0.addrs ≡ [] = f.bare (ap is_bond_or_bridge kinds ∙ e) in
+              let bare : goal_link.0.addrs ≡ [] = f.without_addresses (ap is_bond_or_bridge kinds ∙ e) in
               let no : true ≡ false = sym goal_link.2 ∙ ap (has_block b) bare in
               absurd cc
           | false ↦ λ _. refl

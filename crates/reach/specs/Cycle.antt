@@ -1,6 +1,6 @@
 -- Arrows that lead round in a cycle.
 use Rattle.std.specs.Prelude.{◌≡◌, ℕ, ◌<◌, ◌≤◌, Bool, true, false, List, [], length, get_or}
-use Rattle.reach.specs.Reach.{is_marked, bare}
+use Rattle.reach.specs.Reach.{is_marked, unmarked}
 
 -- where the arrow k of the place i leads
 abbrev pub target : List (List ℕ) → ℕ → ℕ → ℕ
@@ -30,14 +30,14 @@ IsStuck arrows settled i = (k : ℕ) × (k < length (get_or arrows i [])) × (is
 -- one place is settled, or is settled already or stuck
 pub record SettlesOne (arrows : List (List ℕ)) (i : ℕ) (old new : List Bool) (grew : Bool) : Type 0 where
   pub founded : Founded arrows old → Founded arrows new
-  pub fewer : grew ≡ true → bare new < bare old
+  pub fewer : grew ≡ true → unmarked new < unmarked old
   pub idle : grew ≡ false → new ≡ old
   pub stuck : grew ≡ false → is_marked new i ≡ false → IsStuck arrows new i
 
 -- some places are settled, or each is settled already or stuck
 pub record Settles (arrows : List (List ℕ)) (old new : List Bool) (grew : Bool) : Type 0 where
   pub founded : Founded arrows old → Founded arrows new
-  pub fewer : grew ≡ true → bare new < bare old
+  pub fewer : grew ≡ true → unmarked new < unmarked old
   pub stuck : grew ≡ false → (i : ℕ) → i < length arrows → is_marked new i ≡ false → IsStuck arrows new i
 
 -- no further place can be settled

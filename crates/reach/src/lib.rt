@@ -62,7 +62,7 @@ fn mark_reached(arrows: &[Items<usize>], starts: &[bool], marks: &mut [bool])
     requires starts { length starts.now ≡ length arrows.now }
     requires marks { length marks.old ≡ length arrows.now }
     requires graph { IsGraph arrows.now }
-    requires bare { (j : ℕ) → is_marked marks.old j ≡ false }
+    requires unmarked { (j : ℕ) → is_marked marks.old j ≡ false }
     ensures { IsLeast arrows.now starts.now marks.new }
 {
     'grow: loop {

@@ -111,18 +111,18 @@ module _ (net : NetData) (is : IsNet net) where
       let l = t.1 in
       (there name l.0 l.1, (off (named_passes (λ l. is_bridge l.kind) net.links name && bridge_in_range opts) (and_both (named_passes (λ l. is_bridge l.kind) net.links name) (bridge_in_range opts) (passes (λ l. is_bridge l.kind) name l.0 l.1 l.2) t.0), tt))
   taken (Attach port controller) t = (
-    off (has_link port net.links && has_link controller net.links) (and_both (has_link port net.links) (has_link controller net.links) (there_link port net.links t.link t.there) (there_link controller net.links t.control t.beside)),
+    off (has_link port net.links && has_link controller net.links) (and_both (has_link port net.links) (has_link controller net.links) (there_link port net.links t.link t.there) (there_link controller net.links t.control t.controller_there)),
     (
       ap not t.off_cycle,
       (
         fails (λ p. is_some p.controller) port t.link t.there (rw t.free refl),
         (
-          ap not (pair_as (λ c p. takes c.kind p.kind) net.links controller port t.control t.link differ t.beside t.there ∙ t.takes_it),
+          ap not (pair_as (λ c p. takes c.kind p.kind) net.links controller port t.control t.link differ t.controller_there t.there ∙ t.takes_it),
           (
-            pair_as (λ c p. is_bond c.kind && p.up) net.links controller port t.control t.link differ t.beside t.there ∙ never (is_bond t.control.kind) t.link.up t.down,
+            pair_as (λ c p. is_bond c.kind && p.up) net.links controller port t.control t.link differ t.controller_there t.there ∙ never (is_bond t.control.kind) t.link.up t.down,
             (
-              pair_as (λ c p. is_bond_or_bridge c.kind && not (is_empty p.addrs)) net.links controller port t.control t.link differ t.beside t.there
-                  ∙ implied (is_bond_or_bridge t.control.kind) (is_empty t.link.addrs) (λ h. ap is_empty (t.bare h)),
+              pair_as (λ c p. is_bond_or_bridge c.kind && not (is_empty p.addrs)) net.links controller port t.control t.link differ t.controller_there t.there
+                  ∙ implied (is_bond_or_bridge t.control.kind) (is_empty t.link.addrs) (λ h. ap is_empty (t.without_addresses h)),
               tt,
             ),
           ),

@@ -200,7 +200,7 @@ module _ (net : NetData) (is : IsNet net) where
         link = stands.0;
         there = stands.1;
         takes_it = stands.2;
-        bare = λ h.
+        without_addresses = λ h.
             let enslaved : is_bond_or_bridge_port net.links l ≡ true =
             ap (λ o. option_map_or (named_passes (λ m. is_bond_or_bridge m.kind) net.links) o false) has
             ∙ named_passes_found (λ m. is_bond_or_bridge m.kind) net.links c up

@@ -1,13 +1,13 @@
 -- Lists of marks.
 use Rattle.std.proofs.Common.{◌≡◌, ◌≢◌, ◌||◌, subst, ℕ, ◌+◌, ◌<◌, ◌≤◌, Bool, true, false, List, [], ◌∷◌, length, get_or, set, zero, suc, refl, sym, ap, ◌∙◌, arith, get_or-set_same, get_or-set_other, ◌⊎◌, inl, inr}
-use Rattle.reach.specs.Reach.{is_marked, bare, Within, AllMarked, IsClosed, Grows, Steps}
+use Rattle.reach.specs.Reach.{is_marked, unmarked, Within, AllMarked, IsClosed, Grows, Steps}
 
-pub bare-set : (ms : List Bool) (i : ℕ) → i < length ms → is_marked ms i ≡ false → bare (set ms i true) + 1 ≡ bare ms
-bare-set [] i h m = absurd (omega arith)
-bare-set (true ∷ ms) zero h m = absurd cc
-bare-set (false ∷ ms) zero h m = omega arith
-bare-set (true ∷ ms) (suc i) h m = bare-set ms i (omega arith) m
-bare-set (false ∷ ms) (suc i) h m = omega (arith, bare-set ms i (omega arith) m)
+pub unmarked-set : (ms : List Bool) (i : ℕ) → i < length ms → is_marked ms i ≡ false → unmarked (set ms i true) + 1 ≡ unmarked ms
+unmarked-set [] i h m = absurd (omega arith)
+unmarked-set (true ∷ ms) zero h m = absurd cc
+unmarked-set (false ∷ ms) zero h m = omega arith
+unmarked-set (true ∷ ms) (suc i) h m = unmarked-set ms i (omega arith) m
+unmarked-set (false ∷ ms) (suc i) h m = omega (arith, unmarked-set ms i (omega arith) m)
 
 same_or_not : (i j : ℕ) → (i ≡ j) ⊎ (i ≢ j)
 same_or_not i j = grind arith
@@ -40,8 +40,8 @@ pub record Marking (targets : List ℕ) (old now : List Bool) (grew : Bool) (i :
   pub kept : Within (is_marked old) (is_marked now)
   pub all : (k : ℕ) → k < i → is_marked now (get_or targets k 0) ≡ true
   pub only : (t : ℕ → Bool) → AllMarked targets t → Within (is_marked old) t → Within (is_marked now) t
-  pub fewer : grew ≡ true → bare now < bare old
-  pub most : bare now ≤ bare old
+  pub fewer : grew ≡ true → unmarked now < unmarked old
+  pub most : unmarked now ≤ unmarked old
   pub idle : grew ≡ false → now ≡ old
 
 less_or_same : (k i : ℕ) → k < i + 1 → (k < i) ⊎ (k ≡ i)
@@ -68,16 +68,16 @@ Marking-set targets old now grew i m inside fits new = record {
     | inr e ↦ ap (λ n. is_marked (set now (get_or targets i 0) true) (get_or targets n 0)) e ∙ marked-set_same now (get_or targets i 0) fits
   ];
   only = λ t all w. Within-set now (get_or targets i 0) t fits (all i inside) (m.only t all w);
-  fewer = λ _. omega (arith, bare-set now (get_or targets i 0) fits new, m.most);
-  most = omega (arith, bare-set now (get_or targets i 0) fits new, m.most);
+  fewer = λ _. omega (arith, unmarked-set now (get_or targets i 0) fits new, m.most);
+  most = omega (arith, unmarked-set now (get_or targets i 0) fits new, m.most);
   idle = λ h. absurd cc;
 }
 
 -- what the loop over the places keeps
 pub record Passing (arrows : List (List ℕ)) (starts old now : List Bool) (grew : Bool) (i : ℕ) : Type 0 where
   pub only : (t : ℕ → Bool) → IsClosed arrows starts t → Within (is_marked old) t → Within (is_marked now) t
-  pub fewer : grew ≡ true → bare now < bare old
-  pub most : bare now ≤ bare old
+  pub fewer : grew ≡ true → unmarked now < unmarked old
+  pub most : unmarked now ≤ unmarked old
   pub done : grew ≡ false → (k : ℕ) → k < i → (is_marked starts k || is_marked now k) ≡ true → AllMarked (get_or arrows k []) (is_marked now)
 
 pub Passing-grown : (arrows : List (List ℕ)) (starts old now new : List Bool) (grew : Bool) (i : ℕ) → Passing arrows starts old now grew i → Steps arrows starts i now new true → Passing arrows starts old new true (i + 1)

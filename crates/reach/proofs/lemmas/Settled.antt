@@ -1,9 +1,9 @@
 -- Places that are settled after all that their arrows lead to.
 use Rattle.std.proofs.Common.{◌≡◌, ◌≢◌, ℕ, ◌+◌, ◌<◌, ◌≤◌, ◌⊎◌, inl, inr, zero, suc, Bool, true, false, not, cond, eqb, eq-eqb, List, [], ◌∷◌, length, get_or, set, refl, sym, ap, subst, ◌∙◌, arith}
 use Rattle.std.specs.List.{list_all}
-use Rattle.reach.specs.Reach.{is_marked, bare, AllMarked, IsGraph}
+use Rattle.reach.specs.Reach.{is_marked, unmarked, AllMarked, IsGraph}
 use Rattle.reach.specs.Cycle.{target, HasRanks, Decides, Founded, IsStuck, SettlesOne}
-use Rattle.reach.proofs.lemmas.Marks.{bare-set, marked-set, marked-before}
+use Rattle.reach.proofs.lemmas.Marks.{unmarked-set, marked-set, marked-before}
 
 same_or_not : (i j : ℕ) → (i ≡ j) ⊎ (i ≢ j)
 same_or_not i j = grind arith
@@ -52,7 +52,7 @@ module _ (arrows : List (List ℕ)) (old : List Bool) (i : ℕ) (inside : i < le
   pub settled_one : SettlesOne arrows i old (set old i true) true
   settled_one = record {
     founded = grown;
-    fewer = λ _. omega (arith, bare-set old i inside off);
+    fewer = λ _. omega (arith, unmarked-set old i inside off);
     idle = λ h. absurd cc;
     stuck = λ h. absurd cc;
   }
@@ -78,8 +78,8 @@ settled_none arrows old i stuck = record {
 -- what the loop over the places keeps
 pub record Settling (arrows : List (List ℕ)) (old now : List Bool) (grew : Bool) (i : ℕ) : Type 0 where
   pub founded : Founded arrows old → Founded arrows now
-  pub fewer : grew ≡ true → bare now < bare old
-  pub most : bare now ≤ bare old
+  pub fewer : grew ≡ true → unmarked now < unmarked old
+  pub most : unmarked now ≤ unmarked old
   pub stuck : grew ≡ false → (k : ℕ) → k < i → is_marked now k ≡ false → IsStuck arrows now k
 
 less_or_same : (k i : ℕ) → k < i + 1 → (k < i) ⊎ (k ≡ i)

@@ -1,5 +1,5 @@
 use Rattle.std.proofs.Common.{◌≡◌, length}
-use Rattle.reach.specs.Reach.{bare}
+use Rattle.reach.specs.Reach.{unmarked}
 use Rattle.reach.specs.Cycle.{Founded}
 use Rattle.reach.proofs.cycle.settle_all.Given as goal
 
@@ -10,4 +10,4 @@ invariant-grow l = record {
 }
 
 abbrev pub decreases-grow : goal.decreases-grow
-decreases-grow l = bare l.settled
+decreases-grow l = unmarked l.settled
