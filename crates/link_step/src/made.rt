@@ -9,7 +9,8 @@ ghost use Rattle.kernel_model.specs.MadeLinks.{first_mtu, first_mac, new_link, u
 use crate::hanging::{hanging, is_among};
 use crate::lookup::find_link;
 use net_model::{
-    BondOpts, BridgeOpts, DEFAULT_MTU, Items, Kind, Link, Mac, Name, OutOfMemory, Parts, PortOpts, Route,
+    BondOpts, BridgeOpts, DEFAULT_MTU, Items, Kind, Link, Mac, Name, OutOfMemory, Parts, PortOpts,
+    Route,
 };
 use std::alloc::Global;
 

@@ -37,9 +37,8 @@ pub use dns::Dns;
 pub use domain::Domain;
 pub use id::{TableId, VlanId};
 pub use limits::{
-    DEFAULT_MTU,
-    MAX_ADDRESSES, MAX_DOMAIN_LEN, MAX_LINK_ADDRESSES, MAX_LINKS, MAX_MTU, MAX_NAME_LEN,
-    MAX_ROUTES, MAX_RULES, MAX_SEARCH, MAX_SERVERS, MAX_VLAN_ID, MIN_MTU,
+    DEFAULT_MTU, MAX_ADDRESSES, MAX_DOMAIN_LEN, MAX_LINK_ADDRESSES, MAX_LINKS, MAX_MTU,
+    MAX_NAME_LEN, MAX_ROUTES, MAX_RULES, MAX_SEARCH, MAX_SERVERS, MAX_VLAN_ID, MIN_MTU,
 };
 pub use link::{Kind, Link};
 pub use lookup::{can_be_base, is_bond, is_bridge, is_ethernet, takes};
