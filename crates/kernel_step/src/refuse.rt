@@ -5,6 +5,7 @@ ghost use Rattle.net_model.specs.Words.{rises};
 ghost use Rattle.net_model.specs.Order.{link_cmp};
 ghost use Rattle.net_model.specs.Links.{named_passes, is_bond_or_bridge};
 ghost use Rattle.net_model.specs.Valid.{is_bond_or_bridge_port, address_count, same_block, same_rule, route_on_link};
+ghost use Rattle.net_model.specs.declared.limits.TheConstants.{MAX_ADDRESSES, MAX_LINK_ADDRESSES};
 ghost use Rattle.kernel_model.specs.Outcome.{first_true};
 ghost use Rattle.kernel_model.specs.Words.{has_link, is_full};
 ghost use Rattle.kernel_model.specs.Addresses.{has_address, has_block, add_address_refusals, del_address_refusals};
@@ -91,14 +92,14 @@ fn is_down(links: &[Link], name: &Name) -> bool
 #[tactic(auto, using(net_model::proofs::lemmas::Found::named_passes_found))]
 fn link_is_full(links: &[Link], name: &Name) -> bool
     requires { rises link_cmp links.now ≡ true }
-    ensures { result ≡ named_passes (λ l. is_full 64 l.addrs) links.now name.now }
+    ensures { result ≡ named_passes (λ l. is_full MAX_LINK_ADDRESSES l.addrs) links.now name.now }
 {
     find_link(links, name).is_some_and(|link| link.addrs.items().len() >= MAX_LINK_ADDRESSES)
 }
 
 // Counts down from the limit, so that no sum is made which might not fit.
 fn addresses_full(links: &[Link]) -> bool
-    ensures { result ≡ nat_le 4096 (address_count links.now) }
+    ensures { result ≡ nat_le MAX_ADDRESSES (address_count links.now) }
 {
     let mut room = MAX_ADDRESSES;
     let mut left = links;
@@ -122,7 +123,7 @@ fn is_v6_on_down(links: &[Link], name: &Name, addr: &Prefix) -> bool
 
 fn has_no_room(links: &[Link], name: &Name) -> bool
     requires { rises link_cmp links.now ≡ true }
-    ensures { result ≡ (named_passes (λ l. is_full 64 l.addrs) links.now name.now || nat_le 4096 (address_count links.now)) }
+    ensures { result ≡ (named_passes (λ l. is_full MAX_LINK_ADDRESSES l.addrs) links.now name.now || nat_le MAX_ADDRESSES (address_count links.now)) }
 {
     link_is_full(links, name) || addresses_full(links)
 }

@@ -4,6 +4,7 @@ ghost use Rattle.std.specs.Prelude.{◌≡◌, Some, length, filter, option_copi
 ghost use Rattle.std.specs.Option.{option_or, option_map, option_and_then};
 ghost use Rattle.net_model.specs.Lists.{net_of};
 ghost use Rattle.net_model.specs.Valid.{address_count};
+ghost use Rattle.net_model.specs.declared.limits.TheConstants.{MAX_ADDRESSES};
 ghost use Rattle.merge_model.specs.Places.{at_link, least_name, lesser};
 ghost use Rattle.merge_model.specs.Limits.{above, is_crowded, at_limit, limit_passed};
 
@@ -34,7 +35,7 @@ fn is_crowded(link: &Link) -> bool
 
 // Counts down from the limit, so that no sum can overflow.
 fn addresses_above(links: &[Link]) -> Option<Place>
-    ensures { result ≡ above 4096 (address_count links.now) }
+    ensures { result ≡ above MAX_ADDRESSES (address_count links.now) }
 {
     let mut room = MAX_ADDRESSES;
     let mut left = links;
