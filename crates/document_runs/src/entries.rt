@@ -66,7 +66,7 @@ fn push_bond_words(bond: &BondEntry, out: &mut Vec<u8>) -> Result<(), OutOfMemor
     if let Some(mode) = bond.mode {
         push_word("mode", Some(mode_word(mode)), out)?;
     }
-    push_claim("primary", bond.primary, out)?;
+    push_claim("primary", &bond.primary, out)?;
     if let Some(rate) = bond.lacp_rate {
         push_word("lacp_rate", Some(rate_word(rate)), out)?;
     }
@@ -174,7 +174,7 @@ fn push_link(link: &LinkEntry, out: &mut Vec<u8>) -> Result<(), OutOfMemory> {
     push_wish(link.wish, out)?;
     push_mac(link.mac, out)?;
     push_number("mtu", link.mtu, out)?;
-    push_claim("controller", link.controller, out)?;
+    push_claim("controller", &link.controller, out)?;
     push_ip(("ipv4", "ipv4.enabled", "ipv4.address"), &link.v4, out)?;
     push_ip(("ipv6", "ipv6.enabled", "ipv6.address"), &link.v6, out)?;
     push_bond(&link.bond, out)?;
@@ -223,13 +223,12 @@ fn push_route(route: &RouteEntry, out: &mut Vec<u8>) -> Result<(), OutOfMemory> 
     Ok(())
 }
 
-fn push_target(target: Option<Target>, out: &mut Vec<u8>) -> Result<(), OutOfMemory> {
+fn push_target(target: &Target, out: &mut Vec<u8>) -> Result<(), OutOfMemory> {
     match target {
-        Some(Target::Table(table)) => push_number("target", Some(table.id()), out),
-        Some(Target::Blackhole) => push_word("target", Some("blackhole"), out),
-        Some(Target::Unreachable) => push_word("target", Some("unreachable"), out),
-        Some(Target::Prohibit) => push_word("target", Some("prohibit"), out),
-        None => Ok(()),
+        Target::Table(table) => push_number("target", Some(table.id()), out),
+        Target::Blackhole => push_word("target", Some("blackhole"), out),
+        Target::Unreachable => push_word("target", Some("unreachable"), out),
+        Target::Prohibit => push_word("target", Some("prohibit"), out),
     }
 }
 
@@ -245,7 +244,10 @@ fn push_rule(rule: &RuleEntry, out: &mut Vec<u8>) -> Result<(), OutOfMemory> {
     push_name("iif", rule.iif, out)?;
     push_number("mark", rule.mark, out)?;
     push_number("mask", rule.mask, out)?;
-    push_target(rule.target, out)
+    if let Some(target) = &rule.target {
+        push_target(target, out)?;
+    }
+    Ok(())
 }
 
 fn push_list_of_servers(servers: &Vec<Addr>, out: &mut Vec<u8>) -> Result<(), OutOfMemory> {

@@ -51,10 +51,16 @@ pub fn push_name(key: &str, name: Option<Name>, out: &mut Vec<u8>) -> Result<(),
     }
 }
 
-pub fn push_claim(key: &str, claim: Option<Claim>, out: &mut Vec<u8>) -> Result<(), OutOfMemory> {
+fn push_stated_claim(key: &str, claim: &Claim, out: &mut Vec<u8>) -> Result<(), OutOfMemory> {
     match claim {
-        Some(Claim::To(name)) => push_name(key, Some(name), out),
-        Some(Claim::Nobody) => push_word(key, Some("-"), out),
+        Claim::To(name) => push_bytes(key, Some(name.as_bytes()), out),
+        Claim::Nobody => push_word(key, Some("-"), out),
+    }
+}
+
+pub fn push_claim(key: &str, claim: &Option<Claim>, out: &mut Vec<u8>) -> Result<(), OutOfMemory> {
+    match claim {
+        Some(claim) => push_stated_claim(key, claim, out),
         None => Ok(()),
     }
 }
