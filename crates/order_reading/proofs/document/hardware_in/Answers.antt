@@ -13,9 +13,9 @@ returns-in_err-tree c =
 
 pub returns-in-Ok : goal.returns-in-Ok
 returns-in-Ok c =
-    said (λ links notes. links) (hardware (shape c.in_ok-tree.tree)) c.in-Ok.links (hardware_list c.args.bytes.now) (hardware_of c.args.bytes.now (shape c.in_ok-tree.tree) c.in_ok-tree.ensures) c.in-Ok.ensures
+    said (λ links notes. links) (hardware (shape c.in_ok-tree.tree)) c.in-Ok.links (hardware_list c.args.bytes.now) (hardware_of c.args.bytes.now (shape c.in_ok-tree.tree) c.in_ok-tree.ensures) c.in-Ok.ensures.read
 
 pub returns : goal.returns
 returns c =
     rw c.schema_cause.ensures
-    (unsaid (λ links notes. links) (hardware (shape c.in_ok-tree.tree)) (hardware_list c.args.bytes.now) c.in-Err.fault (hardware_of c.args.bytes.now (shape c.in_ok-tree.tree) c.in_ok-tree.ensures) c.in-Err.ensures)
+    (unsaid (λ links notes. links) (hardware (shape c.in_ok-tree.tree)) (hardware_list c.args.bytes.now) c.in-Err.fault (hardware_of c.args.bytes.now (shape c.in_ok-tree.tree) c.in_ok-tree.ensures) c.in-Err.ensures.read)
