@@ -1,5 +1,8 @@
 -- What a stop leaves of one area, by what touched it: the writes and syncs of a record, the newest of them first.
-use Rattle.std.specs.Prelude.{ℕ, zero, suc, ◌+◌, ◌-◌, ◌/◌, Bool, true, false, List, [], ◌∷◌, ◌++◌, length, take, drop, replicate, map, reverse, Option, Some, None}
+use Rattle.std.specs.Prelude.{ℕ, zero, suc, ◌+◌, ◌-◌, ◌/◌, Bool, true, false, List, [], ◌∷◌, ◌++◌, length, take, drop, replicate, map, reverse, Option, Some, None, ⊤}
+use Rattle.std.specs.Coded.{×_prop, Unit-prop}
+use Rattle.std.proofs.Props.{props}
+use Rattle.host_core.specs.Bytes.{Torn}
 
 -- an event as one area sees it: a write with what was there before, a sync, or neither
 pub data Touch : Type 0 where
@@ -30,6 +33,23 @@ undone now [] = now
 undone now (Writes at len before ∷ events) = undone before events
 undone now (Syncs ∷ events) = undone now events
 undone now (Spares ∷ events) = undone now events
+
+-- Each write led from what was there before it to what was there after it, torn at most.
+abbrev pub IsTouched : List ℕ → List Touch → Type 0
+IsTouched now [] = ⊤
+IsTouched now (Writes at len before ∷ events) = Torn at len before now × IsTouched before events
+IsTouched now (Syncs ∷ events) = IsTouched now events
+IsTouched now (Spares ∷ events) = IsTouched now events
+
+-- these facts have one proof at most, as a type asks of what it keeps
+pub Torn-prop : (at len : ℕ) (old new : List ℕ) → IsProp (Torn at len old new)
+Torn-prop at len old new = Prim.hlevel props
+
+pub IsTouched-prop : (now : List ℕ) (events : List Touch) → IsProp (IsTouched now events)
+IsTouched-prop now [] = Unit-prop
+IsTouched-prop now (Writes at len before ∷ events) = ×_prop (Torn-prop at len before now) (IsTouched-prop before events)
+IsTouched-prop now (Syncs ∷ events) = IsTouched-prop now events
+IsTouched-prop now (Spares ∷ events) = IsTouched-prop now events
 
 -- the bytes at the last sync
 abbrev pub synced : List ℕ → List Touch → List ℕ

@@ -1,12 +1,12 @@
 //! A host in memory.
-ghost use Rattle.std.specs.Prelude.{◌≡◌, ◌≢◌, ◌⊎◌, ◌<◌, ◌≤◌, ◌+◌, ◌^◌, ℕ, [], ◌∷◌, length, get_or, reverse, None, Some, false, IfOk, OnOk, OnErr, IsErrOf, IsSome, option_map};
+ghost use Rattle.std.specs.Prelude.{◌≡◌, ◌≢◌, ◌⊎◌, ◌<◌, ◌≤◌, ◌+◌, ◌^◌, ℕ, [], ◌∷◌, length, get_or, map, reverse, None, Some, false, IfOk, OnOk, OnErr, IsErrOf, IsSome, option_map};
 ghost use Rattle.host_core.specs.Bytes.{Torn, Written, Filled};
 ghost use Rattle.host_core.specs.Faults.{HasCause, HasFault, one_more};
 ghost use Rattle.host_core.specs.HostView.{State, HasCell, Accepts, Refuses, MaybeCalled, SameCell, SameKernel, Untouched, CellTorn, IsFirst, IsMade, MaybeMade, counted, refused, dumped};
 ghost use Rattle.host_core.specs.Stops.{Steps, Stays};
-ghost use Rattle.host_memory.specs.HostMemory.{IsUnfused, told_of};
-ghost use Rattle.host_memory.specs.HostPicked.{state_stopped};
 ghost use Rattle.host_memory.specs.HostRecord.{Left, stops_of, IsAsBefore};
+ghost use Rattle.host_memory.specs.HostStopped.{touch_of};
+ghost use Rattle.host_memory.specs.Touches.{IsTouched, IsTouched-prop};
 
 use crate::bytes::{fill, rewritten};
 use crate::fuse::{Fuse, Fuses, counted, is_carried_out};
@@ -35,9 +35,13 @@ pub struct MemoryHost {
     refusals: u64,
     last_number: u8,
     last_call: u64,
+    ghost consistent: { IsTouched cell.items (map (touch_of 0) (reverse events.items)) } by { IsTouched-prop cell.items (map (touch_of 0) (reverse events.items)) },
 }
 
 impl MemoryHost {
+    ghost use Rattle.host_memory.specs.HostMemory.{IsUnfused};
+    ghost use Rattle.host_memory.specs.HostPicked.{state_stopped, stops_then};
+
     /// A host with this network, or none, and these bytes in its checkpoint area, of which none is in doubt. It isn't
     /// settled; nothing was called and nothing failed.
     pub fn new(alloc: Global, net: Option<Net>, cell: Vec<u8>, fuses: Vec<Fuse>) -> MemoryHost
@@ -95,15 +99,15 @@ impl MemoryHost {
         requires after { after ≤ (⟦<MemoryHost as Host>⟧.told self.now).stops.moment }
         requires pick { pick < 4 }
         ensures state { IfOk result (λ host. (⟦<MemoryHost as Host>⟧.told host).state ≡ state_stopped after pick self.now) }
+        // A stop at that moment may leave it, and so might one since.
+        ensures may_leave { IfOk result (λ host. (stops_then after self.now).may_leave (⟦<MemoryHost as Host>⟧.told host).state) }
+        ensures since { IfOk result (λ host. (⟦<MemoryHost as Host>⟧.told self.now).stops.left_since after (⟦<MemoryHost as Host>⟧.told host).state) }
         ensures sure { IfOk result (λ host. (s : State) → (⟦<MemoryHost as Host>⟧.told host).stops.may_leave s → s ≡ (⟦<MemoryHost as Host>⟧.told host).state) }
         ensures faults { IfOk result (λ host. (⟦<MemoryHost as Host>⟧.told host).faults ≡ 0) }
         ensures unfused { IfOk result IsUnfused }
     {
         let cell = stopped(alloc, &self.events, 0, &self.cell, after, pick)?;
-        let net = match net_before(&self.events[after as usize..], &self.net) {
-            Some(net) => Some(net.copy()?),
-            None => None,
-        };
+        let net = copied(net_before(&self.events[after as usize..], &self.net))?;
         Ok(MemoryHost::new(alloc, net, cell, Vec::new(alloc)))
     }
 
@@ -113,6 +117,15 @@ impl MemoryHost {
     {
         self.calls = raised(self.calls);
         self.fresh = false;
+    }
+}
+
+fn copied(net: &Option<Net>) -> Result<Option<Net>, OutOfMemory>
+    ensures { IfOk result (λ copy. copy ≡ net.now) }
+{
+    match net {
+        Some(net) => Ok(Some(net.copy()?)),
+        None => Ok(None),
     }
 }
 
@@ -143,6 +156,7 @@ fn made(
     ensures net { OnOk result (net.new ≡ Some first.now) }
     ensures closed { OnOk result (get_or cell.new.items 0 1 ≢ 1) }
     ensures sure { OnOk result ((s : State) → Left (record { net = net.new; cell = cell.new.items }) (reverse events.new.items) s → s.cell ≡ cell.new.items) }
+    ensures consistent { IsTouched cell.old.items (map (touch_of 0) (reverse events.old.items)) → IsTouched cell.new.items (map (touch_of 0) (reverse events.new.items)) }
     ensures same_net { OnErr result (net.new ≡ net.old) }
     ensures same { OnErr result (IsAsBefore cell.old.items cell.new.items events.old.items events.new.items) }
     ensures stops { Steps (MaybeMade first.now) (stops_of (record { net = net.old; cell = cell.old.items }) (reverse events.old.items))
@@ -158,7 +172,7 @@ fn made(
 }
 
 impl Host for MemoryHost {
-    ghost use Rattle.host_memory.specs.HostMemory.{told_of, lawful_host};
+    ghost use Rattle.host_memory.specs.HostMemory.{IsUnfused, told_of, lawful_host};
 
     ghost tells = { Unit {0} };
 
