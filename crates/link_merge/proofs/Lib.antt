@@ -5,5 +5,6 @@ mod Groups
 mod Least
 mod Marked
 mod More
+mod NoCycle
 mod Placed
 mod Positions

@@ -1,16 +1,17 @@
 //! The rule 11 of the merge: whether a link stands on itself, through any others.
-ghost use Rattle.std.specs.Prelude.{◌≡◌, ◌<◌, Some, if◌then◌else◌, IfOk, length, map, filter, slice_index_or, option_copied};
+ghost use Rattle.std.specs.Prelude.{◌≡◌, ◌<◌, Some, true, not, if◌then◌else◌, IfOk, length, map, filter, slice_index_or, option_copied};
 ghost use Rattle.std.specs.Option.{option_map};
 ghost use Rattle.net_model.specs.Words.{positions};
 ghost use Rattle.net_model.specs.Links.{is_named, is_port_of};
-ghost use Rattle.net_model.specs.Standing.{stands_on, on_cycle};
+ghost use Rattle.net_model.specs.Standing.{stands_on, on_cycle, no_cycle};
+ghost use Rattle.net_model.specs.Valid.{names_differ};
 ghost use Rattle.net_model.specs.declared.Link.{Link};
 ghost use Rattle.merge_model.specs.Places.{least_name};
 ghost use Rattle.merge_model.specs.BrokenLinks.{cycle};
 ghost use Rattle.link_merge.specs.Rules.{least_of};
 
 use crate::options::is_port_of;
-use crate::reached::closure;
+use crate::reached::{closure, has_cycle};
 use crate::seats::has_base;
 use document_model::Place;
 use net_model::{Items, Link, Name};
@@ -85,19 +86,51 @@ fn least_with(on: bool, name: Name, least: Option<Name>) -> Option<Name>
     if on { Some(lesser(name, least)) } else { least }
 }
 
-// The least name of a link that stands on itself.
-fn least_on_cycle(alloc: Global, links: &[Link]) -> Result<Option<Name>, AllocError>
+// The least name of a link that stands on itself, by asking each.
+fn least_of_all(
+    alloc: Global,
+    links: &[Link],
+    arrows: &[Items<usize>],
+) -> Result<Option<Name>, AllocError>
+    requires { arrows.now ≡ map (λ l. positions (stands_on l) 0 links.now) links.now }
     ensures { IfOk result (λ least. least ≡ option_map (λ l. l.name) (least_name (filter (on_cycle links.now) links.now))) }
 {
-    let arrows = arrows(alloc, links)?;
     let mut least = None;
     let mut left = links.len();
     while left > 0 {
         left -= 1;
-        let on = on_cycle(alloc, links, &arrows, left)?;
+        let on = on_cycle(alloc, links, arrows, left)?;
         least = least_with(on, links[left].name, least);
     }
     Ok(least)
+}
+
+// Whether a link stands on itself, in one pass over all.
+fn is_any_on_cycle(
+    alloc: Global,
+    links: &[Link],
+    arrows: &[Items<usize>],
+) -> Result<bool, AllocError>
+    requires names { names_differ links.now ≡ true }
+    requires arrows { arrows.now ≡ map (λ l. positions (stands_on l) 0 links.now) links.now }
+    ensures { IfOk result (λ cycle. not cycle ≡ no_cycle links.now) }
+{
+    let cycle = has_cycle(alloc, arrows)?;
+    Ok(cycle)
+}
+
+// The least name of a link that stands on itself. No link is asked of where none is on a cycle.
+fn least_on_cycle(alloc: Global, links: &[Link]) -> Result<Option<Name>, AllocError>
+    requires { names_differ links.now ≡ true }
+    ensures { IfOk result (λ least. least ≡ option_map (λ l. l.name) (least_name (filter (on_cycle links.now) links.now))) }
+{
+    let arrows = arrows(alloc, links)?;
+    let cycle = is_any_on_cycle(alloc, links, &arrows)?;
+    if cycle {
+        least_of_all(alloc, links, &arrows)
+    } else {
+        Ok(None)
+    }
 }
 
 fn at_name(name: Option<Name>) -> Option<Place>
@@ -112,6 +145,7 @@ fn at_name(name: Option<Name>) -> Option<Place>
 /// The place of rule 11: standing on has a cycle. It is the least name on one.
 #[tactic(auto, using(crate::proofs::Least::named))]
 pub(crate) fn cycle(alloc: Global, links: &[Link]) -> Result<Option<Place>, AllocError>
+    requires { names_differ links.now ≡ true }
     ensures { IfOk result (λ place. place ≡ cycle links.now) }
 {
     Ok(at_name(least_on_cycle(alloc, links)?))

@@ -2,7 +2,7 @@ use Rattle.std.proofs.Common.{◌≡◌, ◌≤◌, length, drop, filter}
 use Rattle.std.specs.Option.{option_map}
 use Rattle.net_model.specs.Standing.{on_cycle}
 use Rattle.merge_model.specs.Places.{least_name}
-use Rattle.link_merge.proofs.standing.least_on_cycle.Given as goal
+use Rattle.link_merge.proofs.standing.least_of_all.Given as goal
 
 -- the least name of those from here on
 abbrev pub invariant-loop-left : goal.invariant-loop-left
