@@ -1,0 +1,41 @@
+//! The devices of a workload, and the numbers of its generator.
+
+use doc_tree::Tree;
+
+/// The draws are the numbers below it.
+pub const DRAW_MODULUS: u32 = 65_537;
+/// The factor by which a draw follows from the one before it.
+pub const DRAW_FACTOR: u32 = 75;
+/// What is added then.
+pub const DRAW_STEP: u32 = 74;
+/// How many VLAN ids there are.
+pub const VLAN_IDS: u32 = 4095;
+/// The metrics are the numbers below it.
+pub const METRICS: u32 = 1000;
+/// The most devices of a workload.
+pub const MAX_DEVICES: u32 = 100;
+/// The table that the rules look routes up in.
+pub const RULE_TABLE: u32 = 100;
+/// The MTU that the second document states of each device, in bytes.
+pub const RAISED_MTU: u32 = 9000;
+
+/// A device, with the numbers that were drawn for it.
+#[derive(Clone, Copy, Debug, PartialEq, Eq)]
+pub struct Device {
+    /// From 1.
+    pub number: u8,
+    /// The VLAN id.
+    pub id: u16,
+    pub metric: u32,
+}
+
+/// The trees of a workload.
+#[derive(Debug, PartialEq, Eq, Drop)]
+pub struct Inputs {
+    /// A hardware list.
+    pub hardware: Tree,
+    /// The document that builds all over the devices.
+    pub first: Tree,
+    /// The document that changes it.
+    pub second: Tree,
+}
