@@ -1,5 +1,5 @@
 -- What clap's getters give, by the rows that were found.
-use Rattle.std.proofs.Common.{◌≡◌, ◌∙◌, ◌^◌, ℕ, Bool, true, false, [], ◌∷◌, ap, refl, lt-ltb, ltb-true, codes, Option, Some, None, Result, Ok, Err, length, option_map, unwrap_or}
+use Rattle.std.proofs.Common.{◌≡◌, ◌∙◌, ◌^◌, ℕ, Bool, true, false, [], ◌∷◌, ap, refl, lt-ltb, ltb-true, codes, Option, Some, None, Result, Ok, Err, length, option_map}
 use Rattle.std.specs.Prelude.{nat_lt, option_and_then}
 use Rattle.std.specs.Option.{option_map_or}
 use Rattle.std.specs.List.{list_all}
@@ -10,8 +10,7 @@ use Rattle.std.specs.Borrow.{Bor}
 use Rattle.clap.specs.Words.{ReadsOne, Text, first_of, first_value, one_text, rows_of}
 use Rattle.clap.specs.declared.parser.matches.Found.{Found}
 use Rattle.clap.proofs.WalkLemmas.{both, first_value-rows, one_text-rows}
-use Rattle.command_words.specs.declared.command.TheConstants.{DEFAULT_TIMEOUT}
-use Rattle.command_words.specs.Words.{is_number, is_set, number_of, timeout_in}
+use Rattle.command_words.specs.Words.{is_number, is_set, number_in, number_of}
 
 -- the text that was found
 pub text_found : (name : Text) (found : Found) (text : Option (Bor Text)) → option_map (λ s. s.now) text ≡ first_value found name → option_map (λ s. s.now) text ≡ first_of name (rows_of found)
@@ -53,13 +52,13 @@ number_read G parses text None read = go (is_number (without_leading_plus text))
         let inner = both _ _ outer.0 in
         absurd (parses text (Err read.0) read.1 ((ltb-true _ _ inner.0, digits_from (without_leading_plus text) inner.1), ltb-true _ _ outer.1))
 
--- the number after --timeout
-pub timeout_found : {E : Type 0} (G : Text → Result ℕ E → Type 0) → ((t : Text) (r : Result ℕ E) → G t r → ParsesUnsigned 32 10 t r) → (found : Found) (number : Option ℕ)
-    → (one_text found (codes "timeout") ≡ None → number ≡ None) → ((t : Text) → one_text found (codes "timeout") ≡ Some t → ReadsOne G t number)
-    → unwrap_or number DEFAULT_TIMEOUT ≡ timeout_in (rows_of found)
-timeout_found G parses found number none value =
-    ap (λ (o : Option ℕ). unwrap_or o DEFAULT_TIMEOUT) (go (one_text found (codes "timeout")) refl ∙ ap (λ (o : Option Text). option_and_then number_of o) (one_text-rows found (codes "timeout")))
+-- the number of an argument
+pub number_found : {E : Type 0} (G : Text → Result ℕ E → Type 0) → ((t : Text) (r : Result ℕ E) → G t r → ParsesUnsigned 32 10 t r) → (name : Text) (found : Found) (number : Option ℕ)
+    → (one_text found name ≡ None → number ≡ None) → ((t : Text) → one_text found name ≡ Some t → ReadsOne G t number)
+    → number ≡ number_in name (rows_of found)
+number_found G parses name found number none value =
+    go (one_text found name) refl ∙ ap (λ (o : Option Text). option_and_then number_of o) (one_text-rows found name)
   where
-    go : (text : Option Text) → one_text found (codes "timeout") ≡ text → number ≡ option_and_then number_of (one_text found (codes "timeout"))
+    go : (text : Option Text) → one_text found name ≡ text → number ≡ option_and_then number_of (one_text found name)
     go None is = rw is (none is)
     go (Some t) is = rw is (number_read G parses t number (value t is))

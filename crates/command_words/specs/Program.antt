@@ -5,6 +5,7 @@ use Rattle.clap.specs.declared.builder.arg.Arg.{Arg}
 use Rattle.clap.specs.declared.builder.command.Command.{Command}
 use Rattle.clap.specs.declared.builder.command.Command.TheViews.{out-Command as fields_of}
 use Rattle.clap.specs.declared.builder.ArgAction.TheVariants.{Set, SetTrue}
+use Rattle.command_words.specs.declared.command.TheConstants.{MIN_DEVICES, MAX_DEVICES}
 use Rattle.clap.specs.declared.builder.value_parser.ValueParser.TheVariants as vp
 
 -- --NAME
@@ -32,6 +33,18 @@ file_app name = with_rule (new_app name) (new_rule (codes "FILE"))
 abbrev pub apply_app : App
 apply_app = with_rule (with_rule (with_rule (file_app (codes "apply")) (flag (codes "no-commit"))) (flag (codes "no-verify"))) timeout
 
+-- N, from 1 to 100
+abbrev pub device_count : Rule
+device_count = record (new_rule (codes "N")) { required = true; parser = Some (vp.Signed (pos MIN_DEVICES) (pos MAX_DEVICES)) }
+
+-- SEED, from 0 to 4294967295
+abbrev pub seed : Rule
+seed = record (new_rule (codes "SEED")) { required = true; parser = Some (vp.Signed (pos 0) (pos 4294967295)) }
+
+-- generate N SEED
+abbrev pub generate_app : App
+generate_app = with_rule (with_rule (new_app (codes "generate")) device_count) seed
+
 abbrev pub program : App
 program = record (new_app (codes "nmstatectl")) { top = record (new_app (codes "nmstatectl")).top { subcommand_required = true; disable_help_subcommand = true } }
 
@@ -45,9 +58,12 @@ with_documents = and (and (and program show_app) apply_app) (file_app (codes "pl
 abbrev pub with_checkpoint : App
 with_checkpoint = and (and (and with_documents (new_app (codes "commit"))) (new_app (codes "rollback"))) (new_app (codes "recover"))
 
+abbrev pub with_lists : App
+with_lists = and (and with_checkpoint (file_app (codes "init"))) (file_app (codes "script"))
+
 -- the whole command line
 abbrev pub command_line : App
-command_line = and (and with_checkpoint (file_app (codes "init"))) (file_app (codes "script"))
+command_line = and with_lists generate_app
 
 -- ---- clap's own values that stand for these
 

@@ -5,6 +5,12 @@ use base_model::Str;
 /// How long `apply` waits for a commit where no `--timeout` is given, in seconds.
 pub const DEFAULT_TIMEOUT: u32 = 60;
 
+/// The fewest devices of a generated workload.
+pub const MIN_DEVICES: u32 = 1;
+
+/// The most devices of a generated workload.
+pub const MAX_DEVICES: u32 = 100;
+
 /// A command with its arguments. A FILE that is missing is standard input.
 #[derive(Debug, PartialEq, Eq, Drop)]
 pub enum Command {
@@ -30,5 +36,10 @@ pub enum Command {
     },
     Script {
         file: Option<Str>,
+    },
+    Generate {
+        /// From `MIN_DEVICES` to `MAX_DEVICES`.
+        devices: u32,
+        seed: u32,
     },
 }

@@ -1,10 +1,10 @@
 //! The command in what `clap` found.
 ghost use Rattle.std.specs.Prelude.{◌≡◌, IfOk};
 ghost use Rattle.clap.specs.Words.{first_of, found_of, rows_of, subcommand_rows_of};
-ghost use Rattle.command_words.specs.Words.{is_set, timeout_in, show_in, apply_in, file_command, command_named, named};
+ghost use Rattle.command_words.specs.Words.{is_set, number_in, timeout_in, devices_in, seed_in, generate_in, show_in, apply_in, file_command, command_named, named};
 
 use crate::words::lone_word;
-use crate::{Command, DEFAULT_TIMEOUT};
+use crate::{Command, DEFAULT_TIMEOUT, MAX_DEVICES, MIN_DEVICES};
 use base_model::Str;
 use clap::ArgMatches;
 use std::alloc::{AllocError, Global};
@@ -28,10 +28,39 @@ fn is_set(name: &str, matches: &ArgMatches<'_>) -> bool
     }
 }
 
+// The number of an argument, if it was given.
+fn number(name: &str, matches: &ArgMatches<'_>) -> Option<u32>
+    ensures { result ≡ number_in name.now (rows_of (found_of matches.now)) }
+{
+    matches.get_one::<u32>(name)
+}
+
 fn timeout(matches: &ArgMatches<'_>) -> u32
     ensures { result ≡ timeout_in (rows_of (found_of matches.now)) }
 {
-    matches.get_one::<u32>("timeout").unwrap_or(DEFAULT_TIMEOUT)
+    number("timeout", matches).unwrap_or(DEFAULT_TIMEOUT)
+}
+
+fn devices(matches: &ArgMatches<'_>) -> u32
+    ensures { result ≡ devices_in (rows_of (found_of matches.now)) }
+{
+    let count = number("N", matches).unwrap_or(MIN_DEVICES);
+    count.clamp(MIN_DEVICES, MAX_DEVICES)
+}
+
+fn seed(matches: &ArgMatches<'_>) -> u32
+    ensures { result ≡ seed_in (rows_of (found_of matches.now)) }
+{
+    number("SEED", matches).unwrap_or(0)
+}
+
+fn generate(matches: &ArgMatches<'_>) -> Command
+    ensures { result ≡ generate_in (rows_of (found_of matches.now)) }
+{
+    Command::Generate {
+        devices: devices(matches),
+        seed: seed(matches),
+    }
 }
 
 fn show(alloc: Global, matches: &ArgMatches<'_>) -> Result<Command, AllocError>
@@ -90,6 +119,9 @@ fn command_named(
     }
     if name == "apply" {
         return Ok(Some(apply(alloc, matches)?));
+    }
+    if name == "generate" {
+        return Ok(Some(generate(matches)));
     }
     file_command(alloc, name, matches)
 }

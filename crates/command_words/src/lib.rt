@@ -14,7 +14,7 @@ mod found;
 // The command of the words.
 mod words;
 
-pub use command::{Command, DEFAULT_TIMEOUT};
+pub use command::{Command, DEFAULT_TIMEOUT, MAX_DEVICES, MIN_DEVICES};
 pub use words::{command_of, lone};
 
 #[cfg(test)]

@@ -1,8 +1,9 @@
 //! The command line, as `clap` takes it.
 ghost use Rattle.std.specs.Prelude.{IfOk};
-ghost use Rattle.command_words.specs.Program.{IsArg, IsLine, flag, timeout, show_app, file_app, apply_app, program, with_documents, with_checkpoint, command_line};
+ghost use Rattle.command_words.specs.Program.{IsArg, IsLine, flag, timeout, show_app, file_app, apply_app, device_count, seed, generate_app, program, with_documents, with_checkpoint, with_lists, command_line};
 ghost use Rattle.clap.specs.Words.{new_app, new_rule};
 
+use crate::{MAX_DEVICES, MIN_DEVICES};
 use clap::{Arg, ArgAction, Command, value_parser};
 use std::alloc::{AllocError, Global};
 
@@ -57,6 +58,31 @@ fn apply_line<'a>(alloc: Global) -> Result<Command<'a>, AllocError>
     verify.arg(timeout(alloc))
 }
 
+// N
+fn device_count<'a>(alloc: Global) -> Arg<'a>
+    ensures { IsArg device_count result }
+{
+    let parser = value_parser!(u32).range(MIN_DEVICES as i64..=MAX_DEVICES as i64);
+    positional(alloc, "N").required(true).value_parser(parser)
+}
+
+// SEED
+fn seed<'a>(alloc: Global) -> Arg<'a>
+    ensures { IsArg seed result }
+{
+    positional(alloc, "SEED")
+        .required(true)
+        .value_parser(value_parser!(u32))
+}
+
+// generate N SEED
+fn generate_line<'a>(alloc: Global) -> Result<Command<'a>, AllocError>
+    ensures { IfOk result (IsLine generate_app) }
+{
+    let line = Command::new(alloc, "generate").arg(device_count(alloc))?;
+    line.arg(seed(alloc))
+}
+
 // A command without arguments.
 fn bare_line<'a>(alloc: Global, name: &'a str) -> Command<'a>
     ensures { IsLine (new_app name.entry.now) result }
@@ -90,11 +116,18 @@ fn with_checkpoint<'a>(alloc: Global) -> Result<Command<'a>, AllocError>
     rollback.subcommand(bare_line(alloc, "recover"))
 }
 
-/// The whole command line.
-pub fn command_line<'a>(alloc: Global) -> Result<Command<'a>, AllocError>
-    ensures { IfOk result (IsLine command_line) }
+fn with_lists<'a>(alloc: Global) -> Result<Command<'a>, AllocError>
+    ensures { IfOk result (IsLine with_lists) }
 {
     let checkpoint = with_checkpoint(alloc)?;
     let init = checkpoint.subcommand(file_line(alloc, "init")?)?;
     init.subcommand(file_line(alloc, "script")?)
+}
+
+/// The whole command line.
+pub fn command_line<'a>(alloc: Global) -> Result<Command<'a>, AllocError>
+    ensures { IfOk result (IsLine command_line) }
+{
+    let lists = with_lists(alloc)?;
+    lists.subcommand(generate_line(alloc)?)
 }

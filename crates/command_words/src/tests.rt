@@ -69,6 +69,27 @@ fn reads_commands_with_their_options(rt: HostRuntime) -> Result<(), Fail> {
             },
         ),
         (
+            "generate 1 0",
+            Command::Generate {
+                devices: 1,
+                seed: 0,
+            },
+        ),
+        (
+            "generate 100 4294967295",
+            Command::Generate {
+                devices: 100,
+                seed: 4_294_967_295,
+            },
+        ),
+        (
+            "generate 007 +5",
+            Command::Generate {
+                devices: 7,
+                seed: 5,
+            },
+        ),
+        (
             "apply --no-commit net.yml",
             Command::Apply {
                 file: text(alloc, "net.yml")?,
@@ -142,7 +163,7 @@ fn keeps_the_word_of_show(rt: HostRuntime) -> Result<(), Fail> {
     Ok(())
 }
 
-static REFUSED: [&str; 23] = [
+static REFUSED: [&str; 33] = [
     "",
     "-",
     "frobnicate",
@@ -166,6 +187,16 @@ static REFUSED: [&str; 23] = [
     "apply --timeout 5 --timeout 6",
     "apply --no-commit --no-commit",
     "apply --no-verify=true",
+    "generate",
+    "generate 2",
+    "generate 2 1 3",
+    "generate 0 1",
+    "generate 101 1",
+    "generate 2 4294967296",
+    "generate -1 1",
+    "generate 2 -1",
+    "generate two 1",
+    "generate 2 one",
 ];
 
 #[test]

@@ -1,6 +1,6 @@
 //! The command of the words.
 ghost use Rattle.std.specs.Prelude.{◌≡◌, ◌↔◌, None, map, string_bytes, IfOk, OnErr};
-ghost use Rattle.command_words.specs.Words.{lone_word, lone, by_clap, command_of, IsUsage};
+ghost use Rattle.command_words.specs.Words.{lone_word, lone, by_clap, command_of, InRange, IsUsage};
 
 use crate::Command;
 use crate::found::command_found;
@@ -56,6 +56,7 @@ fn by_clap(alloc: Global, words: &[String]) -> Result<Option<Command>, OutOfMemo
 /// know.
 pub fn command_of(alloc: Global, words: &[String]) -> Result<Option<Command>, OutOfMemory>
     ensures command { IfOk result (λ command. command ≡ command_of (map string_bytes words.now)) }
+    ensures range { IfOk result InRange }
     ensures usage { IfOk result (λ command. (command ≡ None) ↔ IsUsage (map string_bytes words.now)) }
     ensures memory { OnErr result (lone (map string_bytes words.now) ≡ None) }
 {

@@ -1,15 +1,18 @@
 -- Which words are no command, and which are read without clap.
-use Rattle.std.proofs.Common.{◌≡◌, ◌≢◌, ◌∙◌, ◌↔◌, Bool, cond, true, false, true≢false, List, [], ◌∷◌, ap, sym, refl, Option, Some, None, is_some, option_map, find}
+use Rattle.std.proofs.Common.{◌≡◌, ◌≢◌, ◌∙◌, ◌↔◌, ◌≤◌, ℕ, Bool, cond, true, false, true≢false, List, [], ◌∷◌, ap, sym, refl, subst, arith, codes, max, min, unwrap_or, Option, Some, None, is_some, option_map, find}
 use Rattle.std.specs.Prelude.{⊤}
 use Rattle.std.specs.Option.{option_or}
+use Rattle.std.specs.Str.{bytes_eq}
 use Rattle.clap.specs.Words.{Kinds, Row, Shape, Text, built, fault_of, subcommand_of}
 use Rattle.clap.specs.Walk.{Held, Names, answers_to, finished, nothing_held, settled, stop_after, walk, walk_from}
 use Rattle.clap.specs.Simple.{argument_words, entered, label_of, names_of, rows_at}
 use Rattle.clap.specs.Faults.{check_fault, defaults_fault, entered_fault, level_fault, settle_fault, walk_fault}
 use Rattle.clap.specs.Kinds.{or_else}
+use Rattle.command_words.specs.declared.command.TheConstants.{MIN_DEVICES, MAX_DEVICES}
 use Rattle.command_words.specs.declared.command.Command.{Command}
+use Rattle.command_words.specs.declared.command.Command.TheVariants.{Plan, Commit, Rollback, Recover, Init, Script}
 use Rattle.command_words.specs.Program.{command_line}
-use Rattle.command_words.specs.Words.{IsUsage, by_clap, command_named, command_of, for_clap, lone, named, unless_fault}
+use Rattle.command_words.specs.Words.{InRange, IsUsage, apply_in, by_clap, command_named, command_of, file_command, file_in, for_clap, generate_in, lone, lone_word, named, number_in, show_in, unless_fault}
 
 -- the single words are their commands
 pub lone_is : (words : List Text) (command : Command) → lone words ≡ Some command → command_of words ≡ Some command
@@ -50,7 +53,7 @@ AreNamed [] = ⊤
 AreNamed (s ∷ subs) = IsNamed s × AreNamed subs
 
 all_named : AreNamed (built command_line).subs
-all_named = ((λ rows. refl), ((λ rows. refl), ((λ rows. refl), ((λ rows. refl), ((λ rows. refl), ((λ rows. refl), ((λ rows. refl), ((λ rows. refl), tt))))))))
+all_named = ((λ rows. refl), ((λ rows. refl), ((λ rows. refl), ((λ rows. refl), ((λ rows. refl), ((λ rows. refl), ((λ rows. refl), ((λ rows. refl), ((λ rows. refl), tt)))))))))
 
 one_named : (words : List Text) (s : Shape) (rest : Option Shape) → IsNamed s
     → (is_some (option_map (λ s. rows_at s words) rest) ≡ true → is_some (named (option_map (λ s. rows_at s words) rest)) ≡ true) → (b : Bool)
@@ -98,3 +101,52 @@ usage_exactly words = go (lone words)
 -- the same of a command that is the words'
 pub usage_of : (words : List Text) (command : Option Command) → command ≡ command_of words → (command ≡ None) ↔ IsUsage words
 usage_of words command is = (λ none. (usage_exactly words).0 (sym is ∙ none), λ usage. is ∙ (usage_exactly words).1 usage)
+
+-- ---- ranges
+
+bounded : (n : ℕ) → (MIN_DEVICES ≤ max MIN_DEVICES (min n MAX_DEVICES)) × (max MIN_DEVICES (min n MAX_DEVICES) ≤ MAX_DEVICES)
+bounded n = (omega arith, omega arith)
+
+-- the first of three that passes, or the last
+of_three : (a b c : Bool) (w x y z : Option Command) → InRange w → InRange x → InRange y → InRange z → InRange (cond a w (cond b x (cond c y z)))
+of_three true b c w x y z p q r s = p
+of_three false true c w x y z p q r s = q
+of_three false false true w x y z p q r s = r
+of_three false false false w x y z p q r s = s
+
+word_in_range : (word : Text) → InRange (lone_word word)
+word_in_range word =
+    of_three (bytes_eq word (codes "commit")) (bytes_eq word (codes "rollback")) (bytes_eq word (codes "recover")) (Some Commit) (Some Rollback) (Some Recover) None tt tt tt tt
+
+lone_in_range : (words : List Text) → InRange (lone words)
+lone_in_range [] = tt
+lone_in_range (word ∷ []) = word_in_range word
+lone_in_range (word ∷ next ∷ words) = tt
+
+file_in_range : (name : Text) (rows : List Row) → InRange (file_command name rows)
+file_in_range name rows =
+    of_three (bytes_eq name (codes "plan")) (bytes_eq name (codes "init")) (bytes_eq name (codes "script")) (Some (Plan (file_in rows))) (Some (Init (file_in rows))) (Some (Script (file_in rows)))
+    (lone_word name) tt tt tt (word_in_range name)
+
+named_in_range : (found : Option (Text × List Row)) → InRange (named found)
+named_in_range None = tt
+named_in_range (Some (name, rows)) =
+    of_three (bytes_eq name (codes "show")) (bytes_eq name (codes "apply")) (bytes_eq name (codes "generate")) (Some (show_in rows)) (Some (apply_in rows)) (Some (generate_in rows))
+    (file_command name rows) tt tt (bounded (unwrap_or (number_in (codes "N") rows) MIN_DEVICES)) (file_in_range name rows)
+
+clap_in_range : (kinds : Kinds) (words : List Text) → InRange (unless_fault kinds words)
+clap_in_range [] words = named_in_range (subcommand_of command_line words)
+clap_in_range (k ∷ kinds) words = tt
+
+either_in_range : (o more : Option Command) → InRange o → InRange more → InRange (option_or o more)
+either_in_range None more is later = later
+either_in_range (Some command) more is later = is
+
+-- a workload that the words ask for has a number of devices within the range
+pub in_range : (words : List Text) → InRange (command_of words)
+unfolding command_of
+in_range words = either_in_range (lone words) (by_clap words) (lone_in_range words) (clap_in_range (fault_of command_line (for_clap words)) (for_clap words))
+
+-- the same of a command that is the words'
+pub in_range_of : (words : List Text) (command : Option Command) → command ≡ command_of words → InRange command
+in_range_of words command is = subst InRange (sym is) (in_range words)
