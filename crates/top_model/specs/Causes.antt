@@ -13,7 +13,7 @@ use Rattle.engine_model.specs.declared.Left.TheVariants.{NotBegun, RolledBack}
 use Rattle.command_words.specs.Words.{lone}
 use Rattle.command_words.specs.declared.Command.TheVariants.{Commit, Rollback, Recover}
 use Rattle.top_model.specs.Said.{Said, printed, planned, committed}
-use Rattle.top_model.specs.Orders.{Order, showing, planning, applying, committing, rolling_back, recovering, making}
+use Rattle.top_model.specs.Orders.{Order, showing, planning, applying, committing, rolling_back, recovering, making, generating}
 use Rattle.top_model.specs.Machine.{machine_of}
 use Rattle.top_model.specs.Runs.{Run, reads, reads_after, HostRose, SourceRose}
 use Rattle.top_model.specs.Told.{Answer}
@@ -155,6 +155,11 @@ OfInit (HostFault NotBegun) = Unit {0}
 OfInit OutOfMemory = Unit {0}
 OfInit cause = ⊥
 
+abbrev pub OfGenerate : Cause → Type 0
+OfGenerate (MergeRefused refused) = Unit {0}
+OfGenerate OutOfMemory = Unit {0}
+OfGenerate cause = ⊥
+
 -- of what is refused before any call on the host, `Refuses` says it
 abbrev pub MayAnswer : Result Order Cause → Answer → Type 0
 MayAnswer order (Ok said) = Unit {0}
@@ -165,6 +170,7 @@ MayAnswer (Ok committing) (Err cause) = OfCommit cause
 MayAnswer (Ok rolling_back) (Err cause) = OfRollback cause
 MayAnswer (Ok recovering) (Err cause) = OfRecover cause
 MayAnswer (Ok (making links)) (Err cause) = OfInit cause
+MayAnswer (Ok (generating devices first second)) (Err cause) = OfGenerate cause
 MayAnswer (Err refusal) (Err cause) = Unit {0}
 
 -- ---- when each of them comes
@@ -187,11 +193,13 @@ pub record Plans (r : Run) (doc : Doc) (said : Said) : Type 0 where
   pub merges : merge from doc ≡ Ok to
   pub is_said : said ≡ planned from to
 
--- what is done; a commit is the machine's, and an apply that verifies dumped the merge of the network that was saved
+-- what is done; a commit is the machine's, and so is a workload, on every host; an apply that verifies dumped the merge of the
+-- network that was saved
 abbrev pub IsDoneAs : Run → Order → Said → Type 0
 IsDoneAs r (showing only json) said = Prints r only json said
 IsDoneAs r (planning doc) said = Plans r doc said
 IsDoneAs r committing said = r.host_tells → expected r (Ok committing) ≡ Ok said
+IsDoneAs r (generating devices first second) said = expected r (Ok (generating devices first second)) ≡ Ok said
 IsDoneAs r order said = r.host_tells → IsVerified r (Ok order)
 
 -- the host reads as before
@@ -202,6 +210,11 @@ abbrev pub LooksOnly : Run → Order → Type 0
 LooksOnly r (planning doc) = StaysRead r
 LooksOnly r order = Unit {0}
 
+-- a rule is broken on the network that was dumped last, or in a workload on one that its host had
+abbrev pub BrokeRule : Run → Order → Refused → Type 0
+BrokeRule r (generating devices first second) refused = expected r (Ok (generating devices first second)) ≡ Err (MergeRefused refused)
+BrokeRule r order refused = (r.host_tells → BreaksRule r (Ok order) refused) × LooksOnly r order
+
 -- of what was asked of the host
 abbrev pub Ends : Run → Order → Answer → Type 0
 Ends r order (Ok said) = IsDoneAs r order said
@@ -211,7 +224,7 @@ Ends r order (Err (Pending deadline)) = RefusedAs r (Ok order) (Pending deadline
 Ends r order (Err NoCheckpoint) = RefusedAs r (Ok order) NoCheckpoint
 Ends r order (Err (Unfinished since deadline)) = RefusedAs r (Ok order) (Unfinished since deadline)
 Ends r order (Err (Expired since deadline)) = RefusedAs r (Ok order) (Expired since deadline)
-Ends r order (Err (MergeRefused refused)) = (r.host_tells → BreaksRule r (Ok order) refused) × LooksOnly r order
+Ends r order (Err (MergeRefused refused)) = BrokeRule r order refused
 Ends r order (Err (HostFault left)) = HostRose r × IsLeft r order left
 Ends r order (Err InDoubt) = HostRose r × (r.host_tells → IsDoubted r (Ok order))
 Ends r order (Err (KernelRefused k n left)) = WasRefused k n r.host.kernel r.host_after.kernel

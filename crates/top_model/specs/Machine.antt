@@ -1,11 +1,14 @@
 -- The command machine: what each order answers where no fault comes, and what stands after it.
-use Rattle.std.specs.Prelude.{ℕ, List, [], length, Option, Some, None, Result, Ok, Err}
-use Rattle.net_model.specs.NetData.{NetData, net_of, no_dns, ordered}
+use Rattle.std.specs.Prelude.{ℕ, List, length, Option, Some, None, Result, Ok, Err}
+use Rattle.net_model.specs.NetData.{NetData}
 use Rattle.net_model.specs.declared.Link.{Link}
 use Rattle.document_model.specs.declared.Refused.{Refused}
+use Rattle.document_model.specs.declared.Doc.{Doc}
 use Rattle.engine_model.specs.Merge.{merge}
 use Rattle.checkpoint_cell.specs.Settled.{Standing, restored_to}
 use Rattle.engine_model.specs.Machine.{Outcome, stays, asked, apply, commit, rollback, recover}
+use Rattle.scenario_model.specs.Asking.{both_merged}
+pub use Rattle.scenario_model.specs.Asking.{first_net}
 use Rattle.engine_model.specs.declared.Left.TheVariants.{NotBegun}
 use Rattle.engine_model.specs.declared.ApplyFault.{ApplyFault}
 use Rattle.engine_model.specs.declared.ApplyFault.TheVariants as ap
@@ -13,8 +16,8 @@ use Rattle.engine_model.specs.declared.CommitFault.{CommitFault}
 use Rattle.engine_model.specs.declared.CommitFault.TheVariants as co
 use Rattle.engine_model.specs.declared.BackFault.{BackFault}
 use Rattle.engine_model.specs.declared.BackFault.TheVariants as ba
-use Rattle.top_model.specs.Said.{Said, printed, planned, committed, rolled_back, made, said_applied, said_recovered}
-use Rattle.top_model.specs.Orders.{Order, showing, planning, applying, committing, rolling_back, recovering, making}
+use Rattle.top_model.specs.Said.{Said, printed, planned, committed, rolled_back, made, summed, said_applied, said_recovered}
+use Rattle.top_model.specs.Orders.{Order, showing, planning, applying, committing, rolling_back, recovering, making, generating}
 use Rattle.top_model.specs.declared.report.Cause.{Cause}
 use Rattle.top_model.specs.declared.report.Cause.TheVariants.{MergeRefused, Pending, NoCheckpoint, Unfinished, Expired, Exists, HostFault, InDoubt, KernelRefused, NotVerified, Damaged, HardwareDiffers, OutOfMemory}
 
@@ -66,12 +69,15 @@ plan_to from (Err refused) = Err (MergeRefused refused)
 
 -- ---- the first network: these devices, down, and nothing else
 
-abbrev pub first_net : List Link → NetData
-first_net links = ordered (net_of links [] [] no_dns)
-
 abbrev pub make_on : List Link → Standing → Option NetData → Outcome Said Cause
 make_on links e None = record { answer = Ok (made (length links)); after = restored_to (first_net links) }
 make_on links e (Some net) = stays e (Err Exists)
+
+-- ---- a workload, on a host of its own: both documents are merged, one after the other
+
+abbrev pub sum_up : List Link → Doc → Doc → Result NetData Refused → Result Said Cause
+sum_up devices first second (Ok last) = Ok (summed devices first second)
+sum_up devices first second (Err refused) = Err (MergeRefused refused)
 
 -- ---- each order
 
@@ -83,6 +89,7 @@ machine now committing e = told_of (λ x. committed) commit_cause (commit now e)
 machine now rolling_back e = told_of (λ x. rolled_back) back_cause (rollback e)
 machine now recovering e = told_of said_recovered back_cause (recover now e)
 machine now (making links) e = make_on links e e.net
+machine now (generating devices first second) e = stays e (sum_up devices first second (both_merged (first_net devices) first second))
 
 -- words and inputs that are refused give their refusal, and all stays
 abbrev pub machine_of : ℕ → Result Order Cause → Standing → Outcome Said Cause

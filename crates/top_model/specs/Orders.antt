@@ -1,5 +1,5 @@
 -- What is asked: the command of the words, with what was read for it.
-use Rattle.std.specs.Prelude.{ℕ, ◌+◌, List, [], ◌∷◌, Bool, false, ◌||◌, ◌&&◌, ◌==◌, take, is_none, Option, Some, None, Result, Ok, Err, codes, if◌then◌else◌, unwrap_or}
+use Rattle.std.specs.Prelude.{ℕ, ◌+◌, List, [], ◌∷◌, Bool, false, ◌||◌, ◌&&◌, ◌==◌, take, length, nat_lt, is_none, Option, Some, None, Result, Ok, Err, codes, if◌then◌else◌, unwrap_or}
 use Rattle.base_model.specs.declared.Path.{Path}
 use Rattle.net_model.specs.declared.Link.{Link}
 use Rattle.document_model.specs.declared.Doc.{Doc}
@@ -7,14 +7,18 @@ use Rattle.doc_tree.specs.Shape.{Shape}
 use Rattle.doc_tree.specs.JsonTree.{json_tree}
 use Rattle.doc_tree.specs.declared.limits.TheConstants.{MAX_BYTES}
 use Rattle.yaml_read.specs.Reading.{reading}
+use Rattle.yaml_read.specs.declared.fault.YamlFault.TheVariants.{TooLarge}
+use Rattle.yaml_text.specs.Layout.{yaml_text_of}
 use Rattle.tree_schema.specs.Faults.{told}
 use Rattle.link_schema.specs.Hardware.{hardware}
 use Rattle.route_schema.specs.Document.{document as parts_of, doc as with_notes}
 use Rattle.tree_schema.specs.declared.SchemaFault.{SchemaFault}
 use Rattle.engine_model.specs.declared.ApplyOpts.{ApplyOpts}
+use Rattle.scenario_model.specs.Draws.{devices}
+use Rattle.scenario_model.specs.Trees.{hardware_tree, first_tree, second_tree}
 use Rattle.command_words.specs.Words.{command_of}
 use Rattle.command_words.specs.declared.Command.{Command}
-use Rattle.command_words.specs.declared.Command.TheVariants.{Show, Plan, Apply, Commit, Rollback, Recover, Init, Script}
+use Rattle.command_words.specs.declared.Command.TheVariants.{Show, Plan, Apply, Commit, Rollback, Recover, Init, Script, Generate}
 use Rattle.top_model.specs.declared.report.DocFault.{DocFault}
 use Rattle.top_model.specs.declared.report.DocFault.TheVariants.{Json, Yaml, Schema}
 use Rattle.top_model.specs.declared.report.Cause.{Cause}
@@ -35,6 +39,8 @@ pub data Order : Type 0 where
   rolling_back : Order
   recovering : Order
   making : List Link → Order
+  -- what a generated workload is: its devices and its two documents
+  generating : List Link → Doc → Doc → Order
 
 -- ---- documents and hardware lists
 
@@ -67,6 +73,32 @@ document bytes = and_then (tree_of bytes) (λ tree. with_fault Schema (document_
 
 unfoldable pub hardware_list : Text → Result (List Link) Cause
 hardware_list bytes = and_then (tree_of bytes) (λ tree. with_fault Schema (hardware_of_tree tree))
+
+-- ---- generated workloads
+
+-- a tree that is printed in YAML and read again is the same, unless its text passes the limit of bytes
+unfoldable pub reprinted : Shape → Result Shape Cause
+reprinted tree = if nat_lt MAX_BYTES (length (yaml_text_of tree)) then Err (DocRefused (Yaml TooLarge)) else Ok tree
+
+abbrev pub reread : {A : Type 0} → (Shape → Result A SchemaFault) → Shape → Result A Cause
+reread schema tree = and_then (reprinted tree) (λ tree. with_fault Schema (schema tree))
+
+-- of so many devices and a seed: the devices, and the two documents
+unfoldable pub generated_devices : ℕ → ℕ → Result (List Link) Cause
+generated_devices count seed = reread hardware_of_tree (hardware_tree (devices seed count))
+
+unfoldable pub generated_first : ℕ → ℕ → Result Doc Cause
+generated_first count seed = reread document_of_tree (first_tree (devices seed count))
+
+unfoldable pub generated_second : ℕ → ℕ → Result Doc Cause
+generated_second count seed = reread document_of_tree (second_tree (devices seed count))
+
+-- all three, or the first refusal
+abbrev pub workload : Result (List Link) Cause → Result Doc Cause → Result Doc Cause → Result Order Cause
+workload links first second = and_then links (λ links. and_then first (λ first. and_then second (λ second. Ok (generating links first second))))
+
+abbrev pub generated : ℕ → ℕ → Result Order Cause
+generated count seed = workload (generated_devices count seed) (generated_first count seed) (generated_second count seed)
 
 -- ---- inputs
 
@@ -101,6 +133,7 @@ order_named in_script inputs (Some Rollback) = Ok rolling_back
 order_named in_script inputs (Some Recover) = Ok recovering
 order_named in_script inputs (Some (Init file)) = and_then (and_then (input in_script inputs file) hardware_list) (λ links. Ok (making links))
 order_named in_script inputs (Some (Script file)) = Err Usage
+order_named in_script inputs (Some (Generate count seed)) = generated count seed
 
 abbrev pub order_of : Bool → Inputs → List Text → Result Order Cause
 order_of in_script inputs words = order_named in_script inputs (command_of words)

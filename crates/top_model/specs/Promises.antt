@@ -1,8 +1,8 @@
 -- What a command promises by its report, and what it writes.
 use Rattle.std.specs.Prelude.{◌≡◌, ◌≢◌, ◌⊎◌, ℕ, [], Some, Result, Ok, Err}
 use Rattle.host_core.specs.Streams.{Appends, AppendsSome}
-use Rattle.command_words.specs.Words.{lone}
-use Rattle.command_words.specs.declared.Command.TheVariants.{Commit}
+use Rattle.command_words.specs.Words.{lone, command_of}
+use Rattle.command_words.specs.declared.Command.TheVariants.{Commit, Generate}
 use Rattle.top_model.specs.Said.{Said, Says}
 use Rattle.top_model.specs.Orders.{Text, Order}
 use Rattle.top_model.specs.Machine.{machine_of}
@@ -43,6 +43,10 @@ RefusedExactly r = (refusal : Cause) → Asks r (Err refusal) → Quiet r → r.
 -- for the one word `commit` memory never runs out
 abbrev pub CommitTakesNone : Run → Type 0
 CommitTakesNone r = lone r.words ≡ Some Commit → (r.report.cause ≢ OutOfMemory) × (r.report.cause ≢ WriteFault 8)
+
+-- a generated workload has a host of its own: the one that is handed in stays the very same, and nothing is read
+abbrev pub StandsApart : Run → Type 0
+StandsApart r = (count seed : ℕ) → command_of r.words ≡ Some (Generate count seed) → r.untouched × (r.source_after ≡ r.source)
 
 -- the status is the one of the cause
 abbrev pub Statuses : Run → Type 0

@@ -10,7 +10,7 @@ use Rattle.engine_model.specs.Stations.{Stands, Entry, Only, Settled, Either, at
 use Rattle.engine_model.specs.Exit.{OnWay, Marked}
 use Rattle.top_model.specs.Exits.{AtExit}
 use Rattle.top_model.specs.Said.{line}
-use Rattle.top_model.specs.Orders.{Text, Inputs, Order, showing, planning, applying, committing, rolling_back, recovering, making}
+use Rattle.top_model.specs.Orders.{Text, Inputs, Order, showing, planning, applying, committing, rolling_back, recovering, making, generating}
 use Rattle.top_model.specs.Lines.{Timed}
 use Rattle.top_model.specs.Runs.{Run, Alone, Quiet, HostRose, HostRoseTwice, SinkRose}
 use Rattle.top_model.specs.Told.{Answer, Told, cause_of, report_of}
@@ -78,6 +78,7 @@ at_exit_more now entry left rose more twice more_twice f (Ok recovering) x = x
 at_exit_more now entry left rose more twice more_twice f (Ok (making links)) x = x
 at_exit_more now entry left rose more twice more_twice f (Ok (showing only json)) x = x
 at_exit_more now entry left rose more twice more_twice f (Ok (planning doc)) x = x
+at_exit_more now entry left rose more twice more_twice f (Ok (generating devices first second)) x = x
 at_exit_more now entry left rose more twice more_twice f (Err refusal) x = x
 
 module _ (u0 u1 u2 honest host_tells source_tells sinks_tell : Type 0) (host hostk hostn : HostView) (source sourcek sourcen : SourceView)
@@ -142,14 +143,14 @@ module _ (u0 u1 u2 honest host_tells source_tells sinks_tell : Type 0) (host hos
     ordered : a.order ≡ script
     ordered = order one a step refl refl refl here tells quiet_one steady_one ∙ ap (λ i. order_in i step) (s.inputs tells)
 
-    -- want of memory was told, with its status
+    -- out of memory was told, with its status
     memory_status : a.answer ≡ Err OutOfMemory → report ≡ report_of OutOfMemory
     memory_status memory = elim a.told.written as (λ v. report ≡ report_of OutOfMemory) [
       | inl all ↦ all.report ∙ ap (λ x. report_of (cause_of x)) memory
       | inr cut ↦ absurd (steady_one cut.rose)
     ]
 
-    -- a step that want of memory ended
+    -- a step that out of memory ended
     cut_short : (steps more : List Timed) → steps ≡ done ++ step ∷ more → r2 ≡ report → a.answer ≡ Err OutOfMemory → IsCutShort whole steps
     cut_short steps more all same memory =
         let f = so_far in

@@ -177,7 +177,7 @@ module _ (r : Run) (a : Answered r) (doc : Doc) (opts : ApplyOpts) (from : NetDa
   settled_is : (s : Standing) → Settled r.now (entry r) s → s ≡ restored_to from
   settled_is s is = same_some s (restored_to from) (sym is ∙ i.stands)
 
-  -- what the answer is, unless a fault or want of memory kept from it
+  -- what the answer is, unless a fault or out of memory kept from it
   told_unless : (c : Cause) → (cause_of a.answer ≡ c) → (r.report.cause ≡ c) ⊎ IsHindered r
   told_unless c is = elim (told_or_cut r a) as (λ v. (r.report.cause ≡ c) ⊎ IsHindered r) [ inl told ↦ inl (told ∙ is) | inr rose ↦ inr (inr (inr (inl rose))) ]
 

@@ -51,7 +51,7 @@ pub not_fault : (r : Run) (order : Result Order Cause) (s : ℕ) → Comes r ord
 not_fault r (Err refusal) s comes = comes.1
 not_fault r (Ok order) s comes = comes
 
--- only what is done has the status 0, and only want of memory 8
+-- only what is done has the status 0, and only out of memory 8
 zero_done : (c : Cause) → status_of c ≡ 0 → c ≡ Done
 zero_done Done e = refl
 zero_done (HostFault left.NotBegun) e = cc
@@ -97,7 +97,7 @@ pub is_done : (r : Run) (order : Result Order Cause) (answer : Answer) → Comes
 is_done r order (Ok said) comes is done = (said, refl)
 is_done r order (Err c) comes is done = absurd (refused_done r order c comes is done)
 
--- ---- want of memory
+-- ---- out of memory
 
 done_memory : (said : Said) → cause_of (Ok said) ≡ OutOfMemory → ⊥
 done_memory said e = cc

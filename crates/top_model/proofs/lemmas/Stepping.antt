@@ -1,4 +1,4 @@
--- A step of a script in which no count rises is the machine's, or ended by want of memory.
+-- A step of a script in which no count rises is the machine's, or ended by out of memory.
 use Rattle.std.proofs.Common.{◌≡◌, ◌∙◌, ◌⊎◌, inl, inr, refl, sym, ap, subst, Bool, true, false, List, Option, Some, None}
 use Rattle.std.specs.Prelude.{Result, Ok, Err}
 use Rattle.net_model.specs.NetData.{NetData}
@@ -8,7 +8,7 @@ use Rattle.engine_model.specs.Machine.{Outcome}
 use Rattle.engine_model.specs.Sound.{Sound}
 use Rattle.engine_model.specs.Faults.{IsOutcome}
 use Rattle.top_model.specs.Said.{Said}
-use Rattle.top_model.specs.Orders.{Inputs, Order, showing, planning, applying, committing, rolling_back, recovering, making, order_of}
+use Rattle.top_model.specs.Orders.{Inputs, Order, showing, planning, applying, committing, rolling_back, recovering, making, generating, order_of}
 use Rattle.top_model.specs.Lines.{Timed}
 use Rattle.top_model.specs.Machine.{make_on, machine_of}
 use Rattle.top_model.specs.Runs.{Run, Alone, Quiet, SinkRose, reads}
@@ -53,6 +53,7 @@ sound_after r (Ok (applying doc opts)) answer sound is kept = kept.sound
 sound_after r (Ok committing) answer sound is kept = kept.sound
 sound_after r (Ok rolling_back) answer sound is kept = kept.sound
 sound_after r (Ok recovering) answer sound is kept = kept.sound
+sound_after r (Ok (generating devices first second)) answer sound is kept = kept.sound
 sound_after r (Err refusal) answer sound is kept = kept.sound
 
 clash : false ≡ true → ⊥
