@@ -1,9 +1,10 @@
 //! The lines of commands that are done, each with its end. They take no memory.
-ghost use Rattle.std.specs.Prelude.{◌≡◌, ◌≤◌, ◌++◌, length, codes, decimal};
-ghost use Rattle.top_model.specs.Said.{Says, line, said_applied, said_recovered, committed, rolled_back, made};
+ghost use Rattle.std.specs.Prelude.{◌≡◌, ◌≤◌, ◌+◌, ◌++◌, length, codes, decimal};
+ghost use Rattle.top_model.specs.Said.{Says, line, said_applied, said_recovered, committed, rolled_back, made, summary_lines};
 
-use crate::line::{Line, push_number};
+use crate::line::{Line, ROOM, push_number};
 use engine_model::{Applied, Recovered};
+use scenario_model::Summary;
 
 // Words, a number and more words.
 fn numbered(words: &'static [u8], number: u64, more: &'static [u8]) -> Line
@@ -67,4 +68,28 @@ pub fn made_line(count: u64) -> Line
     ensures { Says (made count) result }
 {
     numbered(b"made ", count, b" links\n")
+}
+
+// Appends a word and a number.
+fn push_count(lines: &mut Line, word: &'static [u8], number: u64)
+    requires { length lines.old + length word.now + 40 ≤ ROOM }
+    ensures added { lines.new ≡ lines.old ++ word.now ++ decimal number }
+    ensures long { length lines.new ≤ length lines.old + length word.now + 40 }
+{
+    lines.push(word);
+    push_number(lines, number);
+}
+
+/// What is said of a workload: its links, the calls of both changes, and the sums of its VLAN ids and of its metrics.
+pub fn summary_lines(summary: &Summary) -> Line
+    ensures { result ≡ summary_lines summary.now }
+{
+    let mut lines = Line::new();
+    push_count(&mut lines, b"links ", summary.links as u64);
+    push_count(&mut lines, b"\ncalls ", summary.first_calls as u64);
+    push_count(&mut lines, b" ", summary.second_calls as u64);
+    push_count(&mut lines, b"\nids ", summary.ids);
+    push_count(&mut lines, b"\nmetrics ", summary.metrics);
+    lines.push(b"\n");
+    lines
 }

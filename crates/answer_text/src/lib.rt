@@ -22,7 +22,9 @@ mod status;
 #[cfg(test)]
 mod tests;
 
-pub use done::{applied_line, committed_line, made_line, recovered_line, rolled_back_line};
+pub use done::{
+    applied_line, committed_line, made_line, recovered_line, rolled_back_line, summary_lines,
+};
 pub use line::{Line, ROOM, push_number};
 pub use status::write_status;
 pub use telling::{tell_done, tell_refused};

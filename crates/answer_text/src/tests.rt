@@ -5,7 +5,7 @@ ghost use Rattle.net_text.specs.Line.{has_line};
 
 use crate::{
     Line, applied_line, call_text, committed_line, made_line, note_text, recovered_line,
-    rolled_back_line, shown_text, tell_done, tell_refused, write_status,
+    rolled_back_line, shown_text, summary_lines, tell_done, tell_refused, write_status,
 };
 use base_model::{Items, Path, PathStep, Str};
 use doc_tree::JsonFault;
@@ -13,6 +13,7 @@ use document_model::{Place, Refused};
 use engine_model::{Applied, Left, Recovered};
 use host_memory::{Fuse, MemorySink};
 use net_model::{Call, Name, Net};
+use scenario_model::Summary;
 use std::alloc::{AllocError, Global};
 use std::process::Abort;
 use std::test::Fail;
@@ -259,6 +260,23 @@ fn what_is_recovered_is_said(rt: HostRuntime) -> Result<(), Fail> {
     let waiting = Recovered::Waiting { deadline: 160 };
     check_line(&rt, &recovered_line(waiting), "waiting until 160\n");
     check_line(&rt, &recovered_line(Recovered::Restored), "restored\n");
+    Ok(())
+}
+
+#[test]
+fn what_is_counted_is_said(rt: HostRuntime) -> Result<(), Fail> {
+    let summary = Summary {
+        links: 7,
+        first_calls: 20,
+        second_calls: 12,
+        ids: 4223,
+        metrics: 18_446_744_073_709_551_615,
+    };
+    check_line(
+        &rt,
+        &summary_lines(&summary),
+        "links 7\ncalls 20 12\nids 4223\nmetrics 18446744073709551615\n",
+    );
     Ok(())
 }
 
