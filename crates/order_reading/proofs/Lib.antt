@@ -3,3 +3,4 @@ mod Alone
 mod Documents
 mod Readings
 mod Parts
+mod Workloads

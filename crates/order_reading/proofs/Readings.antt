@@ -1,6 +1,6 @@
 -- How the reading of an input, and what is made of its bytes, come together.
-use Rattle.std.proofs.Common.{◌≡◌, ◌≢◌, ◌∙◌, ℕ, List, Bool, true, false, refl, sym, ap, Option, Some, None, Result, Ok, Err}
-use Rattle.std.specs.Prelude.{Vec, if◌then◌else◌}
+use Rattle.std.proofs.Common.{◌≡◌, ◌≢◌, ◌∙◌, ℕ, List, Bool, true, false, refl, sym, ap, subst, Option, Some, None, Result, Ok, Err}
+use Rattle.std.specs.Prelude.{Vec, IsErrOf, if◌then◌else◌}
 use Rattle.std.specs.declared.alloc.Global.{Global}
 use Rattle.host_core.specs.Streams.{SourceView}
 use Rattle.top_model.specs.Orders.{Text, Inputs, and_then, begins_json, with_fault, tree_of, document, hardware_list, document_of_tree, hardware_of_tree}
@@ -87,3 +87,23 @@ module _ {A : Type 0} (tells : Type 0) (first : Inputs → Result Text Cause) (n
 
 pub always : {A : Type 0} (tells : Type 0) (source : SourceView) (defined : Inputs → A) (x : A) → ((inputs : Inputs) → defined inputs ≡ x) → Gives tells source defined x
 always tells source defined x is = (source.inputs, (λ told. refl), is source.inputs)
+
+-- what is the same for all inputs is answered as it is
+pub known : {A B : Type 0} (tells : Type 0) (view : B → A) (defined : Inputs → Result A Cause) (value : Result A Cause) (old new : SourceView) (result : Result B Cause)
+    → ((inputs : Inputs) → defined inputs ≡ value) → Answers view value result → Reads view defined tells old new result
+known tells view defined value old new (Ok x) is h = always tells old defined (Ok (view x)) (λ inputs. is inputs ∙ h)
+known tells view defined value old new (Err (DocRefused fault)) is h = always tells old defined (Err (DocRefused fault)) (λ inputs. is inputs ∙ h)
+known tells view defined value old new (Err (BadLine n)) is h = always tells old defined (Err (BadLine n)) (λ inputs. is inputs ∙ h)
+known tells view defined value old new (Err OutOfMemory) is h = tt
+known tells view defined value old new (Err _) is h = absurd h
+
+-- no source fails where none is read
+pub no_fault : {A B : Type 0} (view : B → A) (value : Result A Cause) (result : Result B Cause) → Answers view value result → IsErrOf result ReadFault → ⊥
+no_fault view value result h is = subst (λ r. Answers view value r) is h
+
+-- a refusal is the same whatever is wanted
+pub refusal_as : {A B C : Type 0} (view : B → A) (other : C → A) (value : Result A Cause) (cause : Cause) → Answers view value (Err cause) → Answers other value (Err cause)
+refusal_as view other value (DocRefused fault) h = h
+refusal_as view other value (BadLine n) h = h
+refusal_as view other value OutOfMemory h = tt
+refusal_as view other value _ h = absurd h

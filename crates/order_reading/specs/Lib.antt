@@ -3,3 +3,4 @@ pub mod Pieces
 pub mod Faults
 pub mod Asked
 pub mod Steps
+pub mod Workload

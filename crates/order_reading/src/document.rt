@@ -53,7 +53,7 @@ fn yaml_cause(fault: YamlFault) -> Cause
 }
 
 // Why a tree is refused.
-fn schema_cause(fault: SchemaFault) -> Cause
+pub(crate) fn schema_cause(fault: SchemaFault) -> Cause
     ensures { result ≡ schema_cause fault }
 {
     match fault {
@@ -71,7 +71,7 @@ fn json_tree(alloc: Global, bytes: &[u8]) -> Result<Tree, Cause>
     }
 }
 
-fn yaml_tree(alloc: Global, bytes: &[u8]) -> Result<Tree, Cause>
+pub(crate) fn yaml_tree(alloc: Global, bytes: &[u8]) -> Result<Tree, Cause>
     ensures { Answers shape (with_fault Yaml (reading bytes.now)) result }
 {
     match tree_of_yaml(alloc, bytes) {

@@ -7,6 +7,8 @@
 mod input;
 // Documents and hardware lists.
 mod document;
+// Generated workloads, as they are read again where they are printed.
+mod workload;
 // The order of the words.
 mod order;
 // One line of a script.

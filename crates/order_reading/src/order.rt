@@ -1,14 +1,16 @@
 //! The order of the words.
-ghost use Rattle.std.specs.Prelude.{◌≡◌, ◌&&◌, true, None, map, string_bytes, IfOk, IsErrOf, IsSome};
+ghost use Rattle.std.specs.Prelude.{◌≡◌, ◌≤◌, ◌&&◌, true, None, map, string_bytes, IfOk, IsErrOf, IsSome};
 ghost use Rattle.document_model.specs.Entries.{is_document, has_short_doc};
-ghost use Rattle.command_words.specs.Words.{lone, command_of};
-ghost use Rattle.top_model.specs.Orders.{and_then, input, document, hardware_list, order_named, order_of};
+ghost use Rattle.command_words.specs.declared.command.TheConstants.{MIN_DEVICES, MAX_DEVICES};
+ghost use Rattle.command_words.specs.Words.{InRange, lone, command_of};
+ghost use Rattle.top_model.specs.Orders.{and_then, input, document, hardware_list, generated, order_named, order_of};
 ghost use Rattle.top_model.specs.declared.Cause.TheVariants.{Usage, ReadFault, OutOfMemory};
-ghost use Rattle.order_reading.specs.Reading.{Reads, GoesOn, Takes, itself};
-ghost use Rattle.order_reading.specs.Asked.{asked, has_right_document, read_there, file_read, TakesFile};
+ghost use Rattle.order_reading.specs.Reading.{Answers, Reads, GoesOn, Takes, itself};
+ghost use Rattle.order_reading.specs.Asked.{asked, has_right_document, read_there, file_read, TakesFile, TakesMemory};
 
 use crate::document::{document_in, hardware_in};
 use crate::input::read_input;
+use crate::workload::generated;
 use base_model::{Items, Str};
 use command_words::{Command, command_of};
 use document_model::Doc;
@@ -38,6 +40,12 @@ pub enum Order {
     Recover,
     Init {
         links: Items<Link>,
+    },
+    /// A workload: its devices, and the documents that are applied on them one after the other.
+    Generate {
+        devices: Items<Link>,
+        first: Doc,
+        second: Doc,
     },
 }
 
@@ -72,6 +80,21 @@ fn read_hardware<S: Source>(
     hardware_in(alloc, bytes.as_slice())
 }
 
+// The order to work on a generated workload.
+fn generated_order(alloc: Global, count: u32, seed: u32) -> Result<Order, Cause>
+    requires least { MIN_DEVICES ≤ count }
+    requires most { count ≤ MAX_DEVICES }
+    ensures order { Answers asked (generated count seed) result }
+    ensures right { IfOk result (λ order. has_right_document order ≡ true) }
+{
+    let workload = generated(alloc, count, seed)?;
+    Ok(Order::Generate {
+        devices: workload.devices,
+        first: workload.first,
+        second: workload.second,
+    })
+}
+
 // The order of a command, with what is read for it.
 fn order_named<S: Source>(
     alloc: Global,
@@ -79,12 +102,13 @@ fn order_named<S: Source>(
     in_script: bool,
     src: &mut S,
 ) -> Result<Order, Cause>
+    requires { InRange command }
     ensures order { Reads asked (λ inputs. order_named in_script inputs command) S.tells (S.told src.old) (S.told src.new) result }
     ensures right { IfOk result (λ order. has_right_document order ≡ true) }
     ensures source { GoesOn S.tells (S.told src.old) (S.told src.new) }
     ensures taken { TakesFile (src.new ≡ src.old) S.tells (S.told src.old) (S.told src.new) (file_read in_script command) result }
     ensures fault { IsErrOf result ReadFault → IsSome (file_read in_script command) }
-    ensures memory { IsErrOf result OutOfMemory → IsSome (file_read in_script command) }
+    ensures memory { IsErrOf result OutOfMemory → TakesMemory command }
 {
     match command {
         None => Err(Cause::Usage),
@@ -118,6 +142,7 @@ fn order_named<S: Source>(
         }
         // It is no order: it has steps of its own.
         Some(Command::Script { .. }) => Err(Cause::Usage),
+        Some(Command::Generate { devices, seed }) => generated_order(alloc, devices, seed),
     }
 }
 

@@ -49,6 +49,7 @@ fn name_of(answer: &Result<Order, Cause>) -> &'static str {
         Ok(Order::Rollback) => "rollback",
         Ok(Order::Recover) => "recover",
         Ok(Order::Init { .. }) => "init",
+        Ok(Order::Generate { .. }) => "generate",
         Err(cause) => name_of_refusal(cause),
     }
 }
@@ -81,6 +82,8 @@ fn reads_orders(rt: HostRuntime) -> Result<(), Fail> {
         ("commit", "", 1, "commit"),
         ("rollback", "", 1, "rollback"),
         ("recover", "", 1, "recover"),
+        ("generate 2 1", "", 1, "generate"),
+        ("generate 0 1", "", 1, "usage"),
     ];
     for (line, text, failing, name) in table {
         let given = words(alloc, line)?;
@@ -101,6 +104,7 @@ fn reads_no_standard_input_in_scripts(rt: HostRuntime) -> Result<(), Fail> {
         ("script file", "usage"),
         ("plan file", "plan"),
         ("commit", "commit"),
+        ("generate 2 1", "generate"),
     ];
     for (line, name) in table {
         let given = words(alloc, line)?;

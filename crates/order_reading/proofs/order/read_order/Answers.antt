@@ -1,12 +1,11 @@
 use Rattle.std.proofs.Common.{map, string_bytes}
-use Rattle.std.specs.Prelude.{IsSome}
 use Rattle.command_words.specs.Words.{command_of}
-use Rattle.order_reading.specs.Asked.{file_read}
-use Rattle.order_reading.proofs.Alone.{reads_more}
+use Rattle.order_reading.specs.Asked.{TakesMemory}
+use Rattle.order_reading.proofs.Alone.{takes_more}
 use Rattle.order_reading.proofs.order.read_order.Goals as goal
 
 pub returns-clause-memory : goal.returns-clause-memory
 returns-clause-memory g c = λ ran_out.
     let words = map string_bytes c.args.words.now in
-    let some = rw c.in_ok-command.ensures.command at c.order_named.ensures.memory ran_out in
-    reads_more c.args.in_script words some
+    let takes = rw c.in_ok-command.ensures.command at c.order_named.ensures.memory ran_out in
+    takes_more words takes
