@@ -34,13 +34,16 @@ use Rattle.command_words.specs.Words.{command_of}
 use Rattle.command_words.specs.declared.Command.{Command}
 use Rattle.command_words.specs.declared.Command.TheVariants as command
 use Rattle.top_model.specs.Orders as model
-use Rattle.top_model.specs.Orders.{Text, Inputs, planning, applying, making, with_fault, tree_of, hardware_of_tree, hardware_list, document, input, opts, order_named, order_of}
+use Rattle.top_model.specs.Orders.{Text, Inputs, planning, applying, making, generating, with_fault, tree_of, hardware_of_tree, hardware_list, document, reprinted, reread, workload, generated_devices, generated_first, generated_second, generated, input, opts, order_named, order_of}
 use Rattle.top_model.specs.declared.report.DocFault.{DocFault}
 use Rattle.top_model.specs.declared.report.DocFault.TheVariants.{Schema}
+use Rattle.scenario_model.specs.Draws.{devices as devices_drawn}
+use Rattle.scenario_model.specs.Trees.{hardware_tree}
+use Rattle.document_model.specs.declared.Doc.{Doc}
 use Rattle.top_model.specs.declared.report.Cause.{Cause}
 use Rattle.order_reading.specs.Asked.{asked}
 use Rattle.order_reading.specs.declared.order.Order.{Order}
-use Rattle.order_reading.specs.declared.order.Order.TheVariants.{Show, Plan, Apply, Commit, Rollback, Recover, Init}
+use Rattle.order_reading.specs.declared.order.Order.TheVariants.{Show, Plan, Apply, Commit, Rollback, Recover, Init, Generate}
 use Rattle.nmstate_top.specs.First.{is_hardware, has_hardware}
 
 -- ---- what holds of the value of a reading
@@ -363,7 +366,25 @@ list_is bytes = if_ok RightLinks (tree_of bytes) (λ tree. with_fault Schema (ha
 
 abbrev RightOrder : model.Order → Type 0
 RightOrder (making links) = is_hardware links ≡ true
+RightOrder (generating devices first second) = is_hardware devices ≡ true
 RightOrder order = Unit {0}
+
+-- a workload's devices are those of a hardware list
+reread_right : (tree : Shape) → IfOk (reread hardware_of_tree tree) RightLinks
+reread_right tree = if_ok RightLinks (reprinted tree) (λ tree. with_fault Schema (hardware_of_tree tree)) (λ tree. if_fault RightLinks Schema (hardware_of_tree tree) (told_right (hardware tree) (hardware_short tree)))
+
+devices_right : (count seed : ℕ) → IfOk (generated_devices count seed) RightLinks
+unfolding generated_devices
+devices_right count seed = reread_right (hardware_tree (devices_drawn seed count))
+
+workload_right : (links : Result (List Link) Cause) (first second : Result Doc Cause) → IfOk links RightLinks → IfOk (workload links first second) RightOrder
+workload_right (Err cause) first second right = tt
+workload_right (Ok links) (Err cause) second right = tt
+workload_right (Ok links) (Ok first) (Err cause) right = tt
+workload_right (Ok links) (Ok first) (Ok second) right = right
+
+generated_right : (count seed : ℕ) → IfOk (generated count seed) RightOrder
+generated_right count seed = workload_right (generated_devices count seed) (generated_first count seed) (generated_second count seed) (devices_right count seed)
 
 module _ (in_script : Bool) (inputs : Inputs) where
   order_right : (c : Option Command) → IfOk (order_named in_script inputs c) RightOrder
@@ -379,6 +400,7 @@ module _ (in_script : Bool) (inputs : Inputs) where
       if_right RightOrder RightLinks (model.and_then (input in_script inputs file) hardware_list) (λ links. Ok (making links))
       (if_ok RightLinks (input in_script inputs file) hardware_list list_is) (λ links right. right)
   order_right (Some (command.Script file)) = tt
+  order_right (Some (command.Generate count seed)) = generated_right count seed
 
   right_order : (words : List Text) (order : model.Order) → order_of in_script inputs words ≡ Ok order → RightOrder order
   right_order words order is = subst (λ (r : Result model.Order Cause). IfOk r RightOrder) is (order_right (command_of words))
@@ -392,3 +414,4 @@ module _ (in_script : Bool) (inputs : Inputs) where
   hardware_right words Rollback is = refl
   hardware_right words Recover is = refl
   hardware_right words (Init links) is = right_order words (making links) is
+  hardware_right words (Generate devices first second) is = right_order words (generating devices first second) is

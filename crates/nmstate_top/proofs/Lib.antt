@@ -10,3 +10,4 @@ mod Looks
 mod Hardware
 mod Makes
 mod Merging
+mod Generates

@@ -126,12 +126,13 @@ module _ (r : Run) (nothing : ChangesNothing r.host_tells r.host r.host_after) w
   same_reads t = ap standing (nothing.state t)
 
   -- what is left was there
-  left_before : Within (left_at_exit r) (Before (entry r))
+  pub left_before : Within (left_at_exit r) (Before (entry r))
   left_before stands left =
       let from = nothing.stops.now left.0 left.1 in
       record { station = stands; is = (from.0, from.1, ap standing (sym from.2) ∙ left.2); like = alike_is stands stands refl }
 
-  reads_before : r.host_tells → Within (Only (standing r.host_after.state)) (Before (at (reads r)))
+  -- and what is read was read
+  pub reads_before : r.host_tells → Within (Only (standing r.host_after.state)) (Before (at (reads r)))
   reads_before t stands is = record { station = stands; is = is ∙ same_reads t; like = alike_is stands stands refl }
 
   -- where no network was found, none was there

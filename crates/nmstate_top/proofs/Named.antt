@@ -1,13 +1,18 @@
 -- Which commands the words of an order are.
-use Rattle.std.proofs.Common.{◌≡◌, refl, Bool, true, false, List, Option, Some, None}
+use Rattle.std.proofs.Common.{◌≡◌, ◌∙◌, ℕ, refl, sym, ap, subst, Bool, true, false, List, Option, Some, None}
 use Rattle.std.specs.Prelude.{◌&&◌, Result, Ok, Err}
 use Rattle.net_model.specs.declared.Link.{Link}
 use Rattle.document_model.specs.declared.Doc.{Doc}
 use Rattle.engine_model.specs.declared.ApplyOpts.{ApplyOpts}
+use Rattle.command_words.specs.Words.{command_of}
 use Rattle.command_words.specs.declared.Command.{Command}
-use Rattle.command_words.specs.declared.Command.TheVariants.{Show, Plan, Apply, Commit, Rollback, Recover, Init, Script}
-use Rattle.top_model.specs.Orders.{Inputs, Order, showing, planning, applying, committing, rolling_back, recovering, making, and_then, input, document, hardware_list, opts, order_named}
+use Rattle.command_words.specs.declared.Command.TheVariants.{Show, Plan, Apply, Commit, Rollback, Recover, Init, Script, Generate}
+use Rattle.top_model.specs.Orders.{Inputs, Order, showing, planning, applying, committing, rolling_back, recovering, making, generating, and_then, input, document, hardware_list, workload, generated_devices, generated_first, generated_second, generated, opts, order_named, order_of, Text}
+use Rattle.order_reading.specs.declared.order.Order.{Order as Asked}
+use Rattle.order_reading.specs.declared.order.Order.TheVariants as asked_as
+use Rattle.order_reading.specs.Asked.{asked, file_read}
 use Rattle.top_model.specs.declared.report.Cause.{Cause}
+use Rattle.nmstate_top.specs.Worked.{works_apart}
 
 abbrev asks : Order → Result Order Cause
 asks order = Ok order
@@ -24,6 +29,15 @@ no_init : (x : Result (List Link) Cause) → and_then x (λ links. asks (making 
 no_init (Ok links) e = cc
 no_init (Err c) e = cc
 
+no_works : (links : Result (List Link) Cause) (first second : Result Doc Cause) → workload links first second ≡ asks committing → ⊥
+no_works (Err c) first second e = cc
+no_works (Ok links) (Err c) second e = cc
+no_works (Ok links) (Ok first) (Err c) e = cc
+no_works (Ok links) (Ok first) (Ok second) e = cc
+
+no_generate : (count seed : ℕ) → generated count seed ≡ asks committing → ⊥
+no_generate count seed e = no_works (generated_devices count seed) (generated_first count seed) (generated_second count seed) e
+
 -- only the command `commit` asks for the end of a change
 pub commit_named : (in_script : Bool) (inputs : Inputs) (command : Option Command) → order_named in_script inputs command ≡ asks committing → command ≡ Some Commit
 commit_named in_script inputs None e = cc
@@ -35,6 +49,59 @@ commit_named in_script inputs (Some Rollback) e = cc
 commit_named in_script inputs (Some Recover) e = cc
 commit_named in_script inputs (Some (Init file)) e = absurd (no_init (and_then (input in_script inputs file) hardware_list) e)
 commit_named in_script inputs (Some (Script file)) e = cc
+commit_named in_script inputs (Some (Generate count seed)) e = absurd (no_generate count seed e)
+
+abbrev IsWork : Order → Type 0
+IsWork (generating devices first second) = Unit {0}
+IsWork order = ⊥
+
+same_order : (a b : Order) → asks a ≡ asks b → a ≡ b
+same_order a b e = cc
+
+abbrev no_order_of : Cause → Result Order Cause
+no_order_of c = Err c
+
+no_order : (c : Cause) (order : Order) → no_order_of c ≡ asks order → ⊥
+no_order c order e = cc
+
+works_is : (links : Result (List Link) Cause) (first second : Result Doc Cause) (order : Order) → workload links first second ≡ asks order → IsWork order
+works_is (Err c) first second order e = absurd (no_order c order e)
+works_is (Ok links) (Err c) second order e = absurd (no_order c order e)
+works_is (Ok links) (Ok first) (Err c) order e = absurd (no_order c order e)
+works_is (Ok links) (Ok first) (Ok second) order e = subst IsWork (same_order (generating links first second) order e) tt
+
+generated_is : (count seed : ℕ) (order : Order) → generated count seed ≡ asks order → IsWork order
+generated_is count seed order e = works_is (generated_devices count seed) (generated_first count seed) (generated_second count seed) order e
+
+is_apart : (order : Asked) → IsWork (asked order) → works_apart order ≡ true
+is_apart (asked_as.Generate devices first second) is = refl
+is_apart order is = absurd is
+
+-- the words `generate` are carried out on a host of their own
+pub generate_named : (in_script : Bool) (inputs : Inputs) (words : List Text) (count seed : ℕ) (order : Asked) → command_of words ≡ Some (Generate count seed)
+    → order_of in_script inputs words ≡ asks (asked order) → works_apart order ≡ true
+generate_named in_script inputs words count seed order is gives =
+    is_apart order (generated_is count seed (asked order) (ap (order_named in_script inputs) (sym is) ∙ gives))
+
+-- and read nothing
+pub generate_reads_none : (in_script : Bool) (words : List Text) (count seed : ℕ) → command_of words ≡ Some (Generate count seed) → file_read in_script (command_of words) ≡ None
+generate_reads_none in_script words count seed is = ap (file_read in_script) is ∙ no_file in_script
+  where
+    no_file : (in_script : Bool) → file_read in_script (Some (Generate count seed)) ≡ None
+    no_file true = refl
+    no_file false = refl
+
+-- of four that hold the first holds
+pub first_of_four : (a b c d : Bool) → (a && b && c && d) ≡ true → a ≡ true
+first_of_four true b c d e = refl
+first_of_four false b c d e = cc
+
+-- and the third
+pub third_holds : (a b c d : Bool) → (a && b && c && d) ≡ true → c ≡ true
+third_holds true true true d e = refl
+third_holds true true false d e = cc
+third_holds true false c d e = cc
+third_holds false b c d e = cc
 
 -- of two that hold the first holds
 pub first_holds : (a b : Bool) → (a && b) ≡ true → a ≡ true

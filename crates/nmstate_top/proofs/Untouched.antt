@@ -13,10 +13,10 @@ use Rattle.engine_model.specs.Stations.{Stands, Entry, Near, Within, Before, Onl
 use Rattle.engine_model.specs.declared.ApplyOpts.{ApplyOpts}
 use Rattle.engine_model.proofs.lemmas.Leading.{kept_stays, near_wider}
 use Rattle.command_words.specs.declared.Command.{Command}
-use Rattle.command_words.specs.declared.Command.TheVariants.{Show, Plan, Apply, Commit, Rollback, Recover, Init, Script}
+use Rattle.command_words.specs.declared.Command.TheVariants.{Show, Plan, Apply, Commit, Rollback, Recover, Init, Script, Generate}
 use Rattle.order_reading.specs.Asked.{file_read}
 use Rattle.top_model.specs.Said.{Said}
-use Rattle.top_model.specs.Orders.{Inputs, Order, showing, planning, applying, committing, rolling_back, recovering, making, and_then, input, document, hardware_list, opts, order_named, order_of}
+use Rattle.top_model.specs.Orders.{Inputs, Order, showing, planning, applying, committing, rolling_back, recovering, making, generating, and_then, input, document, hardware_list, opts, order_named, order_of}
 use Rattle.top_model.specs.Runs.{Run, Gives, Alone, SourceRose, HostRose, HostRoseTwice, reads, entry, left_at_exit}
 use Rattle.top_model.specs.Told.{Answer, Told}
 use Rattle.top_model.specs.Causes.{MayWant, Refuses, MayAnswer, Comes, Expects}
@@ -40,6 +40,7 @@ ReadsInput (Ok committing) = ⊥
 ReadsInput (Ok rolling_back) = ⊥
 ReadsInput (Ok recovering) = ⊥
 ReadsInput (Ok (making links)) = Unit {0}
+ReadsInput (Ok (generating devices first second)) = ⊥
 ReadsInput (Err refusal) = Unit {0}
 
 abbrev asks : Order → Result Order Cause
@@ -71,6 +72,7 @@ reads_input in_script inputs (Some Rollback) file = absurd (never file)
 reads_input in_script inputs (Some Recover) file = absurd (never file)
 reads_input in_script inputs (Some (Init name)) file = makes (and_then (input in_script inputs name) hardware_list)
 reads_input in_script inputs (Some (Script name)) file = tt
+reads_input in_script inputs (Some (Generate count seed)) file = absurd (never file)
 
 -- ---- what stops leave
 
@@ -90,6 +92,7 @@ module _ (now : ℕ) (entry : Entry) (left : Stands) (within : Within left (Befo
   exit_memory (Ok rolling_back) = more _ (λ s is. inl is)
   exit_memory (Ok recovering) = more _ (λ s is. inl is)
   exit_memory (Ok (making links)) = more _ (λ s is. inl is)
+  exit_memory (Ok (generating devices first second)) = within
   exit_memory (Err refusal) = within
 
   exit_unread : (order : Result Order Cause) → ReadsInput order → AtExit now entry left rose twice order (Err ReadFault)
@@ -100,6 +103,7 @@ module _ (now : ℕ) (entry : Entry) (left : Stands) (within : Within left (Befo
   exit_unread (Ok rolling_back) file = absurd file
   exit_unread (Ok recovering) file = absurd file
   exit_unread (Ok (making links)) file = within
+  exit_unread (Ok (generating devices first second)) file = absurd file
   exit_unread (Err refusal) file = within
 
 -- ---- at each moment
@@ -115,6 +119,7 @@ kept r (Ok (applying doc how)) c rests = kept_stays (Reaches r.now (entry r) (Ok
 kept r (Ok committing) c rests = kept_stays (Reaches r.now (entry r) (Ok committing)) r.host r.host rests.sound (stays r.host.stops)
 kept r (Ok rolling_back) c rests = kept_stays (Reaches r.now (entry r) (Ok rolling_back)) r.host r.host rests.sound (stays r.host.stops)
 kept r (Ok recovering) c rests = kept_stays (Reaches r.now (entry r) (Ok recovering)) r.host r.host rests.sound (stays r.host.stops)
+kept r (Ok (generating devices first second)) c rests = kept_stays (Reaches r.now (entry r) (Ok (generating devices first second))) r.host r.host rests.sound (stays r.host.stops)
 kept r (Err refusal) c rests = kept_stays (Reaches r.now (entry r) (Err refusal)) r.host r.host rests.sound (stays r.host.stops)
 
 none_some : (c : Checkpoint) → None ≡ Some c → ⊥
@@ -140,6 +145,7 @@ spares r (Ok committing) answer lawful tells rests = tt
 spares r (Ok rolling_back) answer lawful tells rests = tt
 spares r (Ok recovering) answer lawful tells rests = tt
 spares r (Ok (making links)) answer lawful tells rests = tt
+spares r (Ok (generating devices first second)) answer lawful tells rests = tt
 spares r (Err refusal) answer lawful tells rests = tt
 
 -- ---- what is asked of the host
@@ -155,6 +161,7 @@ rests_still r (Ok (applying doc how)) rests = alone r rests
 rests_still r (Ok committing) rests = alone r rests
 rests_still r (Ok rolling_back) rests = alone r rests
 rests_still r (Ok recovering) rests = alone r rests
+rests_still r (Ok (generating devices first second)) rests = alone r rests
 rests_still r (Err refusal) rests = alone r rests
 
 -- ---- which answers come
@@ -167,6 +174,7 @@ may_memory (Ok committing) = tt
 may_memory (Ok rolling_back) = tt
 may_memory (Ok recovering) = tt
 may_memory (Ok (making links)) = tt
+may_memory (Ok (generating devices first second)) = tt
 may_memory (Err refusal) = tt
 
 may_unread : (order : Result Order Cause) → ReadsInput order → MayAnswer order (Err ReadFault)
@@ -177,6 +185,7 @@ may_unread (Ok committing) file = absurd file
 may_unread (Ok rolling_back) file = absurd file
 may_unread (Ok recovering) file = absurd file
 may_unread (Ok (making links)) file = tt
+may_unread (Ok (generating devices first second)) file = absurd file
 may_unread (Err refusal) file = tt
 
 comes_memory : (r : Run) (order : Result Order Cause) → r.untouched → MayWant r → Comes (still r) order (Err OutOfMemory)

@@ -1,27 +1,21 @@
 -- The making of the first network, of the devices of a hardware list.
-use Rattle.std.specs.Prelude.{◌≡◌, ◌≤◌, ℕ, Bool, true, ◌&&◌, List, [], length, None, is_none, is_some, IsSome, Result, Ok, Err}
-use Rattle.std.specs.List.{list_all}
-use Rattle.net_model.specs.Hardware.{device_of}
-use Rattle.net_model.specs.NetData.{net_of, no_dns}
-use Rattle.net_model.specs.Valid.{least_broken}
+use Rattle.std.specs.Prelude.{◌≡◌, ◌≤◌, ℕ, Bool, true, List, length, None, IsSome, Result, Ok, Err}
 use Rattle.net_model.specs.declared.Link.{Link}
 use Rattle.host_core.specs.Faults.{Rose}
 use Rattle.host_core.specs.HostView.{HostView, IsMade, MaybeMade}
 use Rattle.host_core.specs.Stops.{Steps, Stays}
 use Rattle.engine_model.specs.declared.Left.TheVariants.{NotBegun}
+pub use Rattle.scenario_model.specs.Asking.{is_hardware}
 use Rattle.order_reading.specs.declared.order.Order.{Order}
-use Rattle.order_reading.specs.declared.order.Order.TheVariants.{Init}
+use Rattle.order_reading.specs.declared.order.Order.TheVariants.{Init, Generate}
 use Rattle.top_model.specs.Machine.{first_net}
 use Rattle.top_model.specs.declared.report.Cause.{Cause}
 use Rattle.top_model.specs.declared.report.Cause.TheVariants.{Exists, HostFault, OutOfMemory}
 
--- these links alone are a valid network, of devices
-abbrev pub is_hardware : List Link → Bool
-is_hardware links = is_none (least_broken (net_of links [] [] no_dns)) && list_all (λ l. is_some (device_of l.name l.kind)) links
-
--- the links of an order to make them
+-- the links of an order that begins with them
 abbrev pub has_hardware : Order → Bool
 has_hardware (Init links) = is_hardware links
+has_hardware (Generate devices first second) = is_hardware devices
 has_hardware _ = true
 
 -- nothing is changed

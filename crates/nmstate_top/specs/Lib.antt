@@ -1,3 +1,4 @@
 pub mod First
 pub mod Looked
 pub mod Carried
+pub mod Worked

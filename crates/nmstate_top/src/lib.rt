@@ -5,6 +5,8 @@
 mod apply;
 // The command that ends a change that waits.
 mod commit;
+// The command that works on a generated workload.
+mod generate;
 // The command that makes the first network.
 mod init;
 // Looking at the network.

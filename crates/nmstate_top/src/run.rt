@@ -5,15 +5,17 @@ ghost use Rattle.order_reading.specs.Asked.{asked, has_right_document};
 ghost use Rattle.top_model.specs.Answered.{Answered};
 ghost use Rattle.top_model.specs.Headline.{Headline};
 ghost use Rattle.top_model.specs.Moments.{AtMoment};
-ghost use Rattle.top_model.specs.Promises.{Complete, DoneOnly, RefusedExactly, CommitTakesNone, Statuses, Texts};
+ghost use Rattle.top_model.specs.Promises.{Complete, DoneOnly, RefusedExactly, CommitTakesNone, StandsApart, Statuses, Texts};
 ghost use Rattle.top_model.specs.Runs.{run_of};
 ghost use Rattle.top_model.specs.Scripts.{IsScript, file_of};
 ghost use Rattle.top_model.specs.Undisturbed.{Undisturbed};
 ghost use Rattle.nmstate_top.specs.Carried.{Carried};
 ghost use Rattle.nmstate_top.specs.First.{has_hardware};
+ghost use Rattle.nmstate_top.specs.Worked.{works_apart};
 
 use crate::apply::apply_run;
 use crate::commit::commit_run;
+use crate::generate::generate_run;
 use crate::init::init_run;
 use crate::plan::plan_run;
 use crate::recover::recover_run;
@@ -38,7 +40,8 @@ fn run_order<H: Host, S: Source, W: Sink>(
 ) -> Report
     requires document { has_right_document order ≡ true }
     requires hardware { has_hardware order ≡ true }
-    ensures { Carried H.Host S.Source W.Sink (asked order) now host.old host.new out.old out.new err.old err.new result }
+    ensures carried { Carried H.Host S.Source W.Sink (asked order) now host.old host.new out.old out.new err.old err.new result }
+    ensures apart { works_apart order ≡ true → host.new ≡ host.old }
 {
     match order {
         Order::Show { only, json } => show_run::<H, S, W>(alloc, &only, json, host, out, err),
@@ -50,6 +53,11 @@ fn run_order<H: Host, S: Source, W: Sink>(
         Order::Rollback => rollback_run::<H, S, W>(alloc, host, out, err),
         Order::Recover => recover_run::<H, S, W>(alloc, host, out, err, now),
         Order::Init { links } => init_run::<H, S, W>(alloc, links, host, out, err),
+        Order::Generate {
+            devices,
+            first,
+            second,
+        } => generate_run::<H, S, W>(alloc, &devices, &first, &second, out, err),
     }
 }
 
@@ -64,7 +72,8 @@ pub(crate) fn run_one<H: Host, S: Source, W: Sink>(
     err: &mut W,
     now: u64,
 ) -> Report
-    ensures { Answered (run_of H.Host S.Source W.Sink words.now.items in_script now host.old host.new src.old src.new out.old out.new err.old err.new result) }
+    ensures answered { Answered (run_of H.Host S.Source W.Sink words.now.items in_script now host.old host.new src.old src.new out.old out.new err.old err.new result) }
+    ensures apart { StandsApart (run_of H.Host S.Source W.Sink words.now.items in_script now host.old host.new src.old src.new out.old out.new err.old err.new result) }
 {
     match read_order(alloc, words.as_slice(), in_script, src) {
         Ok(order) => run_order::<H, S, W>(alloc, order, host, out, err, now),
@@ -97,6 +106,8 @@ pub fn run_at<H: Host, S: Source, W: Sink>(
     ensures texts { Texts (run_of H.Host S.Source W.Sink words.now.items false now host.old host.new src.old src.new out.old out.new err.old err.new result) }
     // What an apply leaves alone on its way.
     ensures undisturbed { Undisturbed (run_of H.Host S.Source W.Sink words.now.items false now host.old host.new src.old src.new out.old out.new err.old err.new result) }
+    // A workload has a host of its own.
+    ensures apart { StandsApart (run_of H.Host S.Source W.Sink words.now.items false now host.old host.new src.old src.new out.old out.new err.old err.new result) }
 {
     run_one(alloc, words, false, host, src, out, err, now)
 }
@@ -115,6 +126,8 @@ fn run_named<H: Host, S: Source, W: Sink>(
     requires { script.now ≡ file_of (command_of (map string_bytes words.now.items)) }
     ensures answered { file_of (command_of (map string_bytes words.now.items)) ≡ None
         → Answered (run_of H.Host S.Source W.Sink words.now.items false now host.old host.new src.old src.new out.old out.new err.old err.new result) }
+    ensures apart { file_of (command_of (map string_bytes words.now.items)) ≡ None
+        → StandsApart (run_of H.Host S.Source W.Sink words.now.items false now host.old host.new src.old src.new out.old out.new err.old err.new result) }
     ensures script { IsScript (run_of H.Host S.Source W.Sink words.now.items false 0 host.old host.new src.old src.new out.old out.new err.old err.new result) }
 {
     match script {
@@ -135,6 +148,8 @@ fn run_words<H: Host, S: Source, W: Sink>(
 ) -> Report
     ensures answered { file_of (command_of (map string_bytes words.now.items)) ≡ None
         → Answered (run_of H.Host S.Source W.Sink words.now.items false now host.old host.new src.old src.new out.old out.new err.old err.new result) }
+    ensures apart { file_of (command_of (map string_bytes words.now.items)) ≡ None
+        → StandsApart (run_of H.Host S.Source W.Sink words.now.items false now host.old host.new src.old src.new out.old out.new err.old err.new result) }
     ensures script { IsScript (run_of H.Host S.Source W.Sink words.now.items false 0 host.old host.new src.old src.new out.old out.new err.old err.new result) }
 {
     match script_file(alloc, words.as_slice()) {
@@ -168,6 +183,8 @@ pub fn run_command<H: Host, S: Source, W: Sink, C: Clock>(
     ensures texts { AtMoment C.Clock clock.old clock.new words.now.items (λ now. Texts (run_of H.Host S.Source W.Sink words.now.items false now host.old host.new src.old src.new out.old out.new err.old err.new result)) }
     // What an apply leaves alone on its way.
     ensures undisturbed { AtMoment C.Clock clock.old clock.new words.now.items (λ now. Undisturbed (run_of H.Host S.Source W.Sink words.now.items false now host.old host.new src.old src.new out.old out.new err.old err.new result)) }
+    // A workload has a host of its own.
+    ensures apart { AtMoment C.Clock clock.old clock.new words.now.items (λ now. StandsApart (run_of H.Host S.Source W.Sink words.now.items false now host.old host.new src.old src.new out.old out.new err.old err.new result)) }
     // A script reads all its lines, and is then the fold of its steps.
     ensures script { IsScript (run_of H.Host S.Source W.Sink words.now.items false 0 host.old host.new src.old src.new out.old out.new err.old err.new result) }
 {

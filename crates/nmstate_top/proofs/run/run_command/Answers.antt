@@ -31,3 +31,6 @@ returns-clause-texts g c = (c.now-now.result, c.now-now.ensures, λ other. texts
 
 pub returns-clause-undisturbed : goal.returns-clause-undisturbed
 returns-clause-undisturbed g c = (c.now-now.result, c.now-now.ensures, λ other. undisturbed _ (c.run_words.ensures.answered other))
+
+pub returns-clause-apart : goal.returns-clause-apart
+returns-clause-apart g c = (c.now-now.result, c.now-now.ensures, λ other. c.run_words.ensures.apart other)

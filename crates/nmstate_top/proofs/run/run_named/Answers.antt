@@ -13,7 +13,13 @@ pub returns-in-Some-clause-script : goal.returns-in-Some-clause-script
 returns-in-Some-clause-script g c = is_script _ (c.run_file.ensures c.args.words.now.items (sym c.requires ∙ c.in-Some.is))
 
 pub returns-in-None-clause-answered : goal.returns-in-None-clause-answered
-returns-in-None-clause-answered g c = λ none. c.run_one.ensures
+returns-in-None-clause-answered g c = λ none. c.run_one.ensures.answered
 
 pub returns-in-None-clause-script : goal.returns-in-None-clause-script
 returns-in-None-clause-script g c = no_script _ (sym c.requires ∙ c.in-None.is)
+
+pub returns-in-Some-clause-apart : goal.returns-in-Some-clause-apart
+returns-in-Some-clause-apart g c = λ none. absurd (some_none c.in-Some.file (sym c.in-Some.is ∙ (c.requires ∙ none)))
+
+pub returns-in-None-clause-apart : goal.returns-in-None-clause-apart
+returns-in-None-clause-apart g c = λ none. c.run_one.ensures.apart

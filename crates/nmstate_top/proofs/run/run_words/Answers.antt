@@ -26,3 +26,6 @@ returns-in-Err-clause-script g c =
     let alone : lone (map string_bytes c.args.words.now.items) ≡ None = subst (λ (words : List (String Global)). lone (map string_bytes words) ≡ None) c.as_slice.ensures.value c.in-Err.ensures.memory in
     let r = run_of g.H.Host g.S.Source g.W.Sink c.args.words.now.items false 0 c.args.host.now c.args.host.now c.args.src.now c.args.src.now c.args.out.now c.tell_refused.new.out c.args.err.now c.tell_refused.new.err c.tell_refused.result in
     script_ran_out r (may_want_words r alone) refl (told_refused r (Err OutOfMemory) OutOfMemory [] (inl refl) c.tell_refused.ensures.told)
+
+pub returns-in-Err-clause-apart : goal.returns-in-Err-clause-apart
+returns-in-Err-clause-apart g c = λ none count seed is. (refl, refl)

@@ -23,7 +23,7 @@ returns-then-status-eq-OUT_OF_MEMORY-clause-folded g c =
     (g.W.Sink.told c.args.err.now) (g.W.Sink.told c.loop-step.err) (g.W.Sink.told c.run_one-report.new.err)
     c.run_one-report.result (report_of Done) c.run_one-report.result (timed_of x) (map timed_of (take i items))
     (map timed_of items) (map timed_of (drop (i + 1) items)) (all_steps timed_of items i x within is (take-append-drop i items)) refl eight
-    c.loop-step.invariant c.run_one-report.ensures c.if-not-write_status.ensures
+    c.loop-step.invariant c.run_one-report.ensures.answered c.if-not-write_status.ensures
 
 pub loop-step-preserved : goal.loop-step-preserved
 loop-step-preserved g c =
@@ -42,7 +42,7 @@ loop-step-preserved g c =
     (g.W.Sink.told c.args.out.now) (g.W.Sink.told c.loop-step.out) (g.W.Sink.told c.run_one-report.new.out) (g.W.Sink.told c.write_status.new.out)
     (g.W.Sink.told c.args.err.now) (g.W.Sink.told c.loop-step.err) (g.W.Sink.told c.run_one-report.new.err)
     c.run_one-report.result (report_of Done) (report_of Done) (timed_of x) (map timed_of (take i items))
-    c.loop-step.invariant c.run_one-report.ensures c.if-not-write_status.ensures c.if-status-eq-OUT_OF_MEMORY.false)
+    c.loop-step.invariant c.run_one-report.ensures.answered c.if-not-write_status.ensures c.if-status-eq-OUT_OF_MEMORY.false)
 
 pub returns-clause-folded : goal.returns-clause-folded
 returns-clause-folded g c =
