@@ -1,0 +1,39 @@
+//! Kernel calls on whole networks. The standard input has networks, each as a document on the same devices, and cases: a
+//! network, a call, and the number with which it is refused or the network that stands after it. What differs is printed,
+//! and for each heading how many cases stand under it.
+#![tactic(auto)]
+
+// Kernel calls from words.
+mod calls;
+// The lines of the input, and what comes of each.
+mod cases;
+// Networks from documents.
+mod networks;
+// Options of bonds, bridges and ports from words.
+mod options;
+// Words, and what they stand for.
+mod reading;
+
+use crate::cases::Cases;
+use anyhow::{Result, anyhow};
+use std::io::Read;
+
+fn run(rt: &HostRuntime, text: &str) -> Result<()> {
+    let mut cases = Cases::new(rt.alloc());
+    for line in text.lines() {
+        cases.take(rt.alloc(), line)?;
+    }
+    cases.finish(rt.alloc())?;
+    let told = cases.told();
+    print!(rt; "{told}")?;
+    Ok(())
+}
+
+fn main(rt: HostRuntime) -> Result<()> {
+    let mut bytes = Vec::new(rt.alloc());
+    rt.stdin().read_to_end(&mut bytes)?;
+    match str::from_utf8(&bytes) {
+        Ok(text) => run(&rt, text),
+        Err(_) => Err(anyhow!("the input isn't UTF-8")),
+    }
+}
