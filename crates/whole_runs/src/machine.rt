@@ -6,6 +6,7 @@ use base_model::OutOfMemory;
 use disk_host::DiskHost;
 use host_core::{DumpFault, Host};
 use host_memory::{Fuse, LyingHost, MemoryDisk, MemoryHost};
+use near_disk::NearDisk;
 use net_model::Net;
 use std::alloc::Global;
 
@@ -16,7 +17,7 @@ pub enum Kind {
     Disk,
 }
 
-/// What stands between two commands, and what the last one did.
+/// What stands between two commands, and what the last one did. Over a disk the second slot of its kernel area is kept near.
 #[derive(Drop)]
 pub enum Machine {
     Memory(MemoryHost),
@@ -151,7 +152,8 @@ impl Machine {
         match self {
             Machine::Memory(host) => copied_net(host.net()),
             Machine::Disk(held) => {
-                let mut host = DiskHost::new(disk(alloc, held, Vec::new(alloc))?);
+                let held = disk(alloc, held, Vec::new(alloc))?;
+                let mut host = DiskHost::new(NearDisk::new(held));
                 dumped(alloc, &mut host)
             }
         }
@@ -187,9 +189,9 @@ impl Machine {
                 Ok((Machine::Memory(host), seen))
             }
             Machine::Disk(disk) => {
-                let mut host = DiskHost::new(disk);
+                let mut host = DiskHost::new(NearDisk::new(disk));
                 let seen = run_on(alloc, run, faults, inputs, &mut host)?;
-                Ok((Machine::Disk(host.into_disk()), seen))
+                Ok((Machine::Disk(host.into_disk().into_disk()), seen))
             }
         }
     }
@@ -211,7 +213,7 @@ impl Machine {
         }
     }
 
-    /// The bytes of an area, as they read. A host in memory has the checkpoint's alone.
+    /// The bytes of an area, as they are kept. A host in memory has the checkpoint's alone.
     pub fn area(&self, area: Area) -> Result<&Vec<u8>> {
         match self {
             Machine::Memory(host) => match area {
