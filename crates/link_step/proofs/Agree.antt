@@ -1,13 +1,11 @@
 -- Two tests that agree on each name change the same.
-use Rattle.std.proofs.Common.{◌≡◌, ℕ, Bool, true, false, not, ◌&&◌, List, [], ◌∷◌, map, filter, Option, Some, None, refl, ap, ◌∙◌}
-use Rattle.std.specs.Prelude.{if◌then◌else◌}
+use Rattle.std.proofs.Common.{◌≡◌, ℕ, Bool, not, List, [], ◌∷◌, map, filter, Option, Some, None, refl, ap, ◌∙◌}
 use Rattle.std.proofs.lemmas.List.Elements.{filter_agree}
 use Rattle.net_model.specs.Lists.{NetData}
-use Rattle.net_model.specs.Options.{default_port}
 use Rattle.net_model.specs.declared.link.Link.{Link}
 use Rattle.net_model.specs.declared.route.Route.{Route}
-use Rattle.kernel_model.specs.MadeLinks.{unless_gone, port_freed, primary_freed, freed, without}
-use Rattle.kernel_model.specs.UpDown.{v4_alone, lowered, fallen}
+use Rattle.kernel_model.specs.MadeLinks.{unless_gone, port_freed, freed, without}
+use Rattle.kernel_model.specs.UpDown.{lowered, fallen}
 
 pub map_agree : {X Y : Type 0} (f g : X → Y) → ((x : X) → f x ≡ g x) → (xs : List X) → map f xs ≡ map g xs
 map_agree f g same [] = refl

@@ -1,6 +1,6 @@
 -- By name, what hangs on a link and isn't it is what is over it.
-use Rattle.std.proofs.Common.{◌≡◌, ℕ, Bool, true, false, ◌||◌, List, map, Some, refl, sym, ap, ◌∙◌}
-use Rattle.net_model.specs.Links.{find_link, is_named}
+use Rattle.std.proofs.Common.{◌≡◌, ℕ, Bool, true, false, ◌||◌, List, map, refl, ap, ◌∙◌}
+use Rattle.net_model.specs.Links.{is_named}
 use Rattle.net_model.specs.NetData.{NetData, IsNet}
 use Rattle.net_model.specs.declared.link.Link.{Link}
 use Rattle.net_model.proofs.lemmas.Found.{names_differ-rises}
@@ -8,7 +8,7 @@ use Rattle.net_model.proofs.lemmas.ByName.{passes_as, map_by_name}
 use Rattle.net_model.proofs.lemmas.Grounded.{found_named}
 use Rattle.net_model.specs.Words.{is_among}
 use Rattle.kernel_model.specs.Words.{is_over}
-use Rattle.kernel_model.specs.Settings.{with_mtu, mtu_after, set_mtu}
+use Rattle.kernel_model.specs.Settings.{with_mtu, set_mtu}
 use Rattle.link_step.specs.Hanging.{hangs, hanging}
 use Rattle.link_step.specs.Clamped.{clamped}
 use Rattle.link_step.proofs.Hangers.{among_hanging}

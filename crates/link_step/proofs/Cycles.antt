@@ -1,5 +1,5 @@
 -- Where attaching makes a cycle, by the place of the controller.
-use Rattle.std.proofs.Common.{◌≡◌, ◌<◌, ℕ, zero, suc, Bool, true, false, not, ◌&&◌, ◌||◌, List, length, get_or, Option, Some, None, nat_cmp, refl, sym, ap, ◌∙◌}
+use Rattle.std.proofs.Common.{◌≡◌, ℕ, zero, suc, Bool, true, false, not, ◌&&◌, ◌||◌, List, length, get_or, Option, Some, None, nat_cmp, refl, sym, ap, ◌∙◌}
 use Rattle.std.specs.Cmp.Lexicographic.{slice_cmp}
 use Rattle.std.proofs.lemmas.Cmp.{nat_list_cmp_total, tied_itself}
 use Rattle.net_model.specs.Name.{same_bytes}
@@ -7,12 +7,11 @@ use Rattle.net_model.specs.Links.{find_link, is_named, is_port_of, named_passes,
 use Rattle.net_model.specs.Standing.{has_base, stands_on, reaches, no_cycle}
 use Rattle.net_model.specs.Valid.{names_differ}
 use Rattle.net_model.specs.NetData.{NetData, IsNet}
-use Rattle.net_model.specs.Facts.{Facts}
 use Rattle.net_model.specs.declared.link.Link.{Link}
 use Rattle.net_model.specs.declared.link.Kind.{Kind}
 use Rattle.net_model.specs.declared.link.Kind.TheVariants.{Ethernet, Bond, Bridge, Vlan, Vrf}
 use Rattle.net_model.proofs.lemmas.Truth.{and_left, and_right}
-use Rattle.net_model.proofs.lemmas.Found.{one_name, itself, names_differ-rises, found_by_halving}
+use Rattle.net_model.proofs.lemmas.Found.{one_name, names_differ-rises, found_by_halving}
 use Rattle.net_model.proofs.lemmas.Grounded.{found_named}
 use Rattle.net_model.proofs.lemmas.FactsHold.{facts}
 use Rattle.net_model.proofs.lemmas.ByName.{some_found, passing_found}

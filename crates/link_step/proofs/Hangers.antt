@@ -1,6 +1,5 @@
 -- The names of what hangs on a link, in order and by name.
-use Rattle.std.proofs.Common.{◌≡◌, ℕ, Bool, true, List, [], ◌∷◌, map, filter, refl, ap, ◌∙◌}
-use Rattle.std.specs.List.{list_all}
+use Rattle.std.proofs.Common.{◌≡◌, ℕ, true, List, [], ◌∷◌, map, filter, refl, ◌∙◌}
 use Rattle.std.specs.Ordering.{is_lt}
 use Rattle.net_model.specs.Words.{rises, is_among}
 use Rattle.net_model.specs.Order.{link_cmp, name_cmp}

@@ -1,4 +1,5 @@
 pub mod Place
+pub mod Arrows
 pub mod Hanging
 pub mod OneLink
 pub mod Clamped

@@ -1,53 +1,94 @@
 //! Whether attaching a port makes a cycle.
-ghost use Rattle.std.specs.Prelude.{◌≡◌, ◌<◌, ◌&&◌, true, not, IfOk, length, map, slice_index_or};
-ghost use Rattle.net_model.specs.Words.{positions};
-ghost use Rattle.net_model.specs.Links.{is_named};
-ghost use Rattle.net_model.specs.Standing.{has_base, stands_on, reaches, no_cycle};
+ghost use Rattle.std.specs.Prelude.{◌≡◌, ◌<◌, ◌+◌, ◌++◌, ◌∷◌, [], ◌&&◌, true, not, IfOk, OnOk, length, map, get_or, set, replicate, slice_index_or};
+ghost use Rattle.net_model.specs.Words.{rises};
+ghost use Rattle.net_model.specs.Order.{link_cmp};
+ghost use Rattle.net_model.specs.Links.{is_named, is_port_of};
+ghost use Rattle.net_model.specs.Standing.{has_base, reaches, no_cycle};
 ghost use Rattle.kernel_model.specs.Words.{has_link, edit_link};
 ghost use Rattle.kernel_model.specs.Ports.{attached};
+ghost use Rattle.link_step.specs.Arrows.{FindsOnly, Draws};
 
 use crate::lookup::place_of;
-use crate::refuse::{is_named_ethernet, is_port_of};
+use crate::refuse::is_named_ethernet;
 use net_model::{Items, Kind, Link, Name, Net, OutOfMemory};
 use reach::closure;
 use std::alloc::{AllocError, Global};
 
-fn has_base(kind: &Kind, name: &Name) -> bool
-    ensures { result ≡ has_base kind.now name.now }
+// The place of its base, where the link is a VLAN.
+fn base_place(links: &[Link], link: &Link) -> Option<usize>
+    requires { rises link_cmp links.now ≡ true }
+    ensures { FindsOnly (λ b. has_base link.now.kind b.name) links.now result }
 {
-    match kind {
-        Kind::Vlan { base, .. } => base == name,
-        _ => false,
+    match &link.kind {
+        Kind::Vlan { base, .. } => place_of(links, base),
+        _ => None,
     }
 }
 
-fn stands_on(a: &Link, b: &Link) -> bool
-    ensures { result ≡ stands_on a.now b.now }
+// The place of its controller, where the link has one.
+fn controller_place(links: &[Link], link: &Link) -> Option<usize>
+    requires { rises link_cmp links.now ≡ true }
+    ensures { FindsOnly (λ c. is_port_of c.name link.now) links.now result }
 {
-    has_base(&a.kind, &b.name) || is_port_of(b, &a.name)
-}
-
-// The places of the links that one stands on.
-fn below(alloc: Global, links: &[Link], link: &Link) -> Result<Vec<usize>, AllocError>
-    ensures { IfOk result (λ places. places.items ≡ positions (stands_on link.now) 0 links.now) }
-{
-    let mut places = Vec::new(alloc);
-    for (at, other) in links.iter().enumerate() {
-        if stands_on(link, other) {
-            places.push(at)?;
-        }
+    match &link.controller {
+        Some(controller) => place_of(links, controller),
+        None => None,
     }
-    Ok(places)
 }
 
-// For each link, the places of those that it stands on.
-fn arrows(alloc: Global, links: &[Link]) -> Result<Vec<Items<usize>>, AllocError>
-    ensures { IfOk result (λ arrows. arrows.items ≡ map (λ l. positions (stands_on l) 0 links.now) links.now) }
+// Adds an arrow from one place to another.
+fn add_arrow(arrows: &mut [Items<usize>], from: usize, to: usize) -> Result<(), OutOfMemory>
+    requires { from < length arrows.old }
+    ensures { OnOk result (arrows.new ≡ set arrows.old from (get_or arrows.old from [] ++ to ∷ [])) }
+{
+    arrows[from].push(to)
+}
+
+// Adds the arrow from a VLAN to its base.
+fn add_base(arrows: &mut [Items<usize>], links: &[Link], at: usize) -> Result<(), OutOfMemory>
+    requires in_order { rises link_cmp links.now ≡ true }
+    requires inside { at < length links.now }
+    requires drawn { Draws links.now at at arrows.old }
+    ensures { OnOk result (Draws links.now (at + 1) at arrows.new) }
+{
+    match base_place(links, &links[at]) {
+        Some(base) => add_arrow(arrows, at, base),
+        None => Ok(()),
+    }
+}
+
+// Adds the arrow from a controller to its port.
+fn add_port(arrows: &mut [Items<usize>], links: &[Link], at: usize) -> Result<(), OutOfMemory>
+    requires in_order { rises link_cmp links.now ≡ true }
+    requires inside { at < length links.now }
+    requires drawn { Draws links.now (at + 1) at arrows.old }
+    ensures { OnOk result (Draws links.now (at + 1) (at + 1) arrows.new) }
+{
+    match controller_place(links, &links[at]) {
+        Some(controller) => add_arrow(arrows, controller, at),
+        None => Ok(()),
+    }
+}
+
+fn no_arrows(alloc: Global, len: usize) -> Result<Vec<Items<usize>>, AllocError>
+    ensures { IfOk result (λ arrows. arrows.items ≡ replicate len []) }
 {
     let mut arrows = Vec::new(alloc);
-    for link in links {
-        let places = below(alloc, links, link)?;
-        arrows.push(Items::of(places))?;
+    for _ in 0..len {
+        arrows.push(Items::of(Vec::new(alloc)))?;
+    }
+    Ok(arrows)
+}
+
+// For each link, the places of those that it stands on, each found by binary search.
+fn arrows(alloc: Global, links: &[Link]) -> Result<Vec<Items<usize>>, OutOfMemory>
+    requires { rises link_cmp links.now ≡ true }
+    ensures { IfOk result (λ arrows. Draws links.now (length links.now) (length links.now) arrows.items) }
+{
+    let mut arrows = no_arrows(alloc, links.len())?;
+    for at in 0..links.len() {
+        add_base(&mut arrows, links, at)?;
+        add_port(&mut arrows, links, at)?;
     }
     Ok(arrows)
 }
@@ -60,7 +101,8 @@ fn marks(alloc: Global, links: &[Link], name: &Name) -> Result<Vec<bool>, AllocE
 
 // Whether the link at this place is reached from the port.
 fn reaches(alloc: Global, links: &[Link], port: &Name, at: usize) -> Result<bool, OutOfMemory>
-    requires { at < length links.now }
+    requires in_order { rises link_cmp links.now ≡ true }
+    requires inside { at < length links.now }
     ensures { IfOk result (λ is. (d : _) → is ≡ reaches links.now (length links.now) port.now (slice_index_or links.now at d)) }
 {
     let arrows = arrows(alloc, links)?;

@@ -1,7 +1,10 @@
 //! What hangs on a link: the link, and the VLANs over it in any depth.
-ghost use Rattle.std.specs.Prelude.{◌≡◌, true, IfOk, option_copied};
+ghost use Rattle.std.specs.Prelude.{◌≡◌, true, IfOk, map, filter, option_copied};
+ghost use Rattle.std.specs.List.{list_any};
 ghost use Rattle.net_model.specs.Words.{rises, is_among};
 ghost use Rattle.net_model.specs.Order.{link_cmp, name_cmp};
+ghost use Rattle.net_model.specs.Links.{is_named};
+ghost use Rattle.net_model.specs.Standing.{has_base};
 ghost use Rattle.kernel_model.specs.Words.{is_over};
 ghost use Rattle.link_step.specs.Hanging.{base_of, hangs, hanging};
 
@@ -47,7 +50,8 @@ fn hangs(links: &[Link], root: &Name, link: &Link) -> bool
     link.name == *root || is_over(links, root, link)
 }
 
-fn names_of(alloc: Global, links: &[Link], root: &Name) -> Result<Vec<Name>, AllocError>
+// The names of what hangs on the root, by the chain of bases of each link.
+fn names_over(alloc: Global, links: &[Link], root: &Name) -> Result<Vec<Name>, AllocError>
     requires { rises link_cmp links.now ≡ true }
     ensures { IfOk result (λ names. names.items ≡ hanging links.now root.now) }
 {
@@ -58,13 +62,52 @@ fn names_of(alloc: Global, links: &[Link], root: &Name) -> Result<Vec<Name>, All
         .collect(alloc)
 }
 
+fn has_base(kind: &Kind, name: &Name) -> bool
+    ensures { result ≡ has_base kind.now name.now }
+{
+    match kind {
+        Kind::Vlan { base, .. } => base == name,
+        _ => false,
+    }
+}
+
+// Whether a VLAN stands on the root.
+fn is_base(links: &[Link], root: &Name) -> bool
+    ensures { result ≡ list_any (λ l. has_base l.kind root.now) links.now }
+{
+    links.iter().any(|link| has_base(&link.kind, root))
+}
+
+// The root's name, if the link is there.
+fn own_name(alloc: Global, links: &[Link], root: &Name) -> Result<Vec<Name>, AllocError>
+    ensures { IfOk result (λ names. names.items ≡ map (λ l. l.name) (filter (is_named root.now) links.now)) }
+{
+    links
+        .iter()
+        .filter(|link| link.name == *root)
+        .map(|link| link.name)
+        .collect(alloc)
+}
+
+// The names of what hangs on the root. Chains of bases are walked only where a VLAN stands on it.
+fn names(alloc: Global, links: &[Link], root: &Name) -> Result<Vec<Name>, AllocError>
+    requires { rises link_cmp links.now ≡ true }
+    ensures { IfOk result (λ names. names.items ≡ hanging links.now root.now) }
+{
+    if is_base(links, root) {
+        names_over(alloc, links, root)
+    } else {
+        own_name(alloc, links, root)
+    }
+}
+
 // The names of what hangs on the root, in order.
 pub(crate) fn hanging(alloc: Global, links: &[Link], root: &Name) -> Result<Vec<Name>, AllocError>
     requires { rises link_cmp links.now ≡ true }
     ensures names { IfOk result (λ names. names.items ≡ hanging links.now root.now) }
     ensures in_order { IfOk result (λ names. rises name_cmp names.items ≡ true) }
 {
-    let names = names_of(alloc, links, root)?;
+    let names = names(alloc, links, root)?;
     Ok(names)
 }
 

@@ -195,7 +195,7 @@ pub(crate) fn set_mac(net: &Net, name: &Name) -> Option<u8>
     None
 }
 
-pub(crate) fn is_port_of(link: &Link, controller: &Name) -> bool
+fn is_port_of(link: &Link, controller: &Name) -> bool
     ensures { result ≡ is_port_of controller.now link.now }
 {
     match &link.controller {

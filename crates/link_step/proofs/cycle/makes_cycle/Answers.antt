@@ -1,4 +1,4 @@
-use Rattle.std.proofs.Common.{◌≡◌, ◌∙◌, ℕ, true, false, List, length, get_or, sym, ap, subst}
+use Rattle.std.proofs.Common.{◌≡◌, ◌∙◌, ℕ, true, List, length, get_or, sym, ap, subst}
 use Rattle.net_model.specs.Links.{named_passes}
 use Rattle.net_model.specs.Standing.{reaches}
 use Rattle.net_model.specs.declared.link.Link.{Link}

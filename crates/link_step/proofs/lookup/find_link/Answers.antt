@@ -1,7 +1,6 @@
-use Rattle.std.proofs.Common.{rules, ◌≡◌, ap, sym, ◌∙◌, Some, arith, nat_cmp}
+use Rattle.std.proofs.Common.{rules, ap, sym, ◌∙◌, Some, arith}
 use Rattle.std.proofs.lemmas.Cmp.{nat_list_cmp_total}
 use Rattle.std.proofs.lemmas.List.Sorted.{answers_always, searchable_from_sorted}
-use Rattle.std.specs.Cmp.{on_total}
 use Rattle.net_model.specs.Order.{link_cmp}
 use Rattle.net_model.specs.declared.link.Link.{Link}
 use Rattle.net_model.proofs.lemmas.Rises.{sorted-rises}

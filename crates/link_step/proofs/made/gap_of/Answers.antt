@@ -1,4 +1,4 @@
-use Rattle.std.proofs.Common.{◌≡◌, ℕ, Some, None, List, get_or, sym, ap, ◌∙◌, rules, arith}
+use Rattle.std.proofs.Common.{get_or, ap, ◌∙◌, rules, arith}
 use Rattle.std.proofs.lemmas.Cmp.{nat_list_cmp_total}
 use Rattle.std.proofs.lemmas.List.Sorted.{answers_always, searchable_from_sorted}
 use Rattle.net_model.specs.Order.{link_cmp, name_cmp}

@@ -1,7 +1,5 @@
-use Rattle.std.proofs.Common.{◌≡◌, ◌∙◌, ℕ, List, true, map, ap, sym, subst}
+use Rattle.std.proofs.Common.{◌≡◌, ◌∙◌, ℕ, List, map, ap}
 use Rattle.net_model.specs.Lists.{NetData}
-use Rattle.net_model.specs.Words.{rises}
-use Rattle.net_model.specs.Order.{link_cmp}
 use Rattle.net_model.specs.declared.link.Link.{Link}
 use Rattle.link_step.specs.Hanging.{hanging}
 use Rattle.link_step.specs.Clamped.{clamped}
