@@ -1,10 +1,15 @@
-//! Finding what a network holds by binary search: a route by its key, and an address on a link.
+//! Finding what a network holds by binary search: a route by its key, and an address on a link. Beside it the ranges of all
+//! that a network holds.
 #![tactic(auto)]
 
 mod address;
+mod link_ranges;
+mod ranged;
+mod ranges;
 mod route;
 #[cfg(test)]
 mod tests;
 
 pub use address::find_address;
+pub use ranges::range_laws;
 pub use route::find_route;
