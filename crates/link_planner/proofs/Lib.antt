@@ -19,6 +19,7 @@ pub mod SameKinds
 pub mod Joint
 pub mod Naming
 pub mod Placing
+pub mod Noting
 pub mod Starting
 pub mod Unused
 pub mod Bridges

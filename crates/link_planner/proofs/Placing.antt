@@ -1,5 +1,5 @@
 -- Names by depth: each base comes before what stands on it, and each link is named.
-use Rattle.std.proofs.Common.{◌≡◌, ℕ, ◌+◌, ◌-◌, ◌<◌, ◌≤◌, zero, suc, Bool, true, false, cond, List, [], ◌∷◌, length, take, map, get_or, Some, None, IsPermutation, inl, inr, refl, sym, ap, subst, ◌∙◌, arith, zero-add}
+use Rattle.std.proofs.Common.{◌≡◌, ℕ, ◌+◌, ◌<◌, zero, suc, Bool, true, false, cond, List, [], ◌∷◌, length, take, map, get_or, Some, None, IsPermutation, inl, inr, refl, sym, ap, subst, ◌∙◌, arith}
 use Rattle.std.specs.List.{list_any, All, Contains}
 use Rattle.std.specs.List.Sorted.{IsNonDecreasingBy}
 use Rattle.std.specs.Option.{option_map_or}
@@ -58,29 +58,6 @@ base_lower links (suc steps) k base id proto b kind found h =
     let more : depth_within links (suc steps) k ≡ 1 + depth_within links steps b.kind = depth_more links steps k b (ap (base_link links) kind ∙ found) in
     let same : depth_within links (suc steps) b.kind ≡ depth_within links steps b.kind = depth_ends links steps b.kind below in
     omega (arith, more, same)
-
--- ---- the count of steps along the bases
-
-pub depth_start : (links : List Link) (k : Kind) → 0 + depth_within links (length links - 0) k ≡ depth links k
-depth_start links k =
-    let all : length links - 0 ≡ length links = omega arith in
-    zero-add (depth_within links (length links - 0) k) ∙ ap (λ n. depth_within links n k) all
-
-module _ (links : List Link) (step : ℕ) (first now : Kind) (so_far : step + depth_within links (length links - step) now ≡ depth links first) where
-  pub depth_stop : base_link links now ≡ None → step ≡ depth links first
-  depth_stop none = omega (arith, so_far, depth_none links (length links - step) now none)
-
-  pub depth_next : step < length links → (b : Link) → base_link links now ≡ Some b → (step + 1) + depth_within links (length links - (step + 1)) b.kind ≡ depth links first
-  depth_next more b found =
-      let left : length links - step ≡ suc (length links - (step + 1)) = omega (arith, more) in
-      let one : depth_within links (length links - step) now ≡ 1 + depth_within links (length links - (step + 1)) b.kind = ap (λ n. depth_within links n now) left ∙ depth_more links (length links - (step + 1)) now b found in
-      omega (arith, so_far, one)
-
-  pub depth_end : length links ≤ step → step ≤ length links → length links ≡ depth links first
-  depth_end past within =
-      let none : length links - step ≡ 0 = omega (arith, past) in
-      let rest : depth_within links (length links - step) now ≡ 0 = ap (λ n. depth_within links n now) none in
-      omega (arith, so_far, rest, past, within)
 
 -- ---- lists
 

@@ -22,6 +22,20 @@ depth_within links (suc steps) kind = option_map_or (λ b. 1 + depth_within link
 abbrev pub depth : List Link → Kind → ℕ
 depth links kind = depth_within links (length links) kind
 
+-- the place of the base of a VLAN
+abbrev pub IsBasePlace : List Link → Kind → Option ℕ → Type 0
+IsBasePlace links kind None = base_link links kind ≡ None
+IsBasePlace links kind (Some i) = (i < length links) × ((d : Link) → base_link links kind ≡ Some (slice_index_or links i d))
+
+-- the link at this place has this depth
+abbrev pub IsDepthAt : List Link → ℕ → ℕ → Type 0
+IsDepthAt links i n = (d : Link) → n ≡ depth links (slice_index_or links i d).kind
+
+-- what is known at each place is the depth of the link there
+pub record AreDepths (links : List Link) (known : List (Option ℕ)) : Type 0 where
+  pub each : length known ≡ length links
+  pub right : (i n : ℕ) → i < length links → slice_index_or known i None ≡ Some n → IsDepthAt links i n
+
 -- the depth of a link, with its name
 abbrev pub by_base : List Link → Link → ℕ × List ℕ
 by_base links l = (depth links l.kind, l.name)

@@ -1,68 +1,128 @@
 //! Orders of names.
-ghost use Rattle.std.specs.Prelude.{◌≡◌, ◌≤◌, ℕ, List, length, map, option_copied, IfOk, OnOk, IsPermutation};
+ghost use Rattle.std.specs.Prelude.{◌≡◌, ◌≤◌, ◌<◌, ℕ, List, length, map, slice_index_or, IfOk, OnOk, IsPermutation};
 ghost use Rattle.std.specs.List.Sorted.{IsNonDecreasingBy};
 ghost use Rattle.net_model.specs.declared.Link.{Link};
-ghost use Rattle.link_planner.specs.Depths.{base_link, depth, by_base, by_top, IsBaseFirst, NamesAll};
+ghost use Rattle.link_planner.specs.Depths.{IsBasePlace, IsDepthAt, AreDepths, by_base, by_top, IsBaseFirst, NamesAll};
 
-use net_model::{Kind, Link, Name, Net, OutOfMemory};
+use net_model::{Kind, Link, Name, Net, OutOfMemory, Place};
 use std::alloc::{AllocError, Global};
 
-// The base of a VLAN.
-fn base_link<'a>(net: &'a Net, kind: &Kind) -> Option<&'a Link>
-    ensures { option_copied result ≡ base_link net.now.links kind.now }
+// The place of the base of a VLAN.
+fn base_place(net: &Net, kind: &Kind) -> Option<usize>
+    ensures { IsBasePlace net.now.links kind.now result }
 {
     match kind {
-        Kind::Vlan { base, .. } => net.link(base),
+        Kind::Vlan { base, .. } => match net.link_place(base) {
+            Place::At(at) => Some(at),
+            Place::Gap(_) => None,
+        },
         _ => None,
     }
 }
 
-// How many bases are below a link of this kind.
-fn depth(net: &Net, kind: &Kind) -> usize
-    ensures depth { result ≡ depth net.now.links kind.now }
+// The place of the base of the link at a place.
+fn base_at(net: &Net, at: usize) -> Option<usize>
+    requires { at < length net.now.links }
+    ensures { (d : Link) → IsBasePlace net.now.links (slice_index_or net.now.links at d).kind result }
+{
+    let kind = net.links()[at].kind;
+    base_place(net, &kind)
+}
+
+// The depth of the link at a place: the steps down to a link whose depth is known, and that depth.
+fn depth_at(net: &Net, known: &[Option<usize>], start: usize) -> usize
+    requires known { AreDepths net.now.links known.now }
+    requires inside { start < length net.now.links }
+    ensures depth { IsDepthAt net.now.links start result }
     ensures most { result ≤ length net.now.links }
 {
+    net.laws();
     let count = net.links().len();
-    let mut current = *kind;
-    for step in 0..count {
-        let Some(base) = base_link(net, &current) else {
-            return step;
+    let mut at = start;
+    for steps in 0..count {
+        if let Some(depth) = known[at] {
+            return steps + depth;
+        }
+        let Some(base) = base_at(net, at) else {
+            return steps;
         };
-        current = base.kind;
+        at = base;
     }
     count
 }
 
-fn by_base(net: &Net, link: &Link) -> (usize, Name)
-    ensures { result ≡ by_base net.now.links link.now }
+// Notes the depth of the link at a place, and of those below it down to one whose depth is known.
+fn note(net: &Net, known: &mut [Option<usize>], start: usize, depth: usize)
+    requires known { AreDepths net.now.links known.old }
+    requires inside { start < length net.now.links }
+    requires depth { IsDepthAt net.now.links start depth }
+    ensures { AreDepths net.now.links known.new }
 {
-    (depth(net, &link.kind), link.name)
+    net.laws();
+    let mut at = start;
+    let mut left = depth;
+    while known[at].is_none() {
+        known[at] = Some(left);
+        let Some(base) = base_at(net, at) else {
+            return;
+        };
+        at = base;
+        left -= 1;
+    }
 }
 
-fn by_top(net: &Net, link: &Link) -> (usize, Name)
-    ensures { result ≡ by_top net.now.links link.now }
+// The depths of the links, by place. Each is noted once, so this is linear in the links but for finding the bases.
+fn known_depths(alloc: Global, net: &Net) -> Result<Vec<Option<usize>>, AllocError>
+    ensures { IfOk result (λ known. AreDepths net.now.links known.items) }
 {
-    (net.links().len() - depth(net, &link.kind), link.name)
+    let count = net.links().len();
+    let mut known = vec![in alloc; None; count]?;
+    for at in 0..count {
+        let depth = depth_at(net, &known, at);
+        note(net, &mut known, at, depth);
+    }
+    Ok(known)
+}
+
+fn by_base(net: &Net, known: &[Option<usize>], at: usize) -> (usize, Name)
+    requires known { AreDepths net.now.links known.now }
+    requires inside { at < length net.now.links }
+    ensures { (d : Link) → result ≡ by_base net.now.links (slice_index_or net.now.links at d) }
+{
+    (depth_at(net, known, at), net.links()[at].name)
+}
+
+fn by_top(net: &Net, known: &[Option<usize>], at: usize) -> (usize, Name)
+    requires known { AreDepths net.now.links known.now }
+    requires inside { at < length net.now.links }
+    ensures { (d : Link) → result ≡ by_top net.now.links (slice_index_or net.now.links at d) }
+{
+    let count = net.links().len();
+    (count - depth_at(net, known, at), net.links()[at].name)
 }
 
 // The depths of the links, with their names.
 fn depths(alloc: Global, net: &Net) -> Result<Vec<(usize, Name)>, AllocError>
     ensures { IfOk result (λ places. places.items ≡ map (by_base net.now.links) net.now.links) }
 {
-    net.links()
-        .iter()
-        .map(|link| by_base(net, link))
-        .collect(alloc)
+    let known = known_depths(alloc, net)?;
+    let mut places = Vec::new(alloc);
+    for at in 0..net.links().len() {
+        places.push(by_base(net, &known, at))?;
+    }
+    Ok(places)
 }
 
 // How far each link is from the greatest depth that there can be, with its name.
 fn heights(alloc: Global, net: &Net) -> Result<Vec<(usize, Name)>, AllocError>
     ensures { IfOk result (λ places. places.items ≡ map (by_top net.now.links) net.now.links) }
 {
-    net.links()
-        .iter()
-        .map(|link| by_top(net, link))
-        .collect(alloc)
+    let known = known_depths(alloc, net)?;
+    let mut places = Vec::new(alloc);
+    for at in 0..net.links().len() {
+        places.push(by_top(net, &known, at))?;
+    }
+    Ok(places)
 }
 
 // Sorts by the numbers. Where these are equal the order stays.
