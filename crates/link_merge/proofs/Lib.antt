@@ -1,6 +1,9 @@
 mod Apart
+mod Before
 mod ByName
 mod Claims
+mod Contested
+mod Firsts
 mod Groups
 mod Least
 mod Marked
@@ -8,3 +11,4 @@ mod More
 mod NoCycle
 mod Placed
 mod Positions
+mod Vlans

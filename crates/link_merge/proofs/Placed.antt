@@ -1,6 +1,6 @@
 -- What is found by name, by its place among the names.
-use Rattle.std.proofs.Common.{◌≡◌, ℕ, ◌<◌, ◌≤◌, zero, suc, Bool, true, false, cond, List, [], ◌∷◌, map, length, get_or, Option, Some, None, refl, sym, ap, ◌∙◌, arith, nat_lt}
-use Rattle.std.specs.List.{find, position, position_or_len, slice_get}
+use Rattle.std.proofs.Common.{◌≡◌, ℕ, ◌<◌, ◌≤◌, zero, suc, Bool, true, false, cond, List, [], ◌∷◌, map, length, get_or, Some, None, refl, sym, ap, ◌∙◌, arith, nat_lt}
+use Rattle.std.specs.List.{find, position, position_or_len}
 use Rattle.std.proofs.lemmas.List.{get_or-map, length-map}
 use Rattle.std.proofs.lemmas.List.Quantifiers.{position-Some}
 use Rattle.std.proofs.lemmas.List.Folds.{find_at}
@@ -22,11 +22,13 @@ placed f q xs i x e at is =
     (ap q (sym (get_or-map f xs i x e inside)) ∙ s.1)
     (λ k below. ap q (sym (get_or-map f xs k x e (omega (arith, below, inside)))) ∙ s.2 k below))
 
-same_place : {X Y : Type 0} (f : X → Y) (q : Y → Bool) (xs : List X) → position_or_len q (map f xs) ≡ position_or_len (λ y. q (f y)) xs
+-- the same place whether names or what they name are looked at
+pub same_place : {X Y : Type 0} (f : X → Y) (q : Y → Bool) (xs : List X) → position_or_len q (map f xs) ≡ position_or_len (λ y. q (f y)) xs
 same_place f q [] = refl
 same_place f q (x ∷ xs) = rw (same_place f q xs) refl
 
-past : (m n : ℕ) → nat_lt m n ≡ false → n ≤ m
+-- a place that is not within
+pub past : (m n : ℕ) → nat_lt m n ≡ false → n ≤ m
 past m n h = grind (arith, nat_tests)
 
 -- and where the name has no place nothing is found

@@ -1,2 +1,4 @@
 pub mod Rules
 pub mod Index
+pub mod Twins
+pub mod Listers

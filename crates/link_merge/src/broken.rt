@@ -9,8 +9,9 @@ ghost use Rattle.merge_model.specs.BrokenLinks.{port_kind, bad_base, cycle, vlan
 ghost use Rattle.link_merge.specs.Rules.{entry_rules, port_rules, merged_rules};
 
 use crate::bonds::bond_options;
+use crate::broken_entries::{duplicate_name, missing_detail, no_device, no_type, physical_kind};
 use crate::broken_links::{bad_base, base_down, port_address, port_kind, vlan_mtu};
-use crate::entries::{duplicate_name, missing_detail, no_device, no_type, physical_kind};
+use crate::entries::Entries;
 use crate::members::Members;
 use crate::merged::Merged;
 use crate::ports::{port_conflict, port_missing, port_twice};
@@ -111,12 +112,12 @@ fn from_no_type(net: &Net, entries: &[LinkEntry]) -> Option<Refused>
 }
 
 /// The least of rules 1 to 5 that is broken, at its first place.
-pub(crate) fn entries_broken(net: &Net, entries: &[LinkEntry]) -> Option<Refused>
+pub(crate) fn entries_broken(net: &Net, entries: &Entries) -> Option<Refused>
     ensures { result ≡ first_of at_rule (entry_rules net.now.links entries.now) }
 {
     match duplicate_name(entries) {
         Some(place) => Some(refused(DUPLICATE_NAME, place)),
-        None => from_no_type(net, entries),
+        None => from_no_type(net, entries.list()),
     }
 }
 
@@ -213,7 +214,8 @@ fn from_vlan_twin(
     requires { names_differ merged.now ≡ true }
     ensures { IfOk result (λ broken. broken ≡ first_of at_rule ((12, vlan_twin merged.now) ∷ (13, base_down merged.now) ∷ (14, vlan_mtu merged.now) ∷ (15, bond_options merged.now) ∷ (16, port_address members.now merged.now) ∷ (17, address_twice merged.now) ∷ [])) }
 {
-    match vlan_twin(merged.links()) {
+    let twin = vlan_twin(alloc, merged.links())?;
+    match twin {
         Some(place) => Ok(Some(refused(VLAN_TWIN, place))),
         None => from_base_down(alloc, members, merged),
     }

@@ -172,13 +172,6 @@ fn kept_controller(members: &Members, slot: &Slot) -> Option<Name>
     }
 }
 
-/// The first link whose stated list names the link.
-pub(crate) fn first_lister<'a, 'b>(slots: &'b [Slot<'a>], name: &Name) -> Option<&'b Slot<'a>>
-    ensures { option_copied result ≡ find (λ c. lists c name.now) slots.now }
-{
-    slots.iter().find(|slot| lists(slot, name))
-}
-
 fn name_of(found: Option<&Slot>) -> Option<Name>
     ensures { result ≡ option_map (λ c. c.name) (option_copied found.entry) }
 {
@@ -192,7 +185,7 @@ fn name_of(found: Option<&Slot>) -> Option<Name>
 fn listed_controller(members: &Members, slot: &Slot) -> Option<Name>
     ensures { result ≡ option_map_or (λ c. Some c.name) (find (λ c. lists c slot.now.name) members.now) (kept_controller members.now slot.now) }
 {
-    match name_of(first_lister(members.slots(), &slot.name())) {
+    match name_of(members.first_lister(&slot.name())) {
         Some(name) => Some(name),
         None => kept_controller(members, slot),
     }

@@ -29,14 +29,19 @@ impl Model for Index {
     ghost invariant = { λ i. HasPlaces i.names.items i.places };
 }
 
-fn first_place(places: &BTreeMap<Name, usize>, name: &Name) -> Option<usize>
+/// The place of the name in the map.
+pub(crate) fn first_place(places: &BTreeMap<Name, usize>, name: &Name) -> Option<usize>
     ensures { result ≡ get name_cmp places.now name.now }
 {
     places.get(name).copied()
 }
 
-// Takes the place of the name, unless the name has one.
-fn note(places: &mut BTreeMap<Name, usize>, name: Name, at: usize) -> Result<(), AllocError>
+/// Takes the place of the name, unless the name has one.
+pub(crate) fn note(
+    places: &mut BTreeMap<Name, usize>,
+    name: Name,
+    at: usize,
+) -> Result<(), AllocError>
     ensures { OnOk result ((q : List ℕ) → get name_cmp places.new q ≡ option_or (get name_cmp places.old q) (if same_bytes name q then Some at else None)) }
 {
     match first_place(places, &name) {

@@ -11,12 +11,13 @@ ghost use Rattle.link_merge.specs.Rules.{entry_rules, port_rules, merged_rules};
 
 use crate::broken::{entries_broken, merged_broken, ports_broken};
 use crate::controllers::with_controllers;
+use crate::entries::Entries;
 use crate::fields::merged_links;
 use crate::lifted::with_lifted;
 use crate::members::Members;
 use crate::merged::Merged;
 use crate::seats::seats;
-use document_model::{Doc, LinkEntry};
+use document_model::Doc;
 use merge_laws::merge_laws;
 use merge_model::MergeFault;
 use net_model::{Link, Net};
@@ -26,7 +27,7 @@ use std::alloc::{AllocError, Global};
 fn members<'a>(
     alloc: Global,
     net: &'a Net,
-    entries: &'a [LinkEntry],
+    entries: &Entries<'a>,
 ) -> Result<Members<'a>, AllocError>
     ensures { IfOk result (λ ms. ms ≡ members net.now.links entries.now) }
 {
@@ -44,7 +45,7 @@ fn merged(alloc: Global, members: &Members) -> Result<Merged, AllocError>
 }
 
 // The names of the merged links differ, where the entries break no rule.
-fn names_differ_laws(net: &Net, entries: &[LinkEntry], merged: &Merged)
+fn names_differ_laws(net: &Net, entries: &Entries, merged: &Merged)
     requires rules { first_of at_rule (entry_rules net.now.links entries.now) ≡ None }
     requires links { merged.now ≡ links_of net.now.links entries.now }
     ensures { names_differ merged.now ≡ true }
@@ -54,11 +55,17 @@ fn names_differ_laws(net: &Net, entries: &[LinkEntry], merged: &Merged)
 }
 
 // The merge where the entries break no rule.
-fn merge_entries(alloc: Global, net: &Net, doc: &Doc) -> Result<Vec<Link>, MergeFault>
-    requires { first_of at_rule (entry_rules net.now.links doc.now.links) ≡ None }
+fn merge_entries<'a>(
+    alloc: Global,
+    net: &'a Net,
+    doc: &Doc,
+    entries: &Entries<'a>,
+) -> Result<Vec<Link>, MergeFault>
+    requires rules { first_of at_rule (entry_rules net.now.links entries.now) ≡ None }
+    requires entries { entries.now ≡ doc.now.links }
     ensures { MergesLinks net.now doc.now result }
 {
-    let entries = doc.links.items().as_slice();
+    let _ = doc;
     let members = members(alloc, net, entries)?;
     let wrong = ports_broken(alloc, &members)?;
     if let Some(refused) = wrong {
@@ -77,8 +84,9 @@ fn merge_entries(alloc: Global, net: &Net, doc: &Doc) -> Result<Vec<Link>, Merge
 pub fn merge_links(alloc: Global, net: &Net, doc: &Doc) -> Result<Vec<Link>, MergeFault>
     ensures { MergesLinks net.now doc.now result }
 {
-    match entries_broken(net, doc.links.items()) {
+    let entries = Entries::of(alloc, doc.links.items().as_slice())?;
+    match entries_broken(net, &entries) {
         Some(refused) => Err(MergeFault::Refused(refused)),
-        None => merge_entries(alloc, net, doc),
+        None => merge_entries(alloc, net, doc, &entries),
     }
 }

@@ -1,29 +1,38 @@
 //! The links of the merged state, found by their names.
-ghost use Rattle.std.specs.Prelude.{◌≡◌, map, option_copied, IfOk};
+ghost use Rattle.std.specs.Prelude.{◌≡◌, map, find, option_copied, IfOk};
+ghost use Rattle.std.specs.List.{list_any};
 ghost use Rattle.merge_model.specs.Members.{Member, find_member};
+ghost use Rattle.merge_model.specs.Controllers.{lists};
+ghost use Rattle.link_merge.specs.Listers.{rivals};
 
 use crate::index::Index;
+use crate::listers::{contested_names, first_lister, first_listers};
 use crate::slot::Slot;
 use net_model::Name;
 use std::alloc::{AllocError, Global};
+use std::collections::{BTreeMap, BTreeSet};
 use std::marker::Model;
 
-/// The links of the merged state by rank, with an index of their names.
+/// The links of the merged state by rank, with an index of their names and one of the names in their stated lists of
+/// ports.
 #[derive(Drop)]
 pub(crate) struct Members<'a> {
     slots: Vec<Slot<'a>>,
     index: Index,
+    firsts: BTreeMap<Name, usize>,
+    contested: BTreeSet<Name>,
 }
 
 impl<'a> Model for Members<'a> {
     ghost use Rattle.std.specs.Prelude.{◌≡◌, List, map};
     ghost use Rattle.merge_model.specs.Members.{Member};
+    ghost use Rattle.link_merge.specs.Listers.{HasFirsts, HasContested};
 
     ghost Value = { List Member };
 
     ghost view = { λ ms. ms.slots.items };
 
-    ghost invariant = { λ ms. ms.index ≡ map (λ (m : Member). m.name) ms.slots.items };
+    ghost invariant = { λ ms. (ms.index ≡ map (λ (m : Member). m.name) ms.slots.items) × HasFirsts ms.slots.items ms.firsts × HasContested ms.slots.items ms.contested };
 }
 
 fn names(alloc: Global, slots: &[Slot]) -> Result<Vec<Name>, AllocError>
@@ -38,7 +47,14 @@ impl<'a> Members<'a> {
     {
         let names = names(alloc, &slots)?;
         let index = Index::of(alloc, names)?;
-        Ok(Members { slots, index })
+        let firsts = first_listers(alloc, &slots)?;
+        let contested = contested_names(alloc, &slots, &firsts)?;
+        Ok(Members {
+            slots,
+            index,
+            firsts,
+            contested,
+        })
     }
 
     /// The links, by rank.
@@ -56,5 +72,19 @@ impl<'a> Members<'a> {
             Some(at) => Some(&self.slots[at]),
             None => None,
         }
+    }
+
+    /// The first link whose stated list names the link.
+    pub(crate) fn first_lister<'b>(&'b self, name: &Name) -> Option<&'b Slot<'a>>
+        ensures { option_copied result ≡ find (λ c. lists c name.now) self.now }
+    {
+        first_lister(&self.slots, &self.firsts, name)
+    }
+
+    /// Whether the lists of two links of different names name the link.
+    pub(crate) fn is_contested(&self, name: &Name) -> bool
+        ensures { result ≡ list_any (rivals self.now name.now) self.now }
+    {
+        self.contested.contains(name)
     }
 }

@@ -1,20 +1,20 @@
 //! The rules 6 to 8 of the merge, which are asked of claims and lists of ports.
-ghost use Rattle.std.specs.Prelude.{◌≡◌, ◌&&◌, ◌||◌, ◌∷◌, [], not, false, find, map, is_some, is_none, option_copied, IfOk};
+ghost use Rattle.std.specs.Prelude.{◌≡◌, ◌&&◌, ◌||◌, ◌∷◌, [], not, false, find, is_some, is_none, option_copied, IfOk};
 ghost use Rattle.std.specs.List.{list_any};
 ghost use Rattle.std.specs.Option.{option_map_or, option_map, option_or, unwrap_or};
 ghost use Rattle.net_model.specs.Name.{same_bytes};
 ghost use Rattle.net_model.specs.Words.{apart};
-ghost use Rattle.document_model.specs.declared.PortEntry.{PortEntry};
 ghost use Rattle.merge_model.specs.Members.{Member, find_member};
-ghost use Rattle.merge_model.specs.Controllers.{ports_by, stated_ports, lists, own_claim, claims};
+ghost use Rattle.merge_model.specs.Controllers.{stated_ports, lists, own_claim, claims};
 ghost use Rattle.merge_model.specs.Places.{at_member};
 ghost use Rattle.merge_model.specs.BrokenPorts.{is_missing, claims_missing, port_missing, port_twice, same_claim, claims_differ, leaves_out, is_left_out, port_conflict};
 
-use crate::controllers::{first_lister, lacks_list, lists, own_claim};
+use crate::controllers::{lacks_list, lists, own_claim};
 use crate::members::Members;
+use crate::port_lists::stated_ports;
 use crate::slot::Slot;
-use document_model::{Claim, LinkEntry, Place, PortEntry};
-use net_model::{Items, Kind, Name};
+use document_model::{Claim, Place};
+use net_model::Name;
 use std::alloc::{AllocError, Global};
 
 fn at_member(found: Option<&Slot>) -> Option<Place>
@@ -23,52 +23,6 @@ fn at_member(found: Option<&Slot>) -> Option<Place>
     match found {
         Some(slot) => Some(Place::Link(slot.name())),
         None => None,
-    }
-}
-
-fn name_list(alloc: Global, names: &Option<Items<Name>>) -> Result<Vec<Name>, AllocError>
-    ensures { IfOk result (λ list. list.items ≡ unwrap_or names.now []) }
-{
-    match names {
-        Some(names) => names.items().iter().copied().collect(alloc),
-        None => Ok(Vec::new(alloc)),
-    }
-}
-
-fn port_names(alloc: Global, ports: &[PortEntry]) -> Result<Vec<Name>, AllocError>
-    ensures { IfOk result (λ list. list.items ≡ map (λ (p : PortEntry). p.name) ports.now) }
-{
-    ports.iter().map(|port| port.name).collect(alloc)
-}
-
-fn entry_list(alloc: Global, ports: &Option<Items<PortEntry>>) -> Result<Vec<Name>, AllocError>
-    ensures { IfOk result (λ list. list.items ≡ unwrap_or (option_map (map (λ (p : PortEntry). p.name)) ports.now) []) }
-{
-    match ports {
-        Some(ports) => port_names(alloc, ports.items()),
-        None => Ok(Vec::new(alloc)),
-    }
-}
-
-fn list_by(alloc: Global, kind: &Kind, entry: &LinkEntry) -> Result<Vec<Name>, AllocError>
-    ensures { IfOk result (λ list. list.items ≡ unwrap_or (ports_by kind.now entry.now) []) }
-{
-    match kind {
-        Kind::Bond { .. } => name_list(alloc, &entry.bond.ports),
-        Kind::Bridge => entry_list(alloc, &entry.bridge.ports),
-        Kind::Vrf { .. } => name_list(alloc, &entry.vrf.ports),
-        _ => Ok(Vec::new(alloc)),
-    }
-}
-
-// The stated list of ports, empty where none is stated.
-fn stated_ports(alloc: Global, slot: &Slot) -> Result<Vec<Name>, AllocError>
-    ensures { IfOk result (λ list. list.items ≡ unwrap_or (stated_ports slot.now) []) }
-{
-    let kind = slot.kind();
-    match slot.entry() {
-        Some(entry) => list_by(alloc, &kind, entry),
-        None => Ok(Vec::new(alloc)),
     }
 }
 
@@ -176,26 +130,21 @@ fn same_claim(a: Claim, b: Claim) -> bool
 }
 
 // Whether a list that names the link makes another claim.
-fn contradicts(slot: &Slot, name: &Name, claim: Claim) -> bool
-    ensures { result ≡ (lists slot.now name.now && not (same_claim claim (Claim.To slot.now.name))) }
-{
-    lists(slot, name) && !same_claim(claim, Claim::To(slot.name()))
-}
-
+#[tactic(auto, using(crate::proofs::Contested::contradicted, crate::proofs::Contested::uncontradicted))]
 fn is_contradicted(members: &Members, name: &Name, claim: Claim) -> bool
     ensures { result ≡ list_any (λ c. lists c name.now && not (same_claim claim (Claim.To c.name))) members.now }
 {
-    members
-        .slots()
-        .iter()
-        .any(|slot| contradicts(slot, name, claim))
+    match members.first_lister(name) {
+        Some(first) => !same_claim(claim, Claim::To(first.name())) || members.is_contested(name),
+        None => false,
+    }
 }
 
 // The claim of the first list that names the link.
 fn listed_claim(members: &Members, name: &Name) -> Option<Claim>
     ensures { result ≡ option_map (λ c. Claim.To c.name) (find (λ c. lists c name.now) members.now) }
 {
-    match first_lister(members.slots(), name) {
+    match members.first_lister(name) {
         Some(lister) => Some(Claim::To(lister.name())),
         None => None,
     }

@@ -9,7 +9,8 @@ ghost use Rattle.net_model.specs.Standing.{has_base};
 ghost use Rattle.merge_model.specs.Stated.{find_entry, is_mentioned, is_absent};
 ghost use Rattle.merge_model.specs.Members.{is_removed, goes_with, is_gone, retired, stated_wish, entered, entered_over, stays, left_alone, seats};
 
-use crate::entries::{find_entry, kind_of};
+use crate::broken_entries::kind_of;
+use crate::entries::Entries;
 use crate::kinds::merged_kind;
 use crate::reached::closure;
 use crate::slot::{Slot, is_absent};
@@ -27,29 +28,29 @@ pub(crate) fn has_base(kind: &Kind, name: &Name) -> bool
     }
 }
 
-fn is_mentioned(entries: &[LinkEntry], link: &Link) -> bool
+fn is_mentioned(entries: &Entries, link: &Link) -> bool
     ensures { result ≡ is_mentioned entries.now link.now }
 {
-    find_entry(entries, &link.name).is_some()
+    entries.find(&link.name).is_some()
 }
 
-fn is_stated_absent(entries: &[LinkEntry], name: &Name) -> bool
+fn is_stated_absent(entries: &Entries, name: &Name) -> bool
     ensures { result ≡ option_map_or (λ e. is_absent e.wish) (find_entry name.now entries.now) false }
 {
-    match find_entry(entries, name) {
+    match entries.find(name) {
         Some(entry) => is_absent(entry.wish),
         None => false,
     }
 }
 
-fn is_removed(entries: &[LinkEntry], link: &Link) -> bool
+fn is_removed(entries: &Entries, link: &Link) -> bool
     ensures { result ≡ is_removed entries.now link.now }
 {
     is_stated_absent(entries, &link.name) && !is_ethernet(&link.kind)
 }
 
 // Whether the link is an unmentioned VLAN over this base.
-fn goes_with(entries: &[LinkEntry], base: &Link, link: &Link) -> bool
+fn goes_with(entries: &Entries, base: &Link, link: &Link) -> bool
     ensures { result ≡ goes_with entries.now base.now link.now }
 {
     if !has_base(&link.kind, &base.name) {
@@ -61,7 +62,7 @@ fn goes_with(entries: &[LinkEntry], base: &Link, link: &Link) -> bool
 // The places of the VLANs that go with this link.
 fn above(
     alloc: Global,
-    entries: &[LinkEntry],
+    entries: &Entries,
     links: &[Link],
     base: &Link,
 ) -> Result<Vec<usize>, AllocError>
@@ -77,11 +78,7 @@ fn above(
 }
 
 // For each link, the places of those that go with it.
-fn arrows(
-    alloc: Global,
-    entries: &[LinkEntry],
-    links: &[Link],
-) -> Result<Vec<Items<usize>>, AllocError>
+fn arrows(alloc: Global, entries: &Entries, links: &[Link]) -> Result<Vec<Items<usize>>, AllocError>
     ensures { IfOk result (λ arrows. arrows.items ≡ map (λ l. positions (goes_with entries.now l) 0 links.now) links.now) }
 {
     let mut arrows = Vec::new(alloc);
@@ -92,7 +89,7 @@ fn arrows(
     Ok(arrows)
 }
 
-fn removed(alloc: Global, entries: &[LinkEntry], links: &[Link]) -> Result<Vec<bool>, AllocError>
+fn removed(alloc: Global, entries: &Entries, links: &[Link]) -> Result<Vec<bool>, AllocError>
     ensures { IfOk result (λ marks. marks.items ≡ map (is_removed entries.now) links.now) }
 {
     links
@@ -104,7 +101,7 @@ fn removed(alloc: Global, entries: &[LinkEntry], links: &[Link]) -> Result<Vec<b
 // Which links are reached from those that are removed.
 fn reached(
     alloc: Global,
-    entries: &[LinkEntry],
+    entries: &Entries,
     links: &[Link],
     starts: &[bool],
 ) -> Result<Vec<bool>, AllocError>
@@ -123,7 +120,7 @@ fn either(a: bool, b: bool) -> bool
 }
 
 // Whether each link goes.
-fn gone(alloc: Global, entries: &[LinkEntry], links: &[Link]) -> Result<Vec<bool>, AllocError>
+fn gone(alloc: Global, entries: &Entries, links: &[Link]) -> Result<Vec<bool>, AllocError>
     ensures { IfOk result (λ marks. marks.items ≡ map (is_gone links.now entries.now) links.now) }
 {
     let starts = removed(alloc, entries, links)?;
@@ -209,6 +206,17 @@ fn all_entered<'a>(
     Ok(slots)
 }
 
+fn from_entries<'a>(
+    alloc: Global,
+    net: &'a Net,
+    entries: &Entries<'a>,
+) -> Result<Vec<Slot<'a>>, AllocError>
+    ensures { IfOk result (λ slots. slots.items ≡ filter_map (entered_over net.now.links) entries.now) }
+{
+    let slots = all_entered(alloc, net, entries.list())?;
+    Ok(slots)
+}
+
 fn left_alone<'a>(link: &'a Link) -> Slot<'a>
     ensures { result ≡ left_alone link.now }
 {
@@ -218,7 +226,7 @@ fn left_alone<'a>(link: &'a Link) -> Slot<'a>
 // An unmentioned link that doesn't go.
 fn push_staying<'a>(
     slots: &mut Vec<Slot<'a>>,
-    entries: &[LinkEntry],
+    entries: &Entries,
     link: &'a Link,
     gone: bool,
 ) -> Result<(), AllocError>
@@ -234,11 +242,11 @@ fn push_staying<'a>(
 pub(crate) fn seats<'a>(
     alloc: Global,
     net: &'a Net,
-    entries: &'a [LinkEntry],
+    entries: &Entries<'a>,
 ) -> Result<Vec<Slot<'a>>, AllocError>
     ensures { IfOk result (λ slots. slots.items ≡ seats net.now.links entries.now) }
 {
-    let mut slots = all_entered(alloc, net, entries)?;
+    let mut slots = from_entries(alloc, net, entries)?;
     let links = net.links().as_slice();
     let gone = gone(alloc, entries, links)?;
     for at in 0..links.len() {

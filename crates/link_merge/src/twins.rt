@@ -1,41 +1,57 @@
 //! The rule 12 of the merge: two VLANs agree in base, protocol and number.
-ghost use Rattle.std.specs.Prelude.{◌≡◌, [], option_copied};
-ghost use Rattle.std.specs.List.{list_any};
-ghost use Rattle.net_model.specs.Links.{is_twin};
-ghost use Rattle.merge_model.specs.Places.{first_second};
+ghost use Rattle.std.specs.Prelude.{◌≡◌, ◌++◌, ◌∷◌, [], false, not, List, IfOk, OnOk};
+ghost use Rattle.std.specs.Option.{option_map_or};
+ghost use Rattle.std.specs.BTreeSet.{contains};
+ghost use Rattle.net_model.specs.declared.Link.{Link};
 ghost use Rattle.merge_model.specs.BrokenLinks.{vlan_twin};
+ghost use Rattle.link_merge.specs.Twins.{is_dot1ad, vlan_key, vlan_cmp, HasVlans};
 
-use crate::broken_links::at_link;
 use document_model::Place;
-use net_model::{Kind, Link};
+use net_model::{Kind, Link, Name, Proto, VlanId};
+use std::alloc::{AllocError, Global};
+use std::collections::BTreeSet;
 
-fn is_twin(a: &Kind, b: &Kind) -> bool
-    ensures { result ≡ is_twin a.now b.now }
+fn is_dot1ad(proto: Proto) -> bool
+    ensures { result ≡ is_dot1ad proto }
 {
-    matches!(a, Kind::Vlan { .. }) && a == b
+    matches!(proto, Proto::Dot1ad)
 }
 
-fn has_twin(seen: &[Link], link: &Link) -> bool
-    ensures { result ≡ list_any (λ l. is_twin l.kind link.now.kind) seen.now }
+// Base, number, and whether the protocol is 802.1ad.
+fn key_of(kind: &Kind) -> Option<(Name, VlanId, bool)>
+    ensures { result ≡ vlan_key kind.now }
 {
-    seen.iter().any(|l| is_twin(&l.kind, &link.kind))
-}
-
-fn first_twin(links: &[Link]) -> Option<&Link>
-    ensures { option_copied result ≡ first_second (λ a b. is_twin a.kind b.kind) [] links.now }
-{
-    for i in 0..links.len() {
-        let link = &links[i];
-        if has_twin(&links[..i], link) {
-            return Some(link);
-        }
+    match kind {
+        Kind::Vlan { base, id, proto } => Some((*base, *id, is_dot1ad(*proto))),
+        _ => None,
     }
-    None
+}
+
+// Whether no VLAN that the set has the key of is a twin of the link. The set then has that one's key too.
+fn is_first(seen: &mut BTreeSet<(Name, VlanId, bool)>, link: &Link) -> Result<bool, AllocError>
+    ensures first { IfOk result (λ first. first ≡ not (option_map_or (contains vlan_cmp seen.old) (vlan_key link.now.kind) false)) }
+    ensures seen { OnOk result ((links : List Link) → HasVlans seen.old links → HasVlans seen.new (links ++ link.now ∷ [])) }
+{
+    match key_of(&link.kind) {
+        Some(key) => {
+            let new = seen.insert(key)?;
+            Ok(new)
+        }
+        None => Ok(true),
+    }
 }
 
 /// The place of rule 12.
-pub(crate) fn vlan_twin(links: &[Link]) -> Option<Place>
-    ensures { result ≡ vlan_twin links.now }
+pub(crate) fn vlan_twin(alloc: Global, links: &[Link]) -> Result<Option<Place>, AllocError>
+    ensures { IfOk result (λ place. place ≡ vlan_twin links.now) }
 {
-    at_link(first_twin(links))
+    let mut seen = BTreeSet::new(alloc);
+    for i in 0..links.len() {
+        let link = &links[i];
+        let first = is_first(&mut seen, link)?;
+        if !first {
+            return Ok(Some(Place::Link(link.name)));
+        }
+    }
+    Ok(None)
 }
