@@ -1,0 +1,8 @@
+pub mod Searches
+pub mod StatedLists
+pub mod Each
+pub mod Seats
+pub mod Controllers
+pub mod Fields
+pub mod Rules
+pub mod Itself

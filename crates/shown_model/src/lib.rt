@@ -1,0 +1,2 @@
+//! The document that a printed state is.
+#![tactic(auto)]

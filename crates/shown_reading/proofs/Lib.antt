@@ -1,0 +1,14 @@
+pub mod Lists
+pub mod Steps
+pub mod Texts
+pub mod Values
+pub mod Addresses
+pub mod Bonds
+pub mod Bridges
+pub mod Sections
+pub mod Links
+pub mod Prefixes
+pub mod Routes
+pub mod Rules
+pub mod Dns
+pub mod Documents

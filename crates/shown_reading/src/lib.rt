@@ -1,0 +1,6 @@
+//! That what a state is printed as is read as the document that it shows.
+#![tactic(auto)]
+
+mod laws;
+
+pub use laws::reading_laws;

@@ -1,0 +1,10 @@
+pub mod Tests
+pub mod InOrder
+pub mod Members
+pub mod Links
+pub mod Networks
+pub mod Readings
+pub mod Documents
+pub mod HardwareLists
+pub mod Read
+pub mod Orders
