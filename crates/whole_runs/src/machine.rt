@@ -6,7 +6,6 @@ use base_model::OutOfMemory;
 use disk_host::DiskHost;
 use host_core::{DumpFault, Host};
 use host_memory::{Fuse, LyingHost, MemoryDisk, MemoryHost};
-use near_disk::NearDisk;
 use net_model::Net;
 use std::alloc::Global;
 
@@ -17,7 +16,7 @@ pub enum Kind {
     Disk,
 }
 
-/// What stands between two commands, and what the last one did. Over a disk the second slot of its kernel area is kept near.
+/// What stands between two commands, and what the last one did.
 #[derive(Drop)]
 pub enum Machine {
     Memory(MemoryHost),
@@ -153,7 +152,7 @@ impl Machine {
             Machine::Memory(host) => copied_net(host.net()),
             Machine::Disk(held) => {
                 let held = disk(alloc, held, Vec::new(alloc))?;
-                let mut host = DiskHost::new(NearDisk::new(held));
+                let mut host = DiskHost::new(held);
                 dumped(alloc, &mut host)
             }
         }
@@ -189,9 +188,9 @@ impl Machine {
                 Ok((Machine::Memory(host), seen))
             }
             Machine::Disk(disk) => {
-                let mut host = DiskHost::new(NearDisk::new(disk));
+                let mut host = DiskHost::new(disk);
                 let seen = run_on(alloc, run, faults, inputs, &mut host)?;
-                Ok((Machine::Disk(host.into_disk().into_disk()), seen))
+                Ok((Machine::Disk(host.into_disk()), seen))
             }
         }
     }
