@@ -1,4 +1,4 @@
--- What the stages of a run hand on to one another.
+-- What each stage of a run is given by the one before it.
 use Rattle.std.specs.Prelude.{◌≡◌, ◌⊎◌, ℕ, List, length, Err}
 use Rattle.net_model.specs.NetData.{NetData}
 use Rattle.net_model.specs.declared.Call.{Call}
