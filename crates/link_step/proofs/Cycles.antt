@@ -3,7 +3,7 @@ use Rattle.std.proofs.Common.{◌≡◌, ℕ, zero, suc, Bool, true, false, not,
 use Rattle.std.specs.Cmp.Lexicographic.{slice_cmp}
 use Rattle.std.proofs.lemmas.Cmp.{nat_list_cmp_total, tied_itself}
 use Rattle.net_model.specs.Name.{same_bytes}
-use Rattle.net_model.specs.Links.{find_link, is_named, is_port_of, named_passes, takes}
+use Rattle.net_model.specs.Links.{find_link, is_named, is_port_of, takes}
 use Rattle.net_model.specs.Standing.{has_base, stands_on, reaches, no_cycle}
 use Rattle.net_model.specs.Valid.{names_differ}
 use Rattle.net_model.specs.NetData.{NetData, IsNet}
@@ -14,7 +14,7 @@ use Rattle.net_model.proofs.lemmas.Truth.{and_left, and_right}
 use Rattle.net_model.proofs.lemmas.Found.{one_name, names_differ-rises, found_by_halving}
 use Rattle.net_model.proofs.lemmas.Grounded.{found_named}
 use Rattle.net_model.proofs.lemmas.FactsHold.{facts}
-use Rattle.net_model.proofs.lemmas.ByName.{some_found, passing_found}
+use Rattle.net_model.proofs.lemmas.ByName.{some_found}
 use Rattle.net_model.proofs.lemmas.Ranks.{or_elim}
 use Rattle.kernel_model.specs.Devices.{is_ethernet}
 use Rattle.kernel_model.specs.Words.{has_link, edit_link}
@@ -24,7 +24,8 @@ use Rattle.kernel_laws.proofs.lemmas.StepKeeps.{makes_cycles}
 use Rattle.link_step.specs.Place.{IsAt}
 
 module _ (net : NetData) (is : IsNet net) where
-  differ : names_differ net.links ≡ true
+  -- the names of its links differ
+  pub differ : names_differ net.links ≡ true
   differ = names_differ-rises net.links is.in_order.links
 
   -- the law of cycles, by the names of both links
@@ -38,7 +39,8 @@ module _ (net : NetData) (is : IsNet net) where
       twice true = refl
       twice false = refl
 
-  controlling : (port controller : List ℕ) → (has_link port net.links && has_link controller net.links) ≡ true → (c : Link) × (find_link controller net.links ≡ Some c)
+  -- the controller is there
+  pub controlling : (port controller : List ℕ) → (has_link port net.links && has_link controller net.links) ≡ true → (c : Link) × (find_link controller net.links ≡ Some c)
   controlling port controller there = link_there controller net.links (and_right (has_link port net.links) (has_link controller net.links) there)
 
   -- a link attached to itself makes one
@@ -103,12 +105,3 @@ module _ (net : NetData) (is : IsNet net) where
             (and_right (stands_on c.0 x) (is_named port c.0 || reaches net.links d port c.0) c.2)
         | false ↦ λ e. refl
       ] refl
-
-  -- and an Ethernet link that is attached to another makes no cycle
-  pub ethernet_cycles : (port controller : List ℕ) → (has_link port net.links && has_link controller net.links) ≡ true → same_bytes port controller ≡ false → named_passes (λ l. is_ethernet l.kind) net.links port ≡ true
-      → not (no_cycle (edit_link port (attached controller) net.links)) ≡ false
-  ethernet_cycles port controller there other device =
-      let c = controlling port controller there in
-      let p = passing_found (λ l. is_ethernet l.kind) net.links port differ device in
-      attach_cycles port controller c.0 there c.1 ∙ ap (λ b. b || reaches net.links (length net.links) port c.0) other
-      ∙ ethernet_reaches port p.0 p.1 p.2 (length net.links) c.0 (ap (λ m. find_link m net.links) (found_named net.links controller c.0 c.1) ∙ c.1)

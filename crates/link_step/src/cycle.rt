@@ -1,5 +1,6 @@
 //! Whether attaching a port makes a cycle.
-ghost use Rattle.std.specs.Prelude.{◌≡◌, ◌<◌, ◌+◌, ◌++◌, ◌∷◌, [], ◌&&◌, true, not, IfOk, OnOk, length, map, get_or, set, replicate, slice_index_or};
+ghost use Rattle.std.specs.Prelude.{◌≡◌, ◌<◌, ◌+◌, ◌++◌, ◌∷◌, [], ◌&&◌, true, false, not, IfSome, IfOk, OnOk, length, map, get_or, set, replicate, slice_index_or};
+ghost use Rattle.net_model.specs.Name.{same_bytes};
 ghost use Rattle.net_model.specs.Words.{rises};
 ghost use Rattle.net_model.specs.Order.{link_cmp};
 ghost use Rattle.net_model.specs.Links.{is_named, is_port_of};
@@ -8,8 +9,8 @@ ghost use Rattle.kernel_model.specs.Words.{has_link, edit_link};
 ghost use Rattle.kernel_model.specs.Ports.{attached};
 ghost use Rattle.link_step.specs.Arrows.{FindsOnly, Draws};
 
-use crate::lookup::place_of;
-use crate::refuse::is_named_ethernet;
+use crate::kinds::is_ethernet;
+use crate::lookup::{find_link, place_of};
 use net_model::{Items, Kind, Link, Name, Net, OutOfMemory};
 use reach::closure;
 use std::alloc::{AllocError, Global};
@@ -111,8 +112,36 @@ fn reaches(alloc: Global, links: &[Link], port: &Name, at: usize) -> Result<bool
     Ok(reached[at])
 }
 
-// Whether standing on has a cycle once the port is attached: where the port is the controller, or stands on it. An
-// Ethernet link stands on none.
+// Whether attaching the port makes a cycle, where the chain of its bases tells: a chain of VLANs that meets the
+// controller makes one, and one that ends in an Ethernet link before makes none, since neither VLANs nor Ethernet
+// links have ports.
+fn by_bases(net: &Net, port: &Name, controller: &Name) -> Option<bool>
+    requires there { (has_link port.now net.now.links && has_link controller.now net.now.links) ≡ true }
+    requires other { same_bytes port.now controller.now ≡ false }
+    ensures { IfSome result (λ makes. makes ≡ not (no_cycle (edit_link port.now (attached controller.now) net.now.links))) }
+{
+    net.laws();
+    let links = net.links();
+    let mut name = *port;
+    for _ in 0..links.len() {
+        let Some(link) = find_link(links, &name) else {
+            return None;
+        };
+        if is_ethernet(&link.kind) {
+            return Some(false);
+        }
+        let Kind::Vlan { base, .. } = link.kind else {
+            return None;
+        };
+        if base == *controller {
+            return Some(true);
+        }
+        name = base;
+    }
+    None
+}
+
+// Whether standing on has a cycle once the port is attached: where the port is the controller, or stands on it.
 pub(crate) fn makes_cycle(net: &Net, port: &Name, controller: &Name) -> Result<bool, OutOfMemory>
     requires { (has_link port.now net.now.links && has_link controller.now net.now.links) ≡ true }
     ensures { IfOk result (λ makes. makes ≡ not (no_cycle (edit_link port.now (attached controller.now) net.now.links))) }
@@ -122,8 +151,8 @@ pub(crate) fn makes_cycle(net: &Net, port: &Name, controller: &Name) -> Result<b
     if port == controller {
         return Ok(true);
     }
-    if is_named_ethernet(links, port) {
-        return Ok(false);
+    if let Some(makes) = by_bases(net, port, controller) {
+        return Ok(makes);
     }
     match place_of(links, controller) {
         Some(at) => {

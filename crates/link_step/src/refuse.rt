@@ -68,7 +68,7 @@ pub(crate) fn add_link(net: &Net, name: &Name, kind: &Kind) -> Option<u8>
 }
 
 #[tactic(auto, using(net_model::proofs::lemmas::Found::named_passes_found))]
-pub(crate) fn is_named_ethernet(links: &[Link], name: &Name) -> bool
+fn is_named_ethernet(links: &[Link], name: &Name) -> bool
     requires { rises link_cmp links.now ≡ true }
     ensures { result ≡ named_passes (λ l. is_ethernet l.kind) links.now name.now }
 {

@@ -1,31 +1,21 @@
-use Rattle.std.proofs.Common.{◌≡◌, ◌∙◌, ℕ, true, List, length, get_or, sym, ap, subst}
-use Rattle.net_model.specs.Links.{named_passes}
+use Rattle.std.proofs.Common.{◌∙◌, ℕ, List, length, get_or, sym, ap, subst}
 use Rattle.net_model.specs.Standing.{reaches}
 use Rattle.net_model.specs.declared.link.Link.{Link}
 use Rattle.net_model.proofs.lemmas.Arrows.{at_some}
-use Rattle.kernel_model.specs.Devices.{is_ethernet}
 use Rattle.link_step.specs.Place.{IsAt}
-use Rattle.link_step.proofs.Cycles.{itself_cycles, ethernet_cycles, reaching_cycles}
+use Rattle.link_step.proofs.Cycles.{itself_cycles, reaching_cycles}
 use Rattle.link_step.proofs.cycle.makes_cycle.Goals as goal
 
 pub returns-then-eq : goal.returns-then-eq
 returns-then-eq c = sym (itself_cycles c.args.net.now c.laws.ensures.net c.args.port.now c.args.controller.now c.requires (sym c.eq.ensures ∙ c.if-eq.true))
 
-pub returns-then-is_named_ethernet : goal.returns-then-is_named_ethernet
-returns-then-is_named_ethernet c =
+pub returns-in_ok-reached-in-Some-place_of : goal.returns-in_ok-reached-in-Some-place_of
+returns-in_ok-reached-in-Some-place_of c =
     let net = c.args.net.now in
     let port : List ℕ = c.args.port.now in
-    let device : named_passes (λ l. is_ethernet l.kind) net.links port ≡ true =
-    sym (c.is_named_ethernet.ensures ∙ ap (λ (ls : List Link). named_passes (λ l. is_ethernet l.kind) ls port) (c.deref.ensures.value ∙ c.links-links.ensures)) ∙ c.if-is_named_ethernet.true in
-    sym (ethernet_cycles net c.laws.ensures.net port c.args.controller.now c.requires (sym c.eq.ensures ∙ c.if-eq.false) device)
-
-pub returns-in_ok-reached-in-Some : goal.returns-in_ok-reached-in-Some
-returns-in_ok-reached-in-Some c =
-    let net = c.args.net.now in
-    let port : List ℕ = c.args.port.now in
-    let i : ℕ = c.in-Some.at in
-    let at : IsAt c.args.controller.now net.links i = subst (λ (ls : List Link). IsAt c.args.controller.now ls i) (c.deref-2.ensures.value ∙ c.links-links.ensures) c.in-Some.ensures in
+    let i : ℕ = c.in-Some-place_of.at in
+    let at : IsAt c.args.controller.now net.links i = subst (λ (ls : List Link). IsAt c.args.controller.now ls i) (c.deref.ensures.value ∙ c.links-links.ensures) c.in-Some-place_of.ensures in
     let d : Link = at_some net.links i at.inside in
-    c.in_ok-reached-in-Some.ensures d
-    ∙ ap (λ (ls : List Link). reaches ls (length ls) port (get_or ls i d)) (c.deref-in-Some.ensures.value ∙ c.links-links.ensures)
+    c.in_ok-reached-in-Some-place_of.ensures d
+    ∙ ap (λ (ls : List Link). reaches ls (length ls) port (get_or ls i d)) (c.deref-in-Some-place_of.ensures.value ∙ c.links-links.ensures)
     ∙ sym (reaching_cycles net c.laws.ensures.net port c.args.controller.now i d c.requires (sym c.eq.ensures ∙ c.if-eq.false) at)
