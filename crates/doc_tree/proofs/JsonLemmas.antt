@@ -1,5 +1,5 @@
 -- The value of a tree: in the order of its keys, with no float, and the tree again.
-use Rattle.std.proofs.Common.{◌≡◌, ◌∙◌, ◌≤◌, ◌^◌, ◌&&◌, ◌||◌, ℕ, suc, max, ℤ, pos, negsuc, List, Bool, true, false, not, Some, None, Ordering, Less, Equal, Greater, bytes_eq, refl, ap, ap₂, arith}
+use Rattle.std.proofs.Common.{◌≡◌, ◌∙◌, ◌≤◌, ◌^◌, ◌&&◌, ℕ, suc, max, ℤ, pos, negsuc, List, Bool, true, false, not, Some, None, Ordering, Less, Equal, Greater, bytes_eq, refl, ap, ap₂, arith}
 use Rattle.std.specs.Prelude.{unwrap_or, is_some, nat_lt, if◌then◌else◌}
 use Rattle.std.proofs.lemmas.Bool.{and_from, and_parts, or_from}
 use Rattle.std.proofs.lemmas.Cmp.{nat_list_eq_equiv}

@@ -7,4 +7,8 @@ pub mod Answered
 pub mod TreeLemmas
 pub mod WriteLemmas
 pub mod JsonLemmas
+pub mod Spelled
+pub mod Printed
+pub mod Kept
+pub mod TextUtf8
 pub mod ReadsBack

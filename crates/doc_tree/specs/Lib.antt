@@ -6,3 +6,4 @@ pub mod JsonText
 pub mod Writing
 pub mod Lookup
 pub mod Integers
+pub mod Strings
