@@ -3,9 +3,11 @@ mod Before
 mod ByName
 mod Claims
 mod Contested
+mod Differ
 mod Firsts
 mod Groups
 mod Least
+mod Listed
 mod Marked
 mod More
 mod NoCycle

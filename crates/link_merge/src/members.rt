@@ -1,24 +1,27 @@
 //! The links of the merged state, found by their names.
-ghost use Rattle.std.specs.Prelude.{◌≡◌, map, find, option_copied, IfOk};
+ghost use Rattle.std.specs.Prelude.{◌≡◌, false, map, find, option_copied, IfOk};
 ghost use Rattle.std.specs.List.{list_any};
+ghost use Rattle.std.specs.Option.{option_map_or, option_and_then};
 ghost use Rattle.merge_model.specs.Members.{Member, find_member};
 ghost use Rattle.merge_model.specs.Controllers.{lists};
-ghost use Rattle.link_merge.specs.Listers.{rivals};
+ghost use Rattle.link_merge.specs.Listers.{rivals, port_place};
 
 use crate::index::Index;
 use crate::listers::{contested_names, first_lister, first_listers};
+use crate::port_lists::port_indexes;
 use crate::slot::Slot;
 use net_model::Name;
 use std::alloc::{AllocError, Global};
 use std::collections::{BTreeMap, BTreeSet};
 use std::marker::Model;
 
-/// The links of the merged state by rank, with an index of their names and one of the names in their stated lists of
-/// ports.
+/// The links of the merged state by rank, with an index of their names, one of each stated list of ports, and one of the
+/// names in all of these lists.
 #[derive(Drop)]
 pub(crate) struct Members<'a> {
     slots: Vec<Slot<'a>>,
     index: Index,
+    ports: Vec<Index>,
     firsts: BTreeMap<Name, usize>,
     contested: BTreeSet<Name>,
 }
@@ -26,13 +29,13 @@ pub(crate) struct Members<'a> {
 impl<'a> Model for Members<'a> {
     ghost use Rattle.std.specs.Prelude.{◌≡◌, List, map};
     ghost use Rattle.merge_model.specs.Members.{Member};
-    ghost use Rattle.link_merge.specs.Listers.{HasFirsts, HasContested};
+    ghost use Rattle.link_merge.specs.Listers.{HasFirsts, HasContested, port_names};
 
     ghost Value = { List Member };
 
     ghost view = { λ ms. ms.slots.items };
 
-    ghost invariant = { λ ms. (ms.index ≡ map (λ (m : Member). m.name) ms.slots.items) × HasFirsts ms.slots.items ms.firsts × HasContested ms.slots.items ms.contested };
+    ghost invariant = { λ ms. (ms.index ≡ map (λ (m : Member). m.name) ms.slots.items) × HasFirsts ms.slots.items ms.firsts × HasContested ms.slots.items ms.contested × (ms.ports.items ≡ map port_names ms.slots.items) };
 }
 
 fn names(alloc: Global, slots: &[Slot]) -> Result<Vec<Name>, AllocError>
@@ -47,11 +50,13 @@ impl<'a> Members<'a> {
     {
         let names = names(alloc, &slots)?;
         let index = Index::of(alloc, names)?;
+        let ports = port_indexes(alloc, &slots)?;
         let firsts = first_listers(alloc, &slots)?;
         let contested = contested_names(alloc, &slots, &firsts)?;
         Ok(Members {
             slots,
             index,
+            ports,
             firsts,
             contested,
         })
@@ -72,6 +77,23 @@ impl<'a> Members<'a> {
             Some(at) => Some(&self.slots[at]),
             None => None,
         }
+    }
+
+    /// The place of the port in the stated list of the link of this name.
+    pub(crate) fn port_place(&self, controller: &Name, port: &Name) -> Option<usize>
+        ensures { result ≡ option_and_then (port_place port.now) (find_member controller.now self.now) }
+    {
+        match self.index.place(controller) {
+            Some(at) => self.ports[at].place(port),
+            None => None,
+        }
+    }
+
+    /// Whether the stated list of the link of this name names the port.
+    pub(crate) fn lists(&self, controller: &Name, port: &Name) -> bool
+        ensures { result ≡ option_map_or (λ c. lists c port.now) (find_member controller.now self.now) false }
+    {
+        self.port_place(controller, port).is_some()
     }
 
     /// The first link whose stated list names the link.

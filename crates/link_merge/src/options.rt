@@ -1,11 +1,13 @@
 //! The options of the merged links: whose current ones and whose entries count.
-ghost use Rattle.std.specs.Prelude.{◌≡◌, ◌&&◌, [], false, find, map, filter, option_copied, IfOk};
+ghost use Rattle.std.specs.Prelude.{◌≡◌, ◌&&◌, [], false, map, filter, slice_get, option_copied, IfOk};
 ghost use Rattle.std.specs.Option.{option_map_or, option_map, option_and_then, unwrap_or};
 ghost use Rattle.net_model.specs.Name.{same_bytes};
 ghost use Rattle.net_model.specs.Links.{is_bridge, is_port_of};
+ghost use Rattle.net_model.specs.Options.{default_port};
 ghost use Rattle.merge_model.specs.Members.{Member, find_member};
 ghost use Rattle.merge_model.specs.OptionRules.{merge_bond, merge_bridge, merge_port};
-ghost use Rattle.merge_model.specs.LinkOptions.{no_bond, no_bridge, merged_ports, if_same_mode, if_bridge, bond_of, bridge_of, controller_member, if_same_bridge, port_entry, port_under, port_of};
+ghost use Rattle.merge_model.specs.LinkOptions.{no_bond, no_bridge, merged_ports, if_same_mode, if_bridge, bond_of, bridge_of, controller_member, if_same_bridge, port_under, port_of};
+ghost use Rattle.link_merge.specs.Listers.{port_place};
 
 use crate::kinds::same_mode;
 use crate::members::Members;
@@ -197,41 +199,59 @@ fn current_port<'a>(controller: &Slot, old: Option<&'a Link>) -> Option<&'a Port
     }
 }
 
-fn find_port<'a>(ports: &'a [PortEntry], name: &Name) -> Option<&'a PortEntry>
-    ensures { option_copied result ≡ find (λ p. same_bytes p.name name.now) ports.now }
+fn port_at<'a>(ports: &'a [PortEntry], place: Option<usize>) -> Option<&'a PortEntry>
+    ensures { option_copied result ≡ option_and_then (slice_get ports.now) place }
 {
-    ports.iter().find(|port| port.name == *name)
+    match place {
+        Some(at) => ports.get(at),
+        None => None,
+    }
 }
 
-fn port_among<'a>(ports: &'a Option<Items<PortEntry>>, name: &Name) -> Option<&'a PortEntry>
-    ensures { option_copied result ≡ find (λ p. same_bytes p.name name.now) (unwrap_or ports.now []) }
+fn port_among<'a>(
+    ports: &'a Option<Items<PortEntry>>,
+    place: Option<usize>,
+) -> Option<&'a PortEntry>
+    ensures { option_copied result ≡ option_and_then (slice_get (unwrap_or ports.now [])) place }
 {
     match ports {
-        Some(ports) => find_port(ports.items(), name),
+        Some(ports) => port_at(ports.items(), place),
         None => None,
     }
 }
 
-// What the entry of a bridge states of the port.
-fn port_entry<'a>(entry: Option<&'a LinkEntry>, name: &Name) -> Option<&'a PortEntry>
-    ensures { option_copied result ≡ option_and_then (port_entry name.now) (option_copied entry.entry) }
+// What the entry of a bridge states at this place of its list.
+fn port_entry<'a>(entry: Option<&'a LinkEntry>, place: Option<usize>) -> Option<&'a PortEntry>
+    ensures { option_copied result ≡ option_and_then (λ e. option_and_then (slice_get (unwrap_or e.bridge.ports [])) place) (option_copied entry.entry) }
 {
     match entry {
-        Some(entry) => port_among(&entry.bridge.ports, name),
+        Some(entry) => port_among(&entry.bridge.ports, place),
         None => None,
     }
 }
 
-fn port_under(slot: &Slot, controller: &Slot) -> PortOpts
+// The options under the controller in whose stated list the port has this place.
+fn port_under(slot: &Slot, controller: &Slot, place: Option<usize>) -> PortOpts
+    requires { place ≡ port_place slot.now.name controller.now }
     ensures { result ≡ port_under slot.now controller.now }
 {
     if is_bridge(&controller.kind()) {
         merge_port(
             current_port(controller, slot.old()),
-            port_entry(controller.entry(), &slot.name()),
+            port_entry(controller.entry(), place),
         )
     } else {
         PortOpts::defaults()
+    }
+}
+
+fn port_under_named(members: &Members, slot: &Slot, controller: &Name) -> PortOpts
+    ensures { result ≡ option_map_or (port_under slot.now) (find_member controller.now members.now) default_port }
+{
+    let place = members.port_place(controller, &slot.name());
+    match members.find(controller) {
+        Some(controller) => port_under(slot, controller, place),
+        None => PortOpts::defaults(),
     }
 }
 
@@ -239,8 +259,8 @@ fn port_under(slot: &Slot, controller: &Slot) -> PortOpts
 pub(crate) fn port_of(members: &Members, slot: &Slot) -> PortOpts
     ensures { result ≡ port_of members.now slot.now }
 {
-    match controller_member(members, slot) {
-        Some(controller) => port_under(slot, controller),
+    match slot.controller() {
+        Some(controller) => port_under_named(members, slot, &controller),
         None => PortOpts::defaults(),
     }
 }

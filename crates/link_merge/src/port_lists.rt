@@ -3,7 +3,9 @@ ghost use Rattle.std.specs.Prelude.{◌≡◌, [], map, IfOk};
 ghost use Rattle.std.specs.Option.{option_map, unwrap_or};
 ghost use Rattle.document_model.specs.declared.PortEntry.{PortEntry};
 ghost use Rattle.merge_model.specs.Controllers.{ports_by, stated_ports};
+ghost use Rattle.link_merge.specs.Listers.{port_names};
 
+use crate::index::Index;
 use crate::slot::Slot;
 use document_model::{LinkEntry, PortEntry};
 use net_model::{Items, Kind, Name};
@@ -53,4 +55,17 @@ pub(crate) fn stated_ports(alloc: Global, slot: &Slot) -> Result<Vec<Name>, Allo
         Some(entry) => list_by(alloc, &kind, entry),
         None => Ok(Vec::new(alloc)),
     }
+}
+
+/// The stated lists of ports, each with an index of its names.
+pub(crate) fn port_indexes(alloc: Global, slots: &[Slot]) -> Result<Vec<Index>, AllocError>
+    ensures { IfOk result (λ indexes. indexes.items ≡ map port_names slots.now) }
+{
+    let mut indexes = Vec::new(alloc);
+    for slot in slots {
+        let ports = stated_ports(alloc, slot)?;
+        let index = Index::of(alloc, ports)?;
+        indexes.push(index)?;
+    }
+    Ok(indexes)
 }

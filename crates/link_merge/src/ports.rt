@@ -9,13 +9,14 @@ ghost use Rattle.merge_model.specs.Controllers.{stated_ports, lists, own_claim, 
 ghost use Rattle.merge_model.specs.Places.{at_member};
 ghost use Rattle.merge_model.specs.BrokenPorts.{is_missing, claims_missing, port_missing, port_twice, same_claim, claims_differ, leaves_out, is_left_out, port_conflict};
 
-use crate::controllers::{lacks_list, lists, own_claim};
+use crate::controllers::{lacks_list, own_claim};
 use crate::members::Members;
 use crate::port_lists::stated_ports;
 use crate::slot::Slot;
 use document_model::{Claim, Place};
 use net_model::Name;
 use std::alloc::{AllocError, Global};
+use std::collections::BTreeSet;
 
 fn at_member(found: Option<&Slot>) -> Option<Place>
     ensures { result ≡ at_member (option_copied found.entry) }
@@ -77,23 +78,18 @@ pub(crate) fn port_missing(alloc: Global, members: &Members) -> Result<Option<Pl
     Ok(None)
 }
 
-fn is_among(names: &[Name], name: &Name) -> bool
-    ensures { result ≡ list_any (same_bytes name.now) names.now }
+// Whether each name is there once.
+fn differ(alloc: Global, names: &[Name]) -> Result<bool, AllocError>
+    ensures { IfOk result (λ differ. differ ≡ apart same_bytes names.now) }
 {
-    names.iter().any(|other| name == other)
-}
-
-fn differ(names: &[Name]) -> bool
-    ensures { result ≡ apart same_bytes names.now }
-{
-    let mut left = names;
-    while let Some((name, rest)) = left.split_first() {
-        if is_among(rest, name) {
-            return false;
+    let mut seen = BTreeSet::new(alloc);
+    for at in 0..names.len() {
+        let new = seen.insert(names[at])?;
+        if !new {
+            return Ok(false);
         }
-        left = rest;
     }
-    true
+    Ok(true)
 }
 
 // Whether the stated list names a link twice.
@@ -101,7 +97,8 @@ fn lists_twice(alloc: Global, slot: &Slot) -> Result<bool, AllocError>
     ensures { IfOk result (λ twice. twice ≡ not (apart same_bytes (unwrap_or (stated_ports slot.now) []))) }
 {
     let ports = stated_ports(alloc, slot)?;
-    Ok(!differ(&ports))
+    let differ = differ(alloc, &ports)?;
+    Ok(!differ)
 }
 
 /// The place of rule 7: a stated list names a link twice.
@@ -177,17 +174,11 @@ fn first_contradicted(members: &Members, slot: &Slot, claim: Option<Claim>) -> b
 }
 
 // Whether the controller states a list without the port.
-fn leaves_out(port: &Name, controller: &Slot) -> bool
-    ensures { result ≡ leaves_out port.now controller.now }
-{
-    !lacks_list(controller) && !lists(controller, port)
-}
-
 fn named_leaves_out(members: &Members, port: &Name, controller: &Name) -> bool
     ensures { result ≡ option_map_or (leaves_out port.now) (find_member controller.now members.now) false }
 {
     match members.find(controller) {
-        Some(controller) => leaves_out(port, controller),
+        Some(slot) => !lacks_list(slot) && !members.lists(controller, port),
         None => false,
     }
 }

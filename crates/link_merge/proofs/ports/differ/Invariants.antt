@@ -1,11 +1,10 @@
-use Rattle.std.proofs.Common.{◌≡◌, length}
+use Rattle.std.proofs.Common.{◌≡◌, ℕ, List, true, take}
+use Rattle.std.specs.BTreeSet.{contains}
 use Rattle.net_model.specs.Name.{same_bytes}
-use Rattle.net_model.specs.Words.{apart}
+use Rattle.net_model.specs.Words.{apart, is_among}
+use Rattle.net_model.specs.Order.{name_cmp}
 use Rattle.link_merge.proofs.ports.differ.Given as goal
 
--- what is left decides
-abbrev pub invariant-loop-name : goal.invariant-loop-name
-invariant-loop-name l = apart same_bytes l.left ≡ apart same_bytes l.fn.names
-
-abbrev pub decreases-loop-name : goal.decreases-loop-name
-decreases-loop-name l = length l.left
+-- the set has the names so far, and they differ
+abbrev pub invariant-loop-at : goal.invariant-loop-at
+invariant-loop-at l = ((q : List ℕ) → contains name_cmp l.seen q ≡ is_among (take l.at l.names) q) × (apart same_bytes (take l.at l.names) ≡ true)
