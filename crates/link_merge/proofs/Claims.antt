@@ -1,22 +1,14 @@
 -- The claims on a link.
-use Rattle.std.proofs.Common.{◌≡◌, ℕ, Bool, true, false, not, cond, ◌||◌, ◌&&◌, List, [], ◌∷◌, ◌++◌, map, filter, Option, Some, None, refl, sym, ap, ◌∙◌}
+use Rattle.std.proofs.Common.{◌≡◌, ℕ, Bool, true, false, not, cond, ◌||◌, ◌&&◌, List, [], ◌∷◌, ◌++◌, map, filter, Option, Some, None, refl, ap, ◌∙◌}
 use Rattle.std.specs.List.{list_any, find}
 use Rattle.std.specs.Option.{option_map, option_map_or, option_or, option_to_list}
-use Rattle.net_model.specs.Name.{same_bytes}
-use Rattle.net_model.specs.Words.{is_among}
 use Rattle.document_model.specs.declared.Claim.{Claim}
 use Rattle.document_model.specs.declared.Claim.TheVariants.{To}
-use Rattle.document_model.specs.declared.PortEntry.{PortEntry}
 use Rattle.merge_model.specs.Stated.{claimed}
 use Rattle.merge_model.specs.Members.{Member}
 use Rattle.merge_model.specs.Controllers.{lists, own_claim, claims, decided}
 use Rattle.merge_model.specs.BrokenPorts.{same_claim, claims_differ}
 use Rattle.net_model.proofs.lemmas.Found.{itself}
-
--- a name is among the names of the ports
-pub among_entries : (ports : List PortEntry) (name : List ℕ) → list_any (λ (p : PortEntry). same_bytes p.name name) ports ≡ is_among (map (λ (p : PortEntry). p.name) ports) name
-among_entries [] name = refl
-among_entries (p ∷ ps) name = ap (λ b. same_bytes p.name name || b) (among_entries ps name)
 
 first_claim : (p : Member → Bool) (ms : List Member) (kept : Option (List ℕ)) → decided (map (λ (c : Member). To c.name) (filter p ms)) kept ≡ option_map_or (λ (c : Member). Some c.name) (find p ms) kept
 first_claim p [] kept = refl

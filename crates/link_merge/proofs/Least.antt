@@ -1,11 +1,10 @@
 -- The least name of those that pass, one link more from the end.
-use Rattle.std.proofs.Common.{◌≡◌, ℕ, ◌+◌, ◌<◌, Bool, true, false, List, [], ◌∷◌, length, get_or, drop, filter, Option, Some, None, if◌then◌else◌, refl, ap, ◌∙◌, add-one}
+use Rattle.std.proofs.Common.{◌≡◌, ℕ, ◌+◌, ◌<◌, Bool, true, false, List, ◌∷◌, length, get_or, drop, filter, Option, Some, None, if◌then◌else◌, refl, ap, ◌∙◌, add-one}
 use Rattle.std.specs.Option.{option_map, option_or, option_and_then}
 use Rattle.std.specs.Ordering.{is_lt}
 use Rattle.std.proofs.Math.Seq.{drop-cons}
 use Rattle.net_model.specs.Order.{link_cmp}
 use Rattle.net_model.specs.declared.Link.{Link}
-use Rattle.document_model.specs.declared.Place.{Place}
 use Rattle.document_model.specs.declared.Place.TheVariants.{Link as AtLink}
 use Rattle.merge_model.specs.Places.{at_link, lesser, least_name}
 use Rattle.link_merge.specs.Rules.{least_of}

@@ -13,4 +13,6 @@ mod More
 mod NoCycle
 mod Placed
 mod Positions
+mod Raised
+mod Seated
 mod Vlans

@@ -1,7 +1,8 @@
 -- The marks of what is reached in a list.
 use Rattle.std.proofs.Common.{◌≡◌, ℕ, ◌+◌, ◌<◌, Bool, false, ◌||◌, List, [], ◌∷◌, ◌++◌, map, take, length, get_or, refl, sym, ap, ◌∙◌, arith}
 use Rattle.std.proofs.lemmas.List.{ext_get_or, get_or-map, length-map, map-append}
-use Rattle.reach.specs.Reach.{is_reached, IsGraph, IsLeast}
+use Rattle.reach.specs.Reach.{is_reached, IsGraph, IsLeast, Represents}
+use Rattle.reach.proofs.lemmas.Least.{least_is_reached}
 use Rattle.net_model.specs.Words.{positions}
 use Rattle.net_model.proofs.lemmas.Arrows.{rows-IsGraph, marked_at, at_some}
 use Rattle.reach.proofs.lemmas.Marks.{any_default}
@@ -23,6 +24,18 @@ all_marked leads starts (x ∷ xs) arrows ss marks e f least =
     (λ i lt.
     let inside : i < length (x ∷ xs) = omega (arith, lt, (first 0 (omega arith)).1) in
     (first i inside).0 ∙ sym (get_or-map (is_reached leads starts (x ∷ xs) (length (x ∷ xs))) (x ∷ xs) i x false inside))
+
+-- also where the arrows are drawn in another order
+pub marks_reached : {X : Type 0} (leads : X → X → Bool) (starts : X → Bool) (xs : List X) (arrows : List (List ℕ)) (ss marks : List Bool)
+    → ((d : X) → Represents leads starts xs d arrows ss) → IsGraph arrows → length arrows ≡ length xs → IsLeast arrows ss marks
+    → marks ≡ map (is_reached leads starts xs (length xs)) xs
+marks_reached leads starts [] arrows ss marks drawn graph whole least = none_marked marks (least.whole ∙ whole)
+marks_reached leads starts (x ∷ xs) arrows ss marks drawn graph whole least =
+    ext_get_or false marks (map (is_reached leads starts (x ∷ xs) (length (x ∷ xs))) (x ∷ xs))
+    (least.whole ∙ whole ∙ sym (length-map (x ∷ xs) (is_reached leads starts (x ∷ xs) (length (x ∷ xs)))))
+    (λ i lt.
+    let inside : i < length (x ∷ xs) = omega (arith, lt, least.whole, whole) in
+    least_is_reached leads starts (x ∷ xs) x arrows ss marks (drawn x) graph least i inside ∙ sym (get_or-map (is_reached leads starts (x ∷ xs) (length (x ∷ xs))) (x ∷ xs) i x false inside))
 
 -- and the places that the arrows lead to are the list's
 pub rows_graph : {X : Type 0} (leads : X → X → Bool) (starts : X → Bool) (xs : List X) → IsGraph (map (λ x. positions (leads x) 0 xs) xs)

@@ -2,3 +2,4 @@ pub mod Rules
 pub mod Index
 pub mod Twins
 pub mod Listers
+pub mod Lifts

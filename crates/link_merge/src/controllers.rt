@@ -1,10 +1,6 @@
 //! The controllers of the merged links.
-ghost use Rattle.std.specs.Prelude.{◌≡◌, ◌∷◌, [], false, find, map, is_none, if◌then◌else◌, Some, None, option_copied, IfOk};
-ghost use Rattle.std.specs.List.{list_any};
+ghost use Rattle.std.specs.Prelude.{◌≡◌, false, find, is_none, Some, None, option_copied, IfOk};
 ghost use Rattle.std.specs.Option.{option_map_or, option_map, option_and_then};
-ghost use Rattle.net_model.specs.Words.{is_among};
-ghost use Rattle.document_model.specs.declared.PortEntry.{PortEntry};
-ghost use Rattle.net_model.specs.Name.{same_bytes};
 ghost use Rattle.merge_model.specs.Stated.{claimed};
 ghost use Rattle.merge_model.specs.Kinds.{same_type};
 ghost use Rattle.merge_model.specs.Members.{find_member};
@@ -13,68 +9,9 @@ ghost use Rattle.merge_model.specs.Controllers.{ports_by, stated_ports, lists, o
 use crate::kinds::same_type;
 use crate::members::Members;
 use crate::slot::{Slot, is_absent};
-use document_model::{Claim, LinkEntry, PortEntry};
-use net_model::{Items, Kind, Link, Name};
+use document_model::{Claim, LinkEntry};
+use net_model::{Kind, Link, Name};
 use std::alloc::{AllocError, Global};
-
-fn among_names(ports: &Option<Items<Name>>, name: &Name) -> bool
-    ensures { result ≡ option_map_or (λ names. is_among names name.now) ports.now false }
-{
-    match ports {
-        Some(ports) => is_among(ports.items(), name),
-        None => false,
-    }
-}
-
-fn is_among(names: &[Name], name: &Name) -> bool
-    ensures { result ≡ is_among names.now name.now }
-{
-    names.iter().any(|n| n == name)
-}
-
-fn has_port(ports: &[PortEntry], name: &Name) -> bool
-    ensures { result ≡ list_any (λ p. same_bytes p.name name.now) ports.now }
-{
-    ports.iter().any(|port| port.name == *name)
-}
-
-fn is_among_entries(ports: &[PortEntry], name: &Name) -> bool
-    ensures { result ≡ is_among (map (λ (p : PortEntry). p.name) ports.now) name.now }
-{
-    has_port(ports, name)
-}
-
-fn among_entries(ports: &Option<Items<PortEntry>>, name: &Name) -> bool
-    ensures { result ≡ option_map_or (λ names. is_among names name.now) (option_map (map (λ (p : PortEntry). p.name)) ports.now) false }
-{
-    match ports {
-        Some(ports) => is_among_entries(ports.items(), name),
-        None => false,
-    }
-}
-
-// Whether the list that the entry states for a link of this kind names the link.
-fn entry_lists(kind: &Kind, entry: &LinkEntry, name: &Name) -> bool
-    ensures { result ≡ option_map_or (λ names. is_among names name.now) (ports_by kind.now entry.now) false }
-{
-    match kind {
-        Kind::Bond { .. } => among_names(&entry.bond.ports, name),
-        Kind::Bridge => among_entries(&entry.bridge.ports, name),
-        Kind::Vrf { .. } => among_names(&entry.vrf.ports, name),
-        _ => false,
-    }
-}
-
-/// Whether the stated list of ports names the link.
-pub(crate) fn lists(slot: &Slot, name: &Name) -> bool
-    ensures { result ≡ lists slot.now name.now }
-{
-    let kind = slot.kind();
-    match slot.entry() {
-        Some(entry) => entry_lists(&kind, entry, name),
-        None => false,
-    }
-}
 
 fn entry_lacks_list(kind: &Kind, entry: &LinkEntry) -> bool
     ensures { result ≡ is_none (ports_by kind.now entry.now) }

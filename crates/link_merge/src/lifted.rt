@@ -1,34 +1,21 @@
 //! The links that rise though nothing is stated of their state.
-ghost use Rattle.std.specs.Prelude.{◌≡◌, ◌&&◌, ◌||◌, map, length, is_none, IfOk};
-ghost use Rattle.reach.specs.Reach.{is_reached};
-ghost use Rattle.net_model.specs.Words.{positions};
-ghost use Rattle.net_model.specs.Standing.{has_base};
+ghost use Rattle.std.specs.Prelude.{◌≡◌, ◌&&◌, ◌||◌, ◌++◌, ◌∷◌, [], true, false, map, is_none, slice_get, IfOk, OnOk};
+ghost use Rattle.std.specs.Option.{option_map_or, option_to_list};
+ghost use Rattle.net_model.specs.Name.{same_bytes};
+ghost use Rattle.net_model.specs.Words.{apart};
 ghost use Rattle.merge_model.specs.Kinds.{base_of};
-ghost use Rattle.merge_model.specs.Controllers.{lists};
-ghost use Rattle.merge_model.specs.Lifted.{is_unstated, was_up, lifts, starts, is_lifted, raised, with_lifted};
+ghost use Rattle.merge_model.specs.Members.{Member};
+ghost use Rattle.merge_model.specs.Lifted.{is_unstated, starts, is_lifted, with_lifted};
+ghost use Rattle.link_merge.specs.Lifts.{held_names, if_unstated, unstated_place, unstated_places};
 
-use crate::controllers::lists;
+use crate::index::Index;
 use crate::kinds::base_of;
-use crate::members::Members;
+use crate::members::names;
+use crate::port_lists::stated_ports;
 use crate::reached::closure;
-use crate::seats::has_base;
 use crate::slot::{Slot, is_stated_up};
 use net_model::{Items, Name};
 use std::alloc::{AllocError, Global};
-
-fn holds(slot: &Slot, name: &Name) -> bool
-    ensures { result ≡ (has_base slot.now.kind name.now || lists slot.now name.now) }
-{
-    has_base(&slot.kind(), name) || lists(slot, name)
-}
-
-// Whether the first, where it is up, raises the second: its base or a port of its stated list, where nothing is stated
-// of the state of that.
-fn lifts(slot: &Slot, other: &Slot) -> bool
-    ensures { result ≡ lifts slot.now other.now }
-{
-    other.is_unstated() && holds(slot, &other.name())
-}
 
 fn lacks_base(slot: &Slot) -> bool
     ensures { result ≡ is_none (base_of slot.now.kind) }
@@ -43,26 +30,106 @@ fn starts(slot: &Slot) -> bool
     is_stated_up(slot.wish()) || (slot.is_unstated() && slot.was_up() && lacks_base(slot))
 }
 
-// The places of the links that this one lifts.
-fn raises(alloc: Global, slots: &[Slot], slot: &Slot) -> Result<Vec<usize>, AllocError>
-    ensures { IfOk result (λ places. places.items ≡ positions (lifts slot.now) 0 slots.now) }
+// A VLAN's base, another link's ports by its stated list.
+fn held_names(alloc: Global, slot: &Slot) -> Result<Vec<Name>, AllocError>
+    ensures { IfOk result (λ names. names.items ≡ held_names slot.now) }
+{
+    match base_of(&slot.kind()) {
+        Some(base) => one_name(alloc, base),
+        None => stated_ports(alloc, slot),
+    }
+}
+
+fn one_name(alloc: Global, name: Name) -> Result<Vec<Name>, AllocError>
+    ensures { IfOk result (λ names. names.items ≡ name ∷ []) }
+{
+    let mut names = Vec::new(alloc);
+    names.push(name)?;
+    Ok(names)
+}
+
+fn is_unstated_at(slots: &[Slot], at: usize) -> bool
+    ensures { result ≡ option_map_or is_unstated (slice_get slots.now at) false }
+{
+    match slots.get(at) {
+        Some(slot) => slot.is_unstated(),
+        None => false,
+    }
+}
+
+fn if_unstated(slots: &[Slot], at: usize) -> Option<usize>
+    ensures { result ≡ if_unstated slots.now at }
+{
+    if is_unstated_at(slots, at) {
+        Some(at)
+    } else {
+        None
+    }
+}
+
+// The place of the link of this name, where nothing is stated of its state.
+fn unstated_place(slots: &[Slot], index: &Index, name: &Name) -> Option<usize>
+    requires { index.now ≡ map (λ (m : Member). m.name) slots.now }
+    ensures { result ≡ unstated_place slots.now name.now }
+{
+    match index.place(name) {
+        Some(at) => if_unstated(slots, at),
+        None => None,
+    }
+}
+
+fn add(places: &mut Vec<usize>, place: Option<usize>) -> Result<(), AllocError>
+    ensures { OnOk result (places.new.items ≡ places.old.items ++ option_to_list place) }
+{
+    match place {
+        Some(at) => {
+            places.push(at)?;
+            Ok(())
+        }
+        None => Ok(()),
+    }
+}
+
+fn unstated_places(
+    alloc: Global,
+    slots: &[Slot],
+    index: &Index,
+    names: &[Name],
+) -> Result<Vec<usize>, AllocError>
+    requires { index.now ≡ map (λ (m : Member). m.name) slots.now }
+    ensures { IfOk result (λ places. places.items ≡ unstated_places slots.now names.now) }
 {
     let mut places = Vec::new(alloc);
-    for (at, other) in slots.iter().enumerate() {
-        if lifts(slot, other) {
-            places.push(at)?;
-        }
+    for name in names {
+        let place = unstated_place(slots, index, name);
+        add(&mut places, place)?;
     }
     Ok(places)
 }
 
-// For each link, the places of those that it lifts.
-fn arrows(alloc: Global, slots: &[Slot]) -> Result<Vec<Items<usize>>, AllocError>
-    ensures { IfOk result (λ arrows. arrows.items ≡ map (λ m. positions (lifts m) 0 slots.now) slots.now) }
+// The places of the links that this one, where it is up, raises: its base or the ports of its stated list, where nothing
+// is stated of the state of these.
+fn raises(
+    alloc: Global,
+    slots: &[Slot],
+    index: &Index,
+    slot: &Slot,
+) -> Result<Vec<usize>, AllocError>
+    requires { index.now ≡ map (λ (m : Member). m.name) slots.now }
+    ensures { IfOk result (λ places. places.items ≡ unstated_places slots.now (held_names slot.now)) }
 {
+    let names = held_names(alloc, slot)?;
+    unstated_places(alloc, slots, index, &names)
+}
+
+// For each link, the places of those that it raises.
+fn arrows(alloc: Global, slots: &[Slot]) -> Result<Vec<Items<usize>>, AllocError>
+    ensures { IfOk result (λ arrows. arrows.items ≡ map (λ m. unstated_places slots.now (held_names m)) slots.now) }
+{
+    let index = Index::of(alloc, names(alloc, slots)?)?;
     let mut arrows = Vec::new(alloc);
     for slot in slots {
-        let places = raises(alloc, slots, slot)?;
+        let places = raises(alloc, slots, &index, slot)?;
         arrows.push(Items::of(places))?;
     }
     Ok(arrows)
@@ -76,6 +143,7 @@ fn starting(alloc: Global, slots: &[Slot]) -> Result<Vec<bool>, AllocError>
 
 // Whether each link is lifted.
 fn lifted(alloc: Global, slots: &[Slot]) -> Result<Vec<bool>, AllocError>
+    requires { apart same_bytes (map (λ (m : Member). m.name) slots.now) ≡ true }
     ensures { IfOk result (λ marks. marks.items ≡ map (is_lifted slots.now) slots.now) }
 {
     let arrows = arrows(alloc, slots)?;
@@ -89,6 +157,7 @@ pub(crate) fn with_lifted<'a>(
     alloc: Global,
     slots: &[Slot<'a>],
 ) -> Result<Vec<Slot<'a>>, AllocError>
+    requires { apart same_bytes (map (λ (m : Member). m.name) slots.now) ≡ true }
     ensures { IfOk result (λ raised. raised.items ≡ with_lifted slots.now) }
 {
     let marks = lifted(alloc, slots)?;

@@ -1,6 +1,10 @@
 //! The merged links.
-ghost use Rattle.std.specs.Prelude.{◌≡◌, true, None, IfOk};
+ghost use Rattle.std.specs.Prelude.{◌≡◌, true, None, map, IfOk};
+ghost use Rattle.net_model.specs.Name.{same_bytes};
+ghost use Rattle.net_model.specs.Words.{apart};
 ghost use Rattle.net_model.specs.Valid.{names_differ};
+ghost use Rattle.merge_model.specs.Members.{Member, seats};
+ghost use Rattle.merge_model.specs.Controllers.{with_controllers};
 ghost use Rattle.merge_model.specs.Lifted.{members};
 ghost use Rattle.merge_model.specs.Merged.{merged_links};
 ghost use Rattle.merge_model.specs.BrokenEntries.{duplicate_name};
@@ -17,11 +21,22 @@ use crate::lifted::with_lifted;
 use crate::members::Members;
 use crate::merged::Merged;
 use crate::seats::seats;
+use crate::slot::Slot;
 use document_model::Doc;
 use merge_laws::merge_laws;
 use merge_model::MergeFault;
 use net_model::{Link, Net};
 use std::alloc::{AllocError, Global};
+
+// The names of the links with their controllers differ, where the entries break no rule.
+fn slots_differ_laws(net: &Net, entries: &Entries, slots: &[Slot])
+    requires rules { first_of at_rule (entry_rules net.now.links entries.now) ≡ None }
+    requires slots { slots.now ≡ with_controllers (seats net.now.links entries.now) }
+    ensures { apart same_bytes (map (λ (m : Member). m.name) slots.now) ≡ true }
+{
+    net.laws();
+    merge_laws();
+}
 
 // The links of the merged state, with their controllers and with who is lifted.
 fn members<'a>(
@@ -29,11 +44,14 @@ fn members<'a>(
     net: &'a Net,
     entries: &Entries<'a>,
 ) -> Result<Members<'a>, AllocError>
+    requires { first_of at_rule (entry_rules net.now.links entries.now) ≡ None }
     ensures { IfOk result (λ ms. ms ≡ members net.now.links entries.now) }
 {
     let seats = Members::of(alloc, seats(alloc, net, entries)?)?;
     let slots = with_controllers(alloc, &seats)?;
-    let raised = with_lifted(alloc, &slots)?;
+    let list = slots.as_slice();
+    slots_differ_laws(net, entries, list);
+    let raised = with_lifted(alloc, list)?;
     Members::of(alloc, raised)
 }
 

@@ -38,7 +38,8 @@ impl<'a> Model for Members<'a> {
     ghost invariant = { λ ms. (ms.index ≡ map (λ (m : Member). m.name) ms.slots.items) × HasFirsts ms.slots.items ms.firsts × HasContested ms.slots.items ms.contested × (ms.ports.items ≡ map port_names ms.slots.items) };
 }
 
-fn names(alloc: Global, slots: &[Slot]) -> Result<Vec<Name>, AllocError>
+/// The names of the links.
+pub(crate) fn names(alloc: Global, slots: &[Slot]) -> Result<Vec<Name>, AllocError>
     ensures { IfOk result (λ names. names.items ≡ map (λ (m : Member). m.name) slots.now) }
 {
     slots.iter().map(|slot| slot.name()).collect(alloc)

@@ -1,4 +1,4 @@
-use Rattle.std.proofs.Common.{◌≡◌, sym, ap, subst, ◌∙◌, IsPermutation}
+use Rattle.std.proofs.Common.{◌∙◌}
 use Rattle.net_model.specs.Order.{block_cmp}
 use Rattle.net_model.specs.OrderLaws.{block_cmp_total}
 use Rattle.net_model.proofs.lemmas.Rises.{Climbs-sorted}

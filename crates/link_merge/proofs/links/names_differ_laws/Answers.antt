@@ -1,4 +1,4 @@
-use Rattle.std.proofs.Common.{◌≡◌, true, sym, subst, ap, ◌∙◌}
+use Rattle.std.proofs.Common.{ap, ◌∙◌}
 use Rattle.net_model.specs.Valid.{names_differ}
 use Rattle.link_merge.proofs.Groups.{no_duplicate}
 use Rattle.link_merge.proofs.links.names_differ_laws.Goals as goal

@@ -1,11 +1,10 @@
-use Rattle.std.proofs.Common.{◌≡◌, ◌||◌, not, false, [], drop, find}
-use Rattle.std.specs.List.{list_any}
-use Rattle.std.specs.Option.{option_map_or, unwrap_or}
+use Rattle.std.proofs.Common.{◌≡◌, not, [], drop, find}
+use Rattle.std.specs.Option.{unwrap_or}
 use Rattle.net_model.specs.Name.{same_bytes}
 use Rattle.net_model.specs.Words.{apart}
-use Rattle.merge_model.specs.Controllers.{stated_ports, own_claim}
+use Rattle.merge_model.specs.Controllers.{stated_ports}
 use Rattle.merge_model.specs.Places.{at_member}
-use Rattle.merge_model.specs.BrokenPorts.{port_twice, is_missing, claims_missing}
+use Rattle.merge_model.specs.BrokenPorts.{port_twice}
 use Rattle.link_merge.proofs.ports.port_twice.Given as goal
 
 -- what is left decides

@@ -1,4 +1,4 @@
-use Rattle.std.proofs.Common.{◌≡◌, sym, subst, ◌∙◌}
+use Rattle.std.proofs.Common.{sym, subst, ◌∙◌}
 use Rattle.reach.specs.Reach.{IsGraph}
 use Rattle.merge_model.specs.Members.{goes_with, is_removed}
 use Rattle.link_merge.proofs.Marked.{all_marked, rows_graph}

@@ -1,5 +1,5 @@
-use Rattle.std.proofs.Common.{[], Some, None, sym, ap, ◌∙◌}
-use Rattle.std.specs.List.{find, position}
+use Rattle.std.proofs.Common.{[], sym, ap, ◌∙◌}
+use Rattle.std.specs.List.{position}
 use Rattle.net_model.specs.Name.{same_bytes}
 use Rattle.merge_model.specs.Members.{Member, find_member}
 use Rattle.link_merge.proofs.Placed.{placed, unplaced}

@@ -1,5 +1,5 @@
-use Rattle.std.proofs.Common.{◌≡◌, ℕ, List, [], Some, None, map, sym, ap, subst, ◌∙◌}
-use Rattle.std.specs.List.{find, position}
+use Rattle.std.proofs.Common.{[], sym, ap, ◌∙◌}
+use Rattle.std.specs.List.{position}
 use Rattle.net_model.specs.Name.{same_bytes}
 use Rattle.net_model.specs.Links.{find_link}
 use Rattle.net_model.specs.declared.Link.{Link}
