@@ -13,6 +13,8 @@ mod More
 mod NoCycle
 mod Placed
 mod Positions
+mod PutLast
 mod Raised
+mod Ruled
 mod Seated
 mod Vlans

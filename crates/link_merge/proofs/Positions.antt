@@ -56,7 +56,8 @@ position_more p xs i y lt is =
     pushed : {Y : Type 0} (q : Y → Bool) (ys : List Y) (z : Y) → position q (ys ++ z ∷ []) ≡ option_or (position q ys) (if q z then Some (length ys) else None)
     pushed q ys z = rw (position_or_len_push q ys z, longer ys z) (picked (position_or_len q ys) (length ys) (q z) (within q ys))
 
-same_as : (name q : List ℕ) → same_bytes name q ≡ is_eq (name_cmp name q)
+-- one name, by its bytes and by its order
+pub same_as : (name q : List ℕ) → same_bytes name q ≡ is_eq (name_cmp name q)
 same_as = texts_ties
 
 or_none : {X : Type 0} (o : Option X) → o ≡ option_or o None

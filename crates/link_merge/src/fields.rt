@@ -160,7 +160,6 @@ fn merged_link<'a>(
 {
     let steps = members.slots().len();
     let up = up_within(members, steps, slot);
-    let bond = bond_of(alloc, members, slot)?;
     let addrs = addrs_of(alloc, members, slot, up)?;
     Ok(Link {
         name: slot.name(),
@@ -169,7 +168,7 @@ fn merged_link<'a>(
         mtu: mtu_within(members, steps, slot),
         mac: mac_within(members, steps, slot),
         controller: slot.controller(),
-        bond,
+        bond: bond_of(alloc, members, slot),
         bridge: bridge_of(slot),
         port: port_of(members, slot),
         addrs,

@@ -6,6 +6,7 @@ mod bonds;
 mod broken;
 mod broken_entries;
 mod broken_links;
+mod controlled;
 mod controllers;
 mod entries;
 mod fields;

@@ -1,22 +1,24 @@
 //! The links of the merged state, found by their names.
-ghost use Rattle.std.specs.Prelude.{◌≡◌, false, map, find, option_copied, IfOk};
+ghost use Rattle.std.specs.Prelude.{◌≡◌, [], false, map, find, option_copied, IfOk};
 ghost use Rattle.std.specs.List.{list_any};
-ghost use Rattle.std.specs.Option.{option_map_or, option_and_then};
+ghost use Rattle.std.specs.Option.{option_map_or, option_and_then, unwrap_or};
 ghost use Rattle.merge_model.specs.Members.{Member, find_member};
 ghost use Rattle.merge_model.specs.Controllers.{lists};
+ghost use Rattle.merge_model.specs.LinkOptions.{merged_ports};
 ghost use Rattle.link_merge.specs.Listers.{rivals, port_place};
 
+use crate::controlled::ports_by_controller;
 use crate::index::Index;
 use crate::listers::{contested_names, first_lister, first_listers};
 use crate::port_lists::port_indexes;
 use crate::slot::Slot;
-use net_model::Name;
+use net_model::{Items, Name};
 use std::alloc::{AllocError, Global};
 use std::collections::{BTreeMap, BTreeSet};
 use std::marker::Model;
 
-/// The links of the merged state by rank, with an index of their names, one of each stated list of ports, and one of the
-/// names in all of these lists.
+/// The links of the merged state by rank, with an index of their names, one of each stated list of ports, one of the
+/// names in all of these lists, and the merged ports of each controller.
 #[derive(Drop)]
 pub(crate) struct Members<'a> {
     slots: Vec<Slot<'a>>,
@@ -24,18 +26,20 @@ pub(crate) struct Members<'a> {
     ports: Vec<Index>,
     firsts: BTreeMap<Name, usize>,
     contested: BTreeSet<Name>,
+    controlled: BTreeMap<Name, Items<Name>>,
 }
 
 impl<'a> Model for Members<'a> {
     ghost use Rattle.std.specs.Prelude.{◌≡◌, List, map};
     ghost use Rattle.merge_model.specs.Members.{Member};
+    ghost use Rattle.link_merge.specs.Controlled.{HasPorts};
     ghost use Rattle.link_merge.specs.Listers.{HasFirsts, HasContested, port_names};
 
     ghost Value = { List Member };
 
     ghost view = { λ ms. ms.slots.items };
 
-    ghost invariant = { λ ms. (ms.index ≡ map (λ (m : Member). m.name) ms.slots.items) × HasFirsts ms.slots.items ms.firsts × HasContested ms.slots.items ms.contested × (ms.ports.items ≡ map port_names ms.slots.items) };
+    ghost invariant = { λ ms. (ms.index ≡ map (λ (m : Member). m.name) ms.slots.items) × HasFirsts ms.slots.items ms.firsts × HasContested ms.slots.items ms.contested × (ms.ports.items ≡ map port_names ms.slots.items) × HasPorts ms.slots.items ms.controlled };
 }
 
 /// The names of the links.
@@ -54,12 +58,14 @@ impl<'a> Members<'a> {
         let ports = port_indexes(alloc, &slots)?;
         let firsts = first_listers(alloc, &slots)?;
         let contested = contested_names(alloc, &slots, &firsts)?;
+        let controlled = ports_by_controller(alloc, &slots)?;
         Ok(Members {
             slots,
             index,
             ports,
             firsts,
             contested,
+            controlled,
         })
     }
 
@@ -95,6 +101,13 @@ impl<'a> Members<'a> {
         ensures { result ≡ option_map_or (λ c. lists c port.now) (find_member controller.now self.now) false }
     {
         self.port_place(controller, port).is_some()
+    }
+
+    /// The names of the merged ports of the controller of this name, where it has any.
+    pub(crate) fn ports_of<'b>(&'b self, name: &Name) -> Option<&'b Items<Name>>
+        ensures { unwrap_or (option_copied result) [] ≡ merged_ports self.now name.now }
+    {
+        self.controlled.get(name)
     }
 
     /// The first link whose stated list names the link.

@@ -1,12 +1,11 @@
 //! The options of the merged links: whose current ones and whose entries count.
-ghost use Rattle.std.specs.Prelude.{◌≡◌, ◌&&◌, [], false, map, filter, slice_get, option_copied, IfOk};
-ghost use Rattle.std.specs.Option.{option_map_or, option_map, option_and_then, unwrap_or};
-ghost use Rattle.net_model.specs.Name.{same_bytes};
+ghost use Rattle.std.specs.Prelude.{◌≡◌, ◌&&◌, [], false, slice_get, option_copied};
+ghost use Rattle.std.specs.Option.{option_map_or, option_and_then, unwrap_or};
 ghost use Rattle.net_model.specs.Links.{is_bridge, is_port_of};
 ghost use Rattle.net_model.specs.Options.{default_port};
-ghost use Rattle.merge_model.specs.Members.{Member, find_member};
+ghost use Rattle.merge_model.specs.Members.{find_member};
 ghost use Rattle.merge_model.specs.OptionRules.{merge_bond, merge_bridge, merge_port};
-ghost use Rattle.merge_model.specs.LinkOptions.{no_bond, no_bridge, merged_ports, if_same_mode, if_bridge, bond_of, bridge_of, controller_member, if_same_bridge, port_under, port_of};
+ghost use Rattle.merge_model.specs.LinkOptions.{no_bond, no_bridge, if_same_mode, if_bridge, bond_of, bridge_of, controller_member, if_same_bridge, port_under, port_of};
 ghost use Rattle.link_merge.specs.Listers.{port_place};
 
 use crate::kinds::same_mode;
@@ -15,7 +14,7 @@ use crate::slot::Slot;
 use document_model::{BondEntry, BridgeEntry, LinkEntry, PortEntry};
 use net_model::{BondOpts, BridgeOpts, Items, Kind, Link, Name, PortOpts};
 use option_rules::{merge_bond, merge_bridge, merge_port};
-use std::alloc::{AllocError, Global};
+use std::alloc::Global;
 
 pub(crate) fn is_bridge(kind: &Kind) -> bool
     ensures { result ≡ is_bridge kind.now }
@@ -52,26 +51,6 @@ fn no_bridge() -> BridgeEntry
     }
 }
 
-fn is_under(slot: &Slot, name: &Name) -> bool
-    ensures { result ≡ option_map_or (λ c. same_bytes c name.now) slot.now.controller false }
-{
-    match slot.controller() {
-        Some(controller) => controller == *name,
-        None => false,
-    }
-}
-
-// The names of the merged ports.
-fn merged_ports(alloc: Global, slots: &[Slot], name: &Name) -> Result<Vec<Name>, AllocError>
-    ensures { IfOk result (λ ports. ports.items ≡ merged_ports slots.now name.now) }
-{
-    slots
-        .iter()
-        .filter(|slot| is_under(slot, name))
-        .map(|slot| slot.name())
-        .collect(alloc)
-}
-
 // The current options count for a bond that was one of the same mode.
 fn current_bond<'a>(old: Option<&'a Link>, kind: &Kind) -> Option<&'a BondOpts>
     ensures { option_copied result ≡ option_and_then (if_same_mode kind.now) (option_copied old.entry) }
@@ -104,7 +83,7 @@ fn current_bridge<'a>(old: Option<&'a Link>) -> Option<&'a BridgeOpts>
     }
 }
 
-fn bond_by(current: Option<&BondOpts>, entry: Option<&LinkEntry>, ports: &Vec<Name>) -> BondOpts
+fn bond_with(current: Option<&BondOpts>, entry: Option<&LinkEntry>, ports: &Vec<Name>) -> BondOpts
     ensures { result ≡ merge_bond (option_copied current.entry) (option_map_or (λ e. e.bond) (option_copied entry.entry) no_bond) ports.now.items }
 {
     match entry {
@@ -113,17 +92,31 @@ fn bond_by(current: Option<&BondOpts>, entry: Option<&LinkEntry>, ports: &Vec<Na
     }
 }
 
-/// The options of a bond, the defaults for another kind.
-pub(crate) fn bond_of(alloc: Global, members: &Members, slot: &Slot) -> Result<BondOpts, AllocError>
-    ensures { IfOk result (λ opts. opts ≡ bond_of members.now slot.now slot.now.kind) }
+fn bond_by(
+    alloc: Global,
+    current: Option<&BondOpts>,
+    entry: Option<&LinkEntry>,
+    ports: Option<&Items<Name>>,
+) -> BondOpts
+    ensures { result ≡ merge_bond (option_copied current.entry) (option_map_or (λ e. e.bond) (option_copied entry.entry) no_bond) (unwrap_or (option_copied ports.entry) []) }
+{
+    match ports {
+        Some(ports) => bond_with(current, entry, ports.items()),
+        None => bond_with(current, entry, &Vec::new(alloc)),
+    }
+}
+
+/// The options of a bond, the defaults for another kind. It allocates nothing.
+pub(crate) fn bond_of(alloc: Global, members: &Members, slot: &Slot) -> BondOpts
+    ensures { result ≡ bond_of members.now slot.now slot.now.kind }
 {
     let kind = slot.kind();
     match kind {
         Kind::Bond { .. } => {
-            let ports = merged_ports(alloc, members.slots(), &slot.name())?;
-            Ok(bond_by(current_bond(slot.old(), &kind), slot.entry(), &ports))
+            let ports = members.ports_of(&slot.name());
+            bond_by(alloc, current_bond(slot.old(), &kind), slot.entry(), ports)
         }
-        _ => Ok(BondOpts::defaults()),
+        _ => BondOpts::defaults(),
     }
 }
 
