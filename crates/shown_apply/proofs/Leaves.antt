@@ -1,5 +1,5 @@
 -- A document that makes the same of a network leaves it as it is under each command.
-use Rattle.std.proofs.Common.{◌≡◌, ◌∙◌, Bool, true, false, Some, None, Result, Ok, refl, ap}
+use Rattle.std.proofs.Common.{◌≡◌, ◌∙◌, ℕ, List, Bool, true, false, Some, None, Result, Ok, refl, ap}
 use Rattle.std.specs.Prelude.{is_ok, if◌then◌else◌}
 use Rattle.checkpoint_cell.specs.Settled.{restored_to}
 use Rattle.document_model.specs.declared.Doc.{Doc}
@@ -39,5 +39,5 @@ leaves net doc same = record {
 }
 
 -- so the document that is read of a text of the state does
-pub leaves_network : ChangesNothing → LeavesNetwork
-leaves_network law net doc is ranges printable within read = leaves net doc (law net doc is ranges printable within read)
+pub leaves_network : (text : NetData → List ℕ) → ChangesNothing text → LeavesNetwork text
+leaves_network text law net doc is ranges printable within read = leaves net doc (law net doc is ranges printable within read)

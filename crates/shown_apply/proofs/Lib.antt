@@ -6,3 +6,4 @@ pub mod LinkTrees
 pub mod NetTrees
 pub mod ReadAgain
 pub mod Leaves
+pub mod ReadLine

@@ -1,12 +1,16 @@
 -- Bytes of ASCII, and trees whose strings and keys are ASCII and whose whole numbers have 32 bits.
 use Rattle.std.proofs.Common.{◌≡◌, ◌∙◌, ◌<◌, ◌^◌, ℕ, suc, ℤ, pos, negsuc, List, [], ◌∷◌, ◌++◌, Bool, true, refl, arith, IsAscii}
-use Rattle.std.specs.Prelude.{nat_lt}
+use Rattle.std.specs.Prelude.{nat_lt, is_some}
 use Rattle.std.specs.List.{list_all}
+use Rattle.std.specs.Str.{IsUtf8}
 use Rattle.std.proofs.lemmas.Bool.{and_from, and_parts, lt-ltb, ltb-true}
 use Rattle.std.proofs.lemmas.List.Folds.{list_all-append}
+use Rattle.std.proofs.lemmas.Str.{IsUtf8-from_ascii}
 use Rattle.std.proofs.lemmas.Str.Ascii.{IsAscii-nil, IsAscii-cons}
 use Rattle.doc_tree.specs.Shape.{Shape, nothing, truth, whole, text, list, mapping, Shapes, no_shapes, more, Pairs, no_pairs, pair}
 use Rattle.doc_tree.specs.Integers.{integers_fit, items_fit, pairs_fit}
+use Rattle.doc_tree.specs.JsonText.{number_of, fits, shapes_fit, pairs_fit as values_fit}
+use Rattle.doc_tree.specs.Strings.{HasUtf8, ShapesHaveUtf8, PairsHaveUtf8}
 
 abbrev pub is_low : ℕ → Bool
 is_low b = nat_lt b 128
@@ -83,3 +87,47 @@ mutual
   pairs_simple_fit : (ps : Pairs) → HasSimple ps → pairs_fit ps ≡ true
   pairs_simple_fit no_pairs is = refl
   pairs_simple_fit (pair k s ps) is = and_from (integers_fit s) (pairs_fit ps) (simple_fits s is.1) (pairs_simple_fit ps is.2)
+
+-- a whole number of 32 bits has a number in JSON
+narrow_number : (n : ℕ) → n < 2 ^ 32 → is_some (number_of (pos n)) ≡ true
+narrow_number n lt = rw (lt-ltb n (2 ^ 64) (omega (arith, lt))) refl
+
+mutual
+  -- the whole numbers of such a tree are those of JSON
+  pub simple_numbers : (s : Shape) → IsSimple s → fits s ≡ true
+  simple_numbers nothing is = refl
+  simple_numbers (truth b) is = refl
+  simple_numbers (whole (pos n)) is = narrow_number n is
+  simple_numbers (whole (negsuc n)) is = absurd is
+  simple_numbers (text s) is = refl
+  simple_numbers (list ss) is = items_simple_numbers ss is
+  simple_numbers (mapping ps) is = pairs_simple_numbers ps is
+
+  items_simple_numbers : (ss : Shapes) → AreSimple ss → shapes_fit ss ≡ true
+  items_simple_numbers no_shapes is = refl
+  items_simple_numbers (more s ss) is = and_from (fits s) (shapes_fit ss) (simple_numbers s is.0) (items_simple_numbers ss is.1)
+
+  pairs_simple_numbers : (ps : Pairs) → HasSimple ps → values_fit ps ≡ true
+  pairs_simple_numbers no_pairs is = refl
+  pairs_simple_numbers (pair k s ps) is = and_from (fits s) (values_fit ps) (simple_numbers s is.1) (pairs_simple_numbers ps is.2)
+
+low_utf8 : (bs : List ℕ) → low bs ≡ true → IsUtf8 bs
+low_utf8 bs is = IsUtf8-from_ascii bs (low_ascii bs is)
+
+mutual
+  -- its strings and keys are UTF-8
+  pub simple_utf8 : (s : Shape) → IsSimple s → HasUtf8 s
+  simple_utf8 nothing is = tt
+  simple_utf8 (truth b) is = tt
+  simple_utf8 (whole z) is = tt
+  simple_utf8 (text s) is = low_utf8 s is
+  simple_utf8 (list ss) is = items_simple_utf8 ss is
+  simple_utf8 (mapping ps) is = pairs_simple_utf8 ps is
+
+  items_simple_utf8 : (ss : Shapes) → AreSimple ss → ShapesHaveUtf8 ss
+  items_simple_utf8 no_shapes is = tt
+  items_simple_utf8 (more s ss) is = (simple_utf8 s is.0, items_simple_utf8 ss is.1)
+
+  pairs_simple_utf8 : (ps : Pairs) → HasSimple ps → PairsHaveUtf8 ps
+  pairs_simple_utf8 no_pairs is = tt
+  pairs_simple_utf8 (pair k s ps) is = (low_utf8 k is.0, simple_utf8 s is.1, pairs_simple_utf8 ps is.2)

@@ -56,9 +56,9 @@ same_doc : (doc other : Doc) (r : Result Doc Cause) → r ≡ Ok doc → r ≡ O
 same_doc doc other r a b = cc
 
 -- so whatever is read of the text changes nothing
-pub changes_nothing : ReadsAsShown → ShownIsSame → ChangesNothing
-changes_nothing reads same net doc is ranges printable within read =
-    let e = same_doc (shown_doc net) doc (document (state_text net)) (reads net is ranges printable within) read in
+pub changes_nothing : (text : NetData → List ℕ) → ReadsAsShown text → ShownIsSame → ChangesNothing text
+changes_nothing text reads same net doc is ranges printable within read =
+    let e = same_doc (shown_doc net) doc (document (text net)) (reads net is ranges printable within) read in
     subst (λ (d : Doc). merge net d ≡ Ok net) e (same net is)
 
 module _
@@ -74,7 +74,7 @@ module _
       read (yaml_text_of tree) tree within (IsUtf8-from_ascii (yaml_text_of tree) ascii) (stands tree refl is.distinct (simple_fits tree is.simple) (omega (arith, is.depth)))
 
   -- and so as the document that it shows
-  pub yaml_shown : ReadsAsShown
+  pub yaml_shown : ReadsAsShown state_text
   yaml_shown net is ranges printable within =
       let bytes = yaml_text_of (whole_tree net) in
       known_tree bytes (whole_tree net) (shown_doc net) (yaml_tree bytes (whole_tree net) (yaml_first net) (yaml_reads net ranges within)) (answers net is ranges printable)

@@ -1,5 +1,5 @@
 -- What a printed state is read as, and what merging that gives.
-use Rattle.std.specs.Prelude.{◌≡◌, ◌≤◌, ℕ, false, List, length, IsOk, Some, None, Ok}
+use Rattle.std.specs.Prelude.{◌≡◌, ◌≤◌, ℕ, false, List, length, IsOk, Some, None, Ok, true}
 use Rattle.document_model.specs.declared.Doc.{Doc}
 use Rattle.net_model.specs.NetData.{NetData, IsNet}
 use Rattle.net_search.specs.Ranges.{Ranges}
@@ -17,17 +17,21 @@ use Rattle.shown_model.specs.Printable.{IsPrintable}
 abbrev pub state_text : NetData → List ℕ
 state_text net = shown None false net
 
--- a text of the state within the limit is read as the document that it shows
-abbrev pub ReadsAsShown : Type 0
-ReadsAsShown = (net : NetData) → IsNet net → Ranges net → IsPrintable net → length (state_text net) ≤ MAX_BYTES → document (state_text net) ≡ Ok (shown_doc net)
+-- and as a line of JSON
+abbrev pub state_line : NetData → List ℕ
+state_line net = shown None true net
+
+-- such a text of the state, within the limit, is read as the document that it shows
+abbrev pub ReadsAsShown : (NetData → List ℕ) → Type 0
+ReadsAsShown text = (net : NetData) → IsNet net → Ranges net → IsPrintable net → length (text net) ≤ MAX_BYTES → document (text net) ≡ Ok (shown_doc net)
 
 -- that document breaks no rule on its network and makes the same of it
 abbrev pub ShownIsSame : Type 0
 ShownIsSame = (net : NetData) → IsNet net → merge net (shown_doc net) ≡ Ok net
 
 -- so whatever document such a text is read as makes the same of the network
-abbrev pub ChangesNothing : Type 0
-ChangesNothing = (net : NetData) (doc : Doc) → IsNet net → Ranges net → IsPrintable net → length (state_text net) ≤ MAX_BYTES → document (state_text net) ≡ Ok doc → merge net doc ≡ Ok net
+abbrev pub ChangesNothing : (NetData → List ℕ) → Type 0
+ChangesNothing text = (net : NetData) (doc : Doc) → IsNet net → Ranges net → IsPrintable net → length (text net) ≤ MAX_BYTES → document (text net) ≡ Ok doc → merge net doc ≡ Ok net
 
 -- where the network stands alone: the plan of this document leads from the network to itself, and an apply of it is done, and
 -- leaves the network, whether it is committed or waits
@@ -37,5 +41,5 @@ pub record LeavesAsIs (net : NetData) (doc : Doc) : Type 0 where
   pub apply : (now : ℕ) (opts : ApplyOpts) → (machine now (applying doc opts) (restored_to net)).after.net ≡ Some net
 
 -- so does whatever document such a text is read as
-abbrev pub LeavesNetwork : Type 0
-LeavesNetwork = (net : NetData) (doc : Doc) → IsNet net → Ranges net → IsPrintable net → length (state_text net) ≤ MAX_BYTES → document (state_text net) ≡ Ok doc → LeavesAsIs net doc
+abbrev pub LeavesNetwork : (NetData → List ℕ) → Type 0
+LeavesNetwork text = (net : NetData) (doc : Doc) → IsNet net → Ranges net → IsPrintable net → length (text net) ≤ MAX_BYTES → document (text net) ≡ Ok doc → LeavesAsIs net doc
