@@ -13,8 +13,6 @@ mod rest;
 mod routes;
 // One call on a network.
 mod stepping;
-#[cfg(test)]
-mod tests;
 
 pub use kernel_model::StepFault;
 pub use stepping::step;

@@ -20,7 +20,7 @@ use plan_model::plan_laws;
 use std::alloc::Global;
 
 /// The calls of a plan for links, and the network to which they lead.
-#[derive(Debug, Drop)]
+#[derive(Drop)]
 pub struct LinkPlan {
     pub calls: Vec<Call>,
     pub after: Net,

@@ -6,7 +6,7 @@ ghost use Rattle.net_model.specs.OnLink.{holds, is_link_local};
 use std::marker::Model;
 
 /// An address of IPv4 or IPv6, with its bits as a number. IPv4 comes before IPv6, and then the bits decide.
-#[derive(Clone, Copy, Debug, PartialEq, Eq, PartialOrd, Ord, Hash)]
+#[derive(Clone, Copy, PartialEq, Eq, PartialOrd, Ord)]
 pub struct Addr {
     v6: bool,
     bits: u128,
@@ -77,7 +77,7 @@ pub fn max_len(v6: bool) -> u8
 }
 
 /// An address, and how many of its leading bits are the network's.
-#[derive(Clone, Copy, Debug, PartialEq, Eq, PartialOrd, Ord, Hash)]
+#[derive(Clone, Copy, PartialEq, Eq, PartialOrd, Ord)]
 pub struct Prefix {
     addr: Addr,
     len: u8,
@@ -156,7 +156,7 @@ fn without_host_bits(bits: u128, host: u8) -> u128
 }
 
 /// A prefix whose host bits are all 0.
-#[derive(Clone, Copy, Debug, PartialEq, Eq, PartialOrd, Ord, Hash)]
+#[derive(Clone, Copy, PartialEq, Eq, PartialOrd, Ord)]
 pub struct Subnet {
     addr: Addr,
     len: u8,

@@ -10,7 +10,7 @@ use crate::route::Route;
 use crate::rule::Rule;
 
 /// What the kernel is asked to change.
-#[derive(Clone, Debug, PartialEq, Eq, Drop)]
+#[derive(Clone, Drop)]
 pub enum Call {
     AddLink { name: Name, kind: Kind },
     DelLink { name: Name },

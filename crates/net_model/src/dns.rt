@@ -5,7 +5,7 @@ use crate::domain::Domain;
 use base_model::Items;
 
 /// The servers that are asked and the names that are searched under, each in the order of asking.
-#[derive(Clone, Debug, PartialEq, Eq, PartialOrd, Ord, Drop)]
+#[derive(Clone, PartialEq, Eq, Drop)]
 pub struct Dns {
     pub servers: Items<Addr>,
     pub search: Items<Domain>,

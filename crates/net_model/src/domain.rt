@@ -9,7 +9,7 @@ use std::marker::Model;
 
 /// A DNS search domain: 1 to 253 printable ASCII bytes, none of them a comma.
 /// Contracts see its bytes. Domains are ordered by their bytes.
-#[derive(Clone, Debug, Drop)]
+#[derive(Clone, Drop)]
 pub struct Domain {
     bytes: Vec<u8>,
 }

@@ -6,7 +6,7 @@ use crate::limits::MAX_VLAN_ID;
 use std::marker::Model;
 
 /// The number of a routing table, which isn't 0. Contracts see the number.
-#[derive(Clone, Copy, Debug, PartialEq, Eq, PartialOrd, Ord)]
+#[derive(Clone, Copy, PartialEq, Eq, PartialOrd, Ord)]
 pub struct TableId {
     id: u32,
 }
@@ -52,7 +52,7 @@ impl TableId {
 }
 
 /// The number of a VLAN, at most 4094. Contracts see the number.
-#[derive(Clone, Copy, Debug, PartialEq, Eq, PartialOrd, Ord)]
+#[derive(Clone, Copy, PartialEq, Eq, PartialOrd, Ord)]
 pub struct VlanId {
     id: u16,
 }

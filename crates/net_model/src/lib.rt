@@ -7,8 +7,6 @@ mod dns;
 mod domain;
 mod hardware;
 mod id;
-#[cfg(test)]
-mod limit_tests;
 mod limits;
 mod link;
 mod lookup;
@@ -21,12 +19,11 @@ mod parts;
 mod place;
 mod route;
 mod rule;
-#[cfg(test)]
-mod tests;
 mod valid;
 mod valid_limits;
 mod valid_links;
 mod valid_options;
+mod valid_peers;
 mod valid_routes;
 mod valid_standing;
 

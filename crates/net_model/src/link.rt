@@ -8,7 +8,7 @@ use crate::options::{BondMode, BondOpts, BridgeOpts, PortOpts, Proto};
 use base_model::Items;
 
 /// What a link is.
-#[derive(Clone, Copy, Debug, PartialEq, Eq, PartialOrd, Ord)]
+#[derive(Clone, Copy, PartialEq, Eq)]
 pub enum Kind {
     /// A device with the MAC that it was built with.
     Ethernet {
@@ -28,10 +28,16 @@ pub enum Kind {
     Vrf {
         table: TableId,
     },
+    /// A device that stands for itself alone: what is sent over it goes nowhere.
+    Dummy,
+    /// One end of a pair: what is sent over it comes in at the other end.
+    Veth {
+        peer: Name,
+    },
 }
 
 /// A link with all its settings; those that its kind or controller doesn't use have their defaults in a valid network.
-#[derive(Clone, Debug, PartialEq, Eq, PartialOrd, Ord, Drop)]
+#[derive(Clone, PartialEq, Eq, Drop)]
 pub struct Link {
     pub name: Name,
     pub kind: Kind,

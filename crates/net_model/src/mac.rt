@@ -5,7 +5,7 @@ ghost use Rattle.net_model.specs.Hardware.{virtual_mac};
 use crate::name::Name;
 
 /// A hardware address of six bytes, in the order in which it is written.
-#[derive(Clone, Copy, Debug, PartialEq, Eq, PartialOrd, Ord)]
+#[derive(Clone, Copy, PartialEq, Eq)]
 pub struct Mac {
     pub bytes: [u8; 6],
 }

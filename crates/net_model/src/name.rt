@@ -9,7 +9,7 @@ use std::marker::Model;
 
 /// The name of a link: 1 to 15 printable ASCII bytes, none of them `/` or `:`, and neither `.` nor `..` nor `-`.
 /// Contracts see its bytes. Names are ordered by their bytes.
-#[derive(Clone, Copy, Debug, Hash)]
+#[derive(Clone, Copy, Hash)]
 pub struct Name {
     len: u8,
     bytes: [u8; 15],

@@ -27,9 +27,9 @@ use std::marker::Model;
 use std::mem;
 
 /// Why lists make no network.
-#[derive(Clone, Copy, Debug, PartialEq, Eq)]
+#[derive(Clone, Copy, PartialEq, Eq)]
 pub enum NetFault {
-    /// The least part of validity that the lists break, from 1 to 12.
+    /// The least part of validity that the lists break, from 1 to 13.
     Broken(u8),
     OutOfMemory,
 }
@@ -57,7 +57,7 @@ impl From<OutOfMemory> for NetFault {
 }
 
 /// A network: valid, with each list in order, so that equal networks are equal values.
-#[derive(Debug, Drop)]
+#[derive(Drop)]
 pub struct Net {
     parts: Parts,
 }

@@ -5,14 +5,14 @@ ghost use Rattle.net_model.specs.Options.{default_bond, default_bridge, default_
 use crate::name::Name;
 
 /// The tag that a VLAN's frames carry: 802.1Q or 802.1ad.
-#[derive(Clone, Copy, Debug, PartialEq, Eq, PartialOrd, Ord)]
+#[derive(Clone, Copy, PartialEq, Eq)]
 pub enum Proto {
     Dot1q,
     Dot1ad,
 }
 
 /// How a bond spreads frames over its ports, in the order of the modes' numbers in the Linux bonding documentation.
-#[derive(Clone, Copy, Debug, PartialEq, Eq, PartialOrd, Ord)]
+#[derive(Clone, Copy, PartialEq, Eq)]
 pub enum BondMode {
     BalanceRr,
     ActiveBackup,
@@ -24,14 +24,14 @@ pub enum BondMode {
 }
 
 /// How often a bond asks its partner to send LACP frames.
-#[derive(Clone, Copy, Debug, PartialEq, Eq, PartialOrd, Ord)]
+#[derive(Clone, Copy, PartialEq, Eq)]
 pub enum LacpRate {
     Slow,
     Fast,
 }
 
 /// What of a frame decides over which port of a bond it leaves.
-#[derive(Clone, Copy, Debug, PartialEq, Eq, PartialOrd, Ord)]
+#[derive(Clone, Copy, PartialEq, Eq)]
 pub enum HashPolicy {
     Layer2,
     Layer23,
@@ -42,7 +42,7 @@ pub enum HashPolicy {
 }
 
 /// The options of a bond. The interval of the link monitor and the two delays are in milliseconds.
-#[derive(Clone, Copy, Debug, PartialEq, Eq, PartialOrd, Ord)]
+#[derive(Clone, Copy, PartialEq, Eq)]
 pub struct BondOpts {
     pub primary: Option<Name>,
     pub lacp_rate: LacpRate,
@@ -69,7 +69,7 @@ impl BondOpts {
 }
 
 /// The options of a bridge. All times are in seconds.
-#[derive(Clone, Copy, Debug, PartialEq, Eq, PartialOrd, Ord)]
+#[derive(Clone, Copy, PartialEq, Eq)]
 pub struct BridgeOpts {
     pub stp: bool,
     pub priority: u16,
@@ -96,7 +96,7 @@ impl BridgeOpts {
 }
 
 /// The options of a bridge's port.
-#[derive(Clone, Copy, Debug, PartialEq, Eq, PartialOrd, Ord)]
+#[derive(Clone, Copy, PartialEq, Eq)]
 pub struct PortOpts {
     pub cost: u16,
     pub priority: u8,

@@ -19,7 +19,7 @@ use std::alloc::{AllocError, Global};
 use std::marker::Model;
 
 /// The lists of a network, of which nothing is known: a network that is taken apart to be changed.
-#[derive(Debug, Drop)]
+#[derive(Drop)]
 pub struct Parts {
     pub links: Vec<Link>,
     pub routes: Vec<Route>,

@@ -14,7 +14,7 @@ use crate::valid_routes::order_routes;
 use std::cmp::Ordering;
 
 /// Where something stands in a strictly sorted list, or where it belongs.
-#[derive(Clone, Copy, Debug, PartialEq, Eq)]
+#[derive(Clone, Copy, PartialEq, Eq)]
 pub enum Place {
     /// It stands at this index.
     At(usize),

@@ -5,7 +5,7 @@ use crate::id::TableId;
 use crate::name::Name;
 
 /// A route of a table. Destination, table and metric are its key, by which routes are ordered.
-#[derive(Clone, Copy, Debug, PartialEq, Eq, PartialOrd, Ord)]
+#[derive(Clone, Copy, PartialEq, Eq, PartialOrd, Ord)]
 pub struct Route {
     pub dest: Subnet,
     pub table: TableId,

@@ -9,7 +9,7 @@ use std::cmp::Ordering;
 use std::marker::Model;
 
 /// What becomes of the packets that a rule takes.
-#[derive(Clone, Copy, Debug, PartialEq, Eq, PartialOrd, Ord)]
+#[derive(Clone, Copy, PartialEq, Eq, PartialOrd, Ord)]
 pub enum Target {
     /// They are routed by this table.
     Table(TableId),
@@ -20,7 +20,7 @@ pub enum Target {
 
 /// A rule of routing. Its subnets are of its family. Rules are ordered by their fields as these stand here; nothing
 /// comes before something, and false before true.
-#[derive(Clone, Copy, Debug)]
+#[derive(Clone, Copy)]
 pub struct Rule {
     pub priority: u32,
     pub v6: bool,

@@ -6,11 +6,7 @@ mod options;
 mod pieces;
 mod read;
 mod routing;
-#[cfg(test)]
-mod tests;
 mod words;
-#[cfg(test)]
-mod words_tests;
 mod write;
 
 pub use line::write_call_line;

@@ -6,4 +6,4 @@ pub mod Dropping
 pub mod Adding
 pub mod AddingAddress
 pub mod Same
-pub mod OneDns
+pub mod SameItems

@@ -1,9 +1,16 @@
 //! Plans: the calls that lead from one network to another.
 #![tactic(auto)]
 
+// Whether two networks are one.
+mod equal;
+// What a network has, by binary search.
 mod has;
+// The whole plan.
 mod phases;
+// Addresses, routes, rules and DNS that are missing.
 mod put_on;
+// Rules, routes and addresses that the target hasn't.
 mod take_off;
 
+pub use equal::same_net;
 pub use phases::plan;

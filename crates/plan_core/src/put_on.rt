@@ -1,12 +1,12 @@
 //! Addresses, routes, rules and DNS that are missing.
 ghost use Rattle.std.specs.Prelude.{◌≡◌, ◌≢◌, ◌+◌, ◌≤◌, ℕ, List, length, IfOk, OnOk};
-ghost use Rattle.std.specs.Bool.{OnTrue, OnFalse};
 ghost use Rattle.net_model.specs.Address.{Block};
 ghost use Rattle.net_model.specs.Valid.{address_count};
 ghost use Rattle.plan_model.specs.Plans.{part_count};
 ghost use Rattle.link_planner.specs.Drafts.{IsDraft};
 ghost use Rattle.plan_core.specs.Parts.{IsPartOf, HasAddress, HasRoute, HasRule, EachRoute, EachRule, LinkIsFilled};
 
+use crate::equal::same_dns;
 use crate::has::{has_address, has_route, has_rule};
 use link_planner::make;
 use net_model::{Call, Dns, Link, Name, Net, OutOfMemory, Prefix, Route, Rule};
@@ -185,12 +185,6 @@ fn copy_dns(dns: &Dns) -> Result<Dns, AllocError>
     dns.clone()
 }
 
-fn is_same_dns(a: &Dns, b: &Dns) -> bool
-    ensures { OnTrue result (a.now ≡ b.now) }
-{
-    *a == *b
-}
-
 // Sets DNS, if it isn't the target's, where all else is the target's.
 fn set_dns(
     start: &Net,
@@ -206,7 +200,7 @@ fn set_dns(
     ensures draft { OnOk result (IsDraft start.now target.now calls.new.items work.new) }
     ensures count { OnOk result (length calls.new.items ≤ length calls.old.items + 1) }
 {
-    if !is_same_dns(work.dns(), target.dns()) {
+    if !same_dns(work.dns(), target.dns()) {
         target.laws();
         work.laws();
         let dns = copy_dns(target.dns())?;
