@@ -8,14 +8,14 @@ use crate::dotted::read_dotted;
 use crate::find::{behind, find_gap, find_sign};
 
 // What the last part of a run may be.
-#[derive(Clone, Copy, Debug, PartialEq, Eq)]
+#[derive(Clone, Copy, PartialEq, Eq)]
 pub(crate) enum Last {
     Field,
     FieldOrDotted,
 }
 
 // Fields that were read: how many, and the number that they make.
-#[derive(Clone, Copy, Debug)]
+#[derive(Clone, Copy)]
 pub(crate) struct Fields {
     count: u32,
     bits: u128,

@@ -14,6 +14,3 @@ pub use limits::{MAX_BYTES, MAX_LEVELS};
 pub use read::{JsonFault, tree_of_json};
 pub use tree::Tree;
 pub use write::{TextFault, json_of_tree};
-
-#[cfg(test)]
-mod tests;

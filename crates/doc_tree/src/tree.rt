@@ -6,7 +6,7 @@ use base_model::Str;
 ///
 /// A tree is distinct where the keys of each of its maps differ. The top node is level 1, and each node below has a
 /// level of its own, scalars too.
-#[derive(Debug, PartialEq, Eq, Drop)]
+#[derive(PartialEq, Eq, Drop)]
 pub enum Tree {
     Null,
     Bool(bool),

@@ -26,7 +26,7 @@ const ROUTE_GATEWAY: u8 = 19;
 const ROUTE_TWIN: u8 = 20;
 
 // A stated route and the position of its entry.
-#[derive(Debug, Drop)]
+#[derive(Drop)]
 struct Stated {
     at: u32,
     route: Route,

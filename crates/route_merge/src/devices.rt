@@ -9,7 +9,7 @@ use std::collections::BTreeMap;
 use std::marker::Model;
 
 // Links with an index by name.
-#[derive(Debug, Drop)]
+#[derive(Drop)]
 pub(crate) struct Devices<'a> {
     links: &'a [Link],
     places: BTreeMap<Name, usize>,

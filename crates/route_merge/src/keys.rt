@@ -43,7 +43,7 @@ pub(crate) fn has_key(keys: &BTreeSet<(Subnet, TableId, u32)>, route: &Route) ->
 }
 
 // A route as an item of a set.
-#[derive(Clone, Copy, Debug, PartialEq, Eq, PartialOrd, Ord)]
+#[derive(Clone, Copy, PartialEq, Eq, PartialOrd, Ord)]
 pub(crate) struct Whole {
     route: Route,
 }

@@ -19,7 +19,5 @@ mod rules;
 mod resolver;
 // All of these together.
 mod rest;
-#[cfg(test)]
-mod tests;
 
 pub use rest::{Rest, merge_rest};

@@ -14,7 +14,7 @@ use std::marker::Model;
 const FIRST_NUMBER: u32 = 30000;
 
 // Rules in the order in which they were taken, with an index.
-#[derive(Debug, Drop)]
+#[derive(Drop)]
 pub(crate) struct Taken {
     rules: Vec<Rule>,
     equal: BTreeSet<Rule>,

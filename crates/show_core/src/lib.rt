@@ -4,8 +4,6 @@
 mod links;
 mod network;
 mod pairs;
-#[cfg(test)]
-mod tests;
 mod values;
 
 pub use base_model::OutOfMemory;

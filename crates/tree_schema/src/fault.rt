@@ -6,7 +6,7 @@ use crate::{Reader, Stop};
 use base_model::Path;
 
 /// Why a tree is refused at a place.
-#[derive(Clone, Copy, Debug, PartialEq, Eq)]
+#[derive(Clone, Copy, PartialEq, Eq)]
 pub enum Reason {
     /// A map has a key that isn't known there.
     UnknownKey,
@@ -21,7 +21,7 @@ pub enum Reason {
 }
 
 /// Why a tree is refused, with the place; the place of a missing key is the one that it would have.
-#[derive(Debug, PartialEq, Eq, Drop)]
+#[derive(PartialEq, Eq, Drop)]
 pub enum SchemaFault {
     UnknownKey(Path),
     WrongType(Path),

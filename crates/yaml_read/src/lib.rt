@@ -25,6 +25,3 @@ pub use fault::YamlFault;
 pub use laws::reading_laws;
 pub use plain::{integer_of, is_plain_string};
 pub use read::tree_of_yaml;
-
-#[cfg(test)]
-mod tests;

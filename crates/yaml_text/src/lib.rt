@@ -10,6 +10,3 @@ mod write;
 pub use laws::printing_laws;
 pub use write::yaml_of_tree;
 pub use yaml_read::{YamlFault, tree_of_yaml};
-
-#[cfg(test)]
-mod tests;
