@@ -24,6 +24,7 @@ hidden bytes shut = ap seen_of (gate_shut bytes shut)
 Agree : ℕ → List ℕ → List ℕ → Type 0
 Agree n xs ys = (i : ℕ) → i < n → get_or xs i 0 ≡ get_or ys i 0
 
+-- the same bytes are the same number
 pub same_number : (n j : ℕ) (xs ys : List ℕ) → ((i : ℕ) → i < j + n → get_or xs i 0 ≡ get_or ys i 0) → big_from j n xs ≡ big_from j n ys
 same_number zero j xs ys same = refl
 same_number (suc n) j xs ys same =
@@ -35,6 +36,7 @@ behind_same : (m : ℕ) (xs ys : List ℕ) → m + 8 ≤ 18 → ((i : ℕ) → i
 behind_same m xs ys fits same =
     same_number 8 0 (drop m xs) (drop m ys) (λ i lt. get_or-drop m xs i 0 ∙ same (m + i) (omega arith) ∙ sym (get_or-drop m ys i 0))
 
+-- areas with the same first 18 bytes show the same
 pub seen_alike : (xs ys : List ℕ) → ((i : ℕ) → i < 18 → get_or xs i 0 ≡ get_or ys i 0) → seen_of (cell_of xs) ≡ seen_of (cell_of ys)
 seen_alike xs ys same = elim (cases_eq (get_or xs 0 0) 1) [
   | inl opens ↦

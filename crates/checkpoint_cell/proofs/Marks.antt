@@ -22,6 +22,7 @@ drop_two [] = refl
 drop_two (a ∷ []) = refl
 drop_two (a ∷ b ∷ bytes) = refl
 
+-- the first byte of what was written
 pub first_of : (byte : ℕ) (bytes : List ℕ) → take 1 bytes ≡ byte ∷ [] → get_or bytes 0 0 ≡ byte
 first_of byte [] is = let e : [] ≡ byte ∷ [] = is in absurd (cc)
 first_of byte (b ∷ bytes) is = let e : b ∷ [] ≡ byte ∷ [] = is in cc
@@ -44,6 +45,7 @@ either checkpoint byte = elim (cases_eq byte 2) [
   | inr not ↦ let applies : phase_of byte ≡ Applying = grind (arith, nat_tests) in inl (ap (λ (p : Phase). Some (in_phase p checkpoint)) applies)
 ]
 
+-- a cell whose phase was written has that phase
 pub marked : (byte : ℕ) (checkpoint : Checkpoint) (old new : HostView) → Holds (Some checkpoint) old
     → Written 1 (byte ∷ []) old.state.cell new.state.cell → HasCell new.state.cell new → Holds (Some (in_phase (phase_of byte) checkpoint)) new
 marked byte checkpoint old new holds written sure = record {
@@ -52,6 +54,7 @@ marked byte checkpoint old new holds written sure = record {
       ∙ ap (λ (b : ℕ). Some (in_phase (phase_of b) checkpoint)) (first_of byte (drop 1 new.state.cell) written.stands);
 }
 
+-- a stop while the phase is written leaves the one phase or the other
 pub marking : (checkpoint : Checkpoint) (old : HostView) (new : Stops State) → Holds (Some checkpoint) old
     → Steps (CellTorn 1 1) old.stops new → Steps (CellIn (EitherPhase checkpoint)) old.stops new
 marking checkpoint old new holds steps =

@@ -23,11 +23,13 @@ shut checkpoint n old r s holds filled left torn =
     let closed = none_shut r.cell (ap cell_of same ∙ holds.cell) in
     record { net = torn.net; no_shorter = torn.cell.no_shorter; cell = inl (gate_shut s.cell (λ e. closed (sym gate ∙ e))) }
 
+-- a stop while the record is written behind the gate leaves the cell closed
 pub put_first : (checkpoint : Checkpoint) (n : ℕ) (old : HostView) (new : Stops State) → Holds None old → old.state.cell ≢ []
     → Steps (CellTorn 1 n) old.stops new → Steps (CellIn (NoneOr checkpoint)) old.stops new
 put_first checkpoint n old new holds filled steps =
     weaken (CellTorn 1 n) (CellIn (NoneOr checkpoint)) old.stops new steps (λ r s left torn. shut checkpoint n old r s holds filled left torn)
 
+-- a stop until the gate is written leaves the cell closed, or the checkpoint
 pub put_both : (checkpoint : Checkpoint) (n : ℕ) (old mid : HostView) (new : Stops State) → Holds None old → old.state.cell ≢ []
     → Steps (CellTorn 1 n) old.stops mid.stops → HasCell mid.state.cell mid → checkpoint_of (drop 1 mid.state.cell) ≡ checkpoint
     → Steps (CellTorn 0 1) mid.stops new → Steps (CellIn (NoneOr checkpoint)) old.stops new
@@ -48,6 +50,7 @@ stands_behind checkpoint bytes old new written reads =
     sym (take-append-drop (length bytes) (drop 1 new)) ∙ ap (λ (l : List ℕ). l ++ drop (length bytes) (drop 1 new)) written.stands in
     ap checkpoint_of whole ∙ reads (drop (length bytes) (drop 1 new))
 
+-- once the gate is written, the cell holds the checkpoint
 pub put_done : (checkpoint : Checkpoint) (mid new : HostView) → checkpoint_of (drop 1 mid.state.cell) ≡ checkpoint
     → Written 0 (1 ∷ []) mid.state.cell new.state.cell → HasCell new.state.cell new → Holds (Some checkpoint) new
 put_done checkpoint mid new stands written sure =

@@ -40,6 +40,7 @@ module _ (made deadline : ℕ) (net : NetData) (image rest : List ℕ) where
       let third : slot_net (drop 16 behind) ≡ Some net = ap slot_net to_third ∙ slot_net-image image rest small ∙ laws.read image net is in
       behind_is Applying behind made deadline (Some net) first second third
 
+-- a record that was written reads as the checkpoint, whatever follows it
 pub record_reads : ImageLaws → (made deadline : ℕ) (net : NetData) (image rest : List ℕ) → made < 2 ^ 64 → deadline < 2 ^ 64 → length image ≤ 1048572 → IsImage image net
     → checkpoint_of ((1 ∷ (big_bytes 8 made ++ (big_bytes 8 deadline ++ (big_bytes 4 (length image) ++ image)))) ++ rest) ≡ applying made deadline net
 record_reads laws made deadline net image rest made_fits deadline_fits small is =

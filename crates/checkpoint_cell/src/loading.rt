@@ -14,7 +14,7 @@ use net_image::{ImageFault, decode};
 use net_model::Net;
 use std::alloc::Global;
 
-#[derive(Debug, PartialEq, Eq, Drop)]
+#[derive(PartialEq, Eq, Drop)]
 pub enum CellFault {
     Failed,
     Damaged,
@@ -33,7 +33,7 @@ impl From<Failed> for CellFault {
 }
 
 /// A checkpoint with its network.
-#[derive(Debug, Drop)]
+#[derive(Drop)]
 pub struct Pending {
     pub phase: Phase,
     pub made: u64,

@@ -1,32 +1,46 @@
 //! The making of a first network on a disk.
-ghost use Rattle.std.specs.Prelude.{◌≡◌, ◌≢◌, ◌⊎◌, ◌≤◌, ◌<◌, ◌+◌, ℕ, length, get_or, not, true, false, None, Some, IfOk, OnOk, OnErr, IsErrOf, IsSome};
+ghost use Rattle.std.specs.Prelude.{◌≡◌, ◌≢◌, ◌⊎◌, ◌≤◌, ◌==◌, length, get_or, not, false, None, Some, IfOk, OnOk, OnErr, IsErrOf, IsSome};
 ghost use Rattle.host_core.specs.Faults.{HasCause, HasFault};
 ghost use Rattle.host_core.specs.Stops.{Steps, Stays};
-ghost use Rattle.host_core.specs.DiskView.{DiskView, HasArea, Areas};
+ghost use Rattle.host_core.specs.DiskView.{DiskView, HasArea, Areas, Untouched};
 ghost use Rattle.net_image.specs.Image.{net_of};
-ghost use Rattle.std.specs.Prelude.{◌++◌};
-ghost use Rattle.byteorder.specs.Endian.{big_bytes};
-ghost use Rattle.disk_host.specs.Slots.{selects, kernel_net, KeepsKernel, HasNone, AreasMade, IsApart};
+ghost use Rattle.call_journal.specs.Area.{is_first, selects, kernel_net, new_slot};
+ghost use Rattle.disk_host.specs.Slots.{KeepsKernel, HasNone, MaybeClosed, IsShut, AreasMade, IsApart};
+ghost use Rattle.disk_host.specs.Writes.{IsMadeSlot, IsMadeOf};
 
-use crate::changing::{image_of, read_net, slot_of};
-use crate::read::{SlotFault, selected};
+use crate::changing::{image_of, slot_of};
+use crate::read::{SlotFault, read_synced, selected};
 use crate::slot::{SECOND, store, write_synced};
 use base_model::OutOfMemory;
 use host_core::{Disk, Failed, MakeFault};
 use net_model::Net;
 use std::alloc::Global;
 
-/// Closes the gate of the checkpoint area, where it is open or the area is empty.
-fn close<D: Disk>(disk: &mut D) -> Result<(), Failed>
-    requires { D.tells → HasArea 1 (D.told disk.old).areas.cell (D.told disk.old) }
-    ensures closed { OnOk result (D.tells → (get_or (D.told disk.new).areas.cell 0 1 ≢ 1) × HasArea 1 (D.told disk.new).areas.cell (D.told disk.new)) }
-    ensures kernel { D.tells → (D.told disk.new).areas.kernel ≡ (D.told disk.old).areas.kernel }
-    ensures stops { Steps KeepsKernel (D.told disk.old).stops (D.told disk.new).stops }
+// Whether the gate of the checkpoint area is open, or the area is empty.
+fn is_open<D: Disk>(disk: &mut D) -> Result<bool, Failed>
+    ensures opens { D.tells → IfOk result (λ opens. opens ≡ (get_or (D.told disk.old).areas.cell 0 1 == 1)) }
+    ensures untouched { Untouched D.tells (D.told disk.old) (D.told disk.new) }
     ensures cause { HasCause (D.told disk.old).faults (D.told disk.new).faults result }
 {
     let mut gate = [1; 1];
     disk.read_at(1, 0, &mut gate)?;
-    if gate[0] == 1 {
+    Ok(gate[0] == 1)
+}
+
+/// Closes the gate of the checkpoint area, where it is open or the area is empty.
+fn close<D: Disk>(disk: &mut D) -> Result<(), Failed>
+    requires { D.tells → HasArea 1 (D.told disk.old).areas.cell (D.told disk.old) }
+    ensures closed { OnOk result (D.tells → (get_or (D.told disk.new).areas.cell 0 1 ≢ 1) × HasArea 1 (D.told disk.new).areas.cell (D.told disk.new)) }
+    // A gate that was closed isn't written, and the bytes behind it never are.
+    ensures shut { OnOk result (D.tells → IsShut (D.told disk.old).areas.cell (D.told disk.new).areas.cell) }
+    ensures kernel { D.tells → (D.told disk.new).areas.kernel ≡ (D.told disk.old).areas.kernel }
+    ensures maybe { D.tells → MaybeClosed (D.told disk.old).areas (D.told disk.new).areas }
+    ensures stops { D.tells → Steps MaybeClosed (D.told disk.old).stops (D.told disk.new).stops }
+    ensures stops_kernel { Steps KeepsKernel (D.told disk.old).stops (D.told disk.new).stops }
+    ensures cause { HasCause (D.told disk.old).faults (D.told disk.new).faults result }
+{
+    let opens = is_open(disk)?;
+    if opens {
         return write_synced(disk, 1, 0, &[0]);
     }
     Ok(())
@@ -51,21 +65,25 @@ fn free_slot<D: Disk>(disk: &mut D) -> Result<bool, Failed>
 }
 
 /// Closes the checkpoint, and stores an image where no network is.
-fn fill<D: Disk>(disk: &mut D, image: &[u8], slot: &[u8]) -> Result<(), Failed>
-    requires small { length image.now ≤ 1048572 }
-    requires slot { slot.now ≡ big_bytes 4 (length image.now) ++ image.now }
+fn fill<D: Disk>(disk: &mut D, first: &Net, image: &[u8], slot: &[u8]) -> Result<(), Failed>
+    requires small { length image.now ≤ 864508 }
+    requires image { net_of image.now ≡ Some first.now }
+    requires latest { is_first image.now ≡ false }
+    requires slot { slot.now ≡ new_slot image.now }
     requires sure { D.tells → HasArea 0 (D.told disk.old).areas.kernel (D.told disk.old) }
     requires cell { D.tells → HasArea 1 (D.told disk.old).areas.cell (D.told disk.old) }
     requires none { D.tells → kernel_net (D.told disk.old).areas.kernel ≡ None }
-    ensures net { OnOk result (D.tells → (kernel_net (D.told disk.new).areas.kernel ≡ net_of image.now) × HasArea 0 (D.told disk.new).areas.kernel (D.told disk.new)) }
+    ensures net { OnOk result (D.tells → (kernel_net (D.told disk.new).areas.kernel ≡ Some first.now) × HasArea 0 (D.told disk.new).areas.kernel (D.told disk.new)) }
+    ensures made { OnOk result (D.tells → IsMadeSlot image.now (D.told disk.new).areas.kernel) }
     ensures cell { OnOk result (D.tells → (get_or (D.told disk.new).areas.cell 0 1 ≢ 1) × HasArea 1 (D.told disk.new).areas.cell (D.told disk.new)) }
-    ensures maybe { D.tells → AreasMade (net_of image.now) (D.told disk.old).areas (D.told disk.new).areas }
-    ensures stops { D.tells → Steps (AreasMade (net_of image.now)) (D.told disk.old).stops (D.told disk.new).stops }
+    ensures shut { OnOk result (D.tells → IsShut (D.told disk.old).areas.cell (D.told disk.new).areas.cell) }
+    ensures maybe { D.tells → AreasMade first.now (D.told disk.old).areas (D.told disk.new).areas }
+    ensures stops { D.tells → Steps (AreasMade first.now) (D.told disk.old).stops (D.told disk.new).stops }
     ensures cause { HasCause (D.told disk.old).faults (D.told disk.new).faults result }
 {
     close(disk)?;
     let second = free_slot(disk)?;
-    store(disk, second, image, slot)
+    store(disk, second, first, image, slot)
 }
 
 /// Stores the first network, where there is none, and closes the checkpoint.
@@ -73,11 +91,14 @@ pub fn establish<D: Disk>(disk: &mut D, alloc: Global, first: &Net) -> Result<()
     ensures exists { D.tells → IsErrOf result MakeFault.Exists → IsSome (kernel_net (D.told disk.old).areas.kernel) }
     ensures met { D.tells → OnOk result (kernel_net (D.told disk.old).areas.kernel ≡ None) }
     ensures net { OnOk result (D.tells → (kernel_net (D.told disk.new).areas.kernel ≡ Some first.now) × HasArea 0 (D.told disk.new).areas.kernel (D.told disk.new)) }
+    // It stands in a slot with an empty journal, which a closed gate ends.
+    ensures slot { OnOk result (D.tells → IsMadeOf first.now (D.told disk.new).areas.kernel) }
     ensures cell { OnOk result (D.tells → (get_or (D.told disk.new).areas.cell 0 1 ≢ 1) × HasArea 1 (D.told disk.new).areas.cell (D.told disk.new)) }
+    ensures shut { OnOk result (D.tells → IsShut (D.told disk.old).areas.cell (D.told disk.new).areas.cell) }
     ensures stays { D.tells → IsSome (kernel_net (D.told disk.old).areas.kernel) → Steps Stays (D.told disk.old).stops (D.told disk.new).stops × ((D.told disk.new).areas ≡ (D.told disk.old).areas) }
     ensures same { D.tells → IsErrOf result MakeFault.OutOfMemory → Steps Stays (D.told disk.old).stops (D.told disk.new).stops × ((D.told disk.new).areas ≡ (D.told disk.old).areas) }
-    ensures maybe { D.tells → AreasMade (Some first.now) (D.told disk.old).areas (D.told disk.new).areas }
-    ensures stops { D.tells → Steps (AreasMade (Some first.now)) (D.told disk.old).stops (D.told disk.new).stops }
+    ensures maybe { D.tells → AreasMade first.now (D.told disk.old).areas (D.told disk.new).areas }
+    ensures stops { D.tells → Steps (AreasMade first.now) (D.told disk.old).stops (D.told disk.new).stops }
     ensures cause { HasFault (D.told disk.old).faults (D.told disk.new).faults MakeFault.Failed result }
 {
     // Both areas are synced first, and all memory is taken before the first write.
@@ -85,7 +106,7 @@ pub fn establish<D: Disk>(disk: &mut D, alloc: Global, first: &Net) -> Result<()
         Ok(()) => {}
         Err(Failed) => return Err(MakeFault::Failed),
     }
-    match read_net(disk, alloc) {
+    match read_synced(disk, alloc) {
         Ok(_) => return Err(MakeFault::Exists),
         Err(SlotFault::Damaged) => {}
         Err(SlotFault::Failed) => return Err(MakeFault::Failed),
@@ -99,7 +120,7 @@ pub fn establish<D: Disk>(disk: &mut D, alloc: Global, first: &Net) -> Result<()
         Ok(slot) => slot,
         Err(OutOfMemory) => return Err(MakeFault::OutOfMemory),
     };
-    match fill(disk, &image, &slot) {
+    match fill(disk, first, &image, &slot) {
         Ok(()) => Ok(()),
         Err(Failed) => Err(MakeFault::Failed),
     }

@@ -1,11 +1,12 @@
 //! Routes, rules, settings of DNS and whole lists as bytes, appended to others. Where memory is refused, a part of them
 //! may stand behind the old bytes.
-ghost use Rattle.std.specs.Prelude.{◌≡◌, ◌<◌, ◌≤◌, ◌++◌, length, true, codes, OnOk};
+ghost use Rattle.std.specs.Prelude.{◌≡◌, ◌<◌, ◌≤◌, ◌++◌, length, true, OnOk};
 ghost use Rattle.std.specs.List.{list_all};
 ghost use Rattle.net_image.specs.Form.{number, counted, byte};
 ghost use Rattle.net_image.specs.Fields.{address_form, domain};
 ghost use Rattle.net_image.specs.Links.{link, is_writable};
-ghost use Rattle.net_image.specs.Image.{route, rule, target, dns, mark, lists};
+ghost use Rattle.net_image.specs.Image.{route, rule, target, dns, settings, mark, lists, version_2};
+ghost use Rattle.net_model.specs.declared.limits.TheConstants.{MAX_SERVERS, MAX_SEARCH};
 
 use crate::stored::push_all;
 use crate::write::{
@@ -92,10 +93,21 @@ fn push_dns(of: &Dns, out: &mut Vec<u8>) -> Result<(), OutOfMemory>
     Ok(())
 }
 
-fn push_mark(out: &mut Vec<u8>) -> Result<(), OutOfMemory>
-    ensures bytes { OnOk result (out.new.items ≡ out.old.items ++ codes "NMS1") }
+// Settings of DNS that a network may have.
+#[tactic(auto, unfolding(crate::specs::Image::settings))]
+pub(crate) fn push_settings(of: &Dns, out: &mut Vec<u8>) -> Result<(), OutOfMemory>
+    requires servers { length of.now.servers ≤ MAX_SERVERS }
+    requires search { length of.now.search ≤ MAX_SEARCH }
+    ensures bytes { OnOk result (out.new.items ≡ out.old.items ++ settings.write of.now) }
+    ensures fits { OnOk result (settings.fits of.now ≡ true) }
 {
-    out.extend_from_slice(b"NMS1")?;
+    push_dns(of, out)
+}
+
+fn push_mark(out: &mut Vec<u8>) -> Result<(), OutOfMemory>
+    ensures bytes { OnOk result (out.new.items ≡ out.old.items ++ version_2) }
+{
+    out.extend_from_slice(b"NMS2")?;
     Ok(())
 }
 
@@ -131,7 +143,7 @@ fn push_rules(rules: &[Rule], out: &mut Vec<u8>) -> Result<(), OutOfMemory>
     Ok(())
 }
 
-/// Appends the lists of a network.
+/// Appends the lists of a network, behind the bytes of version 2.
 #[tactic(auto, unfolding(crate::specs::Image::lists))]
 pub(crate) fn push_lists(net: &Net, out: &mut Vec<u8>) -> Result<(), OutOfMemory>
     requires links { length net.now.links < 65536 }
@@ -140,8 +152,8 @@ pub(crate) fn push_lists(net: &Net, out: &mut Vec<u8>) -> Result<(), OutOfMemory
     requires servers { length net.now.dns.servers < 256 }
     requires search { length net.now.dns.search < 256 }
     requires writable { list_all is_writable net.now.links ≡ true }
-    ensures bytes { OnOk result (out.new.items ≡ out.old.items ++ lists.write net.now) }
-    ensures fits { OnOk result (lists.fits net.now ≡ true) }
+    ensures bytes { OnOk result (out.new.items ≡ out.old.items ++ (lists version_2).write net.now) }
+    ensures fits { OnOk result ((lists version_2).fits net.now ≡ true) }
 {
     push_mark(out)?;
     push_links_counted(net.links(), out)?;

@@ -1,23 +1,20 @@
-use Rattle.std.proofs.Common.{◌≡◌, ◌∙◌, sym, arith}
-use Rattle.net_image.proofs.Coding.{failed, more_behind, all_read}
-use Rattle.net_image.proofs.Images.{found}
+use Rattle.std.proofs.Common.{arith}
+use Rattle.net_image.proofs.Coding.{by_latest, first_net, first_damaged}
+use Rattle.net_image.proofs.Images.{found, found_in}
 use Rattle.net_image.proofs.image.decode.Goals as goal
 
-pub returns-in-Err-clause-damaged : goal.returns-in-Err-clause-damaged
-returns-in-Err-clause-damaged c = λ is. failed c.in-Err.fault c.args.bytes.now c.in-Err.ensures cc
+pub returns-in-Ok-clause-net : goal.returns-in-Ok-clause-net
+returns-in-Ok-clause-net c = by_latest c.args.bytes.now c.in-Ok.net c.in-Ok.ensures
 
-pub returns-then-not-is_empty-clause-damaged : goal.returns-then-not-is_empty-clause-damaged
-returns-then-not-is_empty-clause-damaged c = λ is. more_behind c.args.bytes.now c.in-Ok.found.1.now c.in-Ok.found.0 c.in-Ok.ensures (sym c.is_empty.ensures ∙ c.if-not-is_empty.true)
+pub returns-in-Ok-clause-image : goal.returns-in-Ok-clause-image
+returns-in-Ok-clause-image c = found c.args.bytes.now c.in-Ok.net (λ i. omega (arith, c.type_inv.bytes i)) (by_latest c.args.bytes.now c.in-Ok.net c.in-Ok.ensures)
 
-pub returns-in-Ok-Some-clause-net : goal.returns-in-Ok-Some-clause-net
-returns-in-Ok-Some-clause-net c =
-    all_read c.args.bytes.now c.in-Ok.found.1.now c.in-Ok.found.0 c.in-Ok.ensures (sym c.is_empty.ensures ∙ c.if-not-is_empty.false) ∙ sym (rw c.in-Ok-Some.field-0-is at c.in-Ok-Some.ensures)
+pub returns-in-Err-Damaged-clause-net : goal.returns-in-Err-Damaged-clause-net
+returns-in-Err-Damaged-clause-net c = first_net c.args.bytes.now (rw c.in-Err-Damaged.field-0-is at c.in-Err-Damaged.ensures) c.first.result c.first.ensures
 
-pub returns-in-Ok-Some-clause-image : goal.returns-in-Ok-Some-clause-image
-returns-in-Ok-Some-clause-image c =
-    found c.args.bytes.now c.in-Ok-Some.net (λ i. omega (arith, c.type_inv.bytes i))
-    (all_read c.args.bytes.now c.in-Ok.found.1.now c.in-Ok.found.0 c.in-Ok.ensures (sym c.is_empty.ensures ∙ c.if-not-is_empty.false) ∙ sym (rw c.in-Ok-Some.field-0-is at c.in-Ok-Some.ensures))
+pub returns-in-Err-Damaged-clause-image : goal.returns-in-Err-Damaged-clause-image
+returns-in-Err-Damaged-clause-image c =
+    found_in c.args.bytes.now (λ i. omega (arith, c.type_inv.bytes i)) c.first.result (first_net c.args.bytes.now (rw c.in-Err-Damaged.field-0-is at c.in-Err-Damaged.ensures) c.first.result c.first.ensures)
 
-pub returns-in-Ok-None-clause-damaged : goal.returns-in-Ok-None-clause-damaged
-returns-in-Ok-None-clause-damaged c = λ is.
-    all_read c.args.bytes.now c.in-Ok.found.1.now c.in-Ok.found.0 c.in-Ok.ensures (sym c.is_empty.ensures ∙ c.if-not-is_empty.false) ∙ sym (rw c.in-Ok-None.field-0-is at c.in-Ok-None.ensures)
+pub returns-in-Err-Damaged-clause-damaged : goal.returns-in-Err-Damaged-clause-damaged
+returns-in-Err-Damaged-clause-damaged c = first_damaged c.args.bytes.now (rw c.in-Err-Damaged.field-0-is at c.in-Err-Damaged.ensures) c.first.result c.first.ensures

@@ -1,7 +1,7 @@
-use Rattle.std.proofs.Common.{◌≡◌, ◌∙◌, ◌++◌, ◌∷◌, [], ap, sym, List, ℕ}
+use Rattle.std.proofs.Common.{◌∙◌, ◌++◌, ◌∷◌, [], ap, sym, List, ℕ}
 use Rattle.net_model.specs.Address.{Address}
 use Rattle.net_image.specs.Fields.{address_form}
-use Rattle.net_image.proofs.Fitting.{prefixes, behind}
+use Rattle.net_image.proofs.lemmas.Fitting.{prefixes, behind}
 use Rattle.net_image.proofs.write.push_prefix.Goals as goal
 
 pub returns-clause-bytes : goal.returns-clause-bytes

@@ -1,7 +1,6 @@
-use Rattle.std.proofs.Common.{◌≡◌, true, sym, subst, ap, ◌∙◌}
-use Rattle.net_model.specs.declared.link.Link.{Link}
+use Rattle.std.proofs.Common.{ap, ◌∙◌}
 use Rattle.net_image.specs.Links.{is_writable}
-use Rattle.net_image.proofs.Fitting.{each_passes}
+use Rattle.net_image.proofs.lemmas.Fitting.{each_passes}
 use Rattle.net_image.proofs.write_link.push_links.Goals as goal
 
 pub push_link-requires : goal.push_link-requires

@@ -1,0 +1,5 @@
+pub mod CallLaws
+pub mod Record
+pub mod Replaying
+pub mod Slots
+pub mod Versions

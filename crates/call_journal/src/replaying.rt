@@ -1,0 +1,28 @@
+//! Journals, carried out on a network.
+ghost use Rattle.std.specs.Prelude.{◌≡◌, Some, None, IfOk, OnErr, IsErrOf};
+ghost use Rattle.call_journal.specs.Replay.{replayed, LedTo};
+
+use crate::fault::ReplayFault;
+use crate::record::{is_open_at, record_at};
+use kernel_step::step;
+use net_model::Net;
+use std::alloc::Global;
+
+/// Carries out the records that begin the bytes, up to the first gate that isn't open, and answers the place of that
+/// gate, or the length of the bytes where they have none.
+pub fn replay(alloc: Global, net: &mut Net, bytes: &[u8]) -> Result<u64, ReplayFault>
+    // The network is the one that the calls of the records lead to, each of them accepted in turn.
+    ensures replayed { IfOk result (λ place. replayed net.old bytes.now ≡ Some (net.new, place)) }
+    // An open gate isn't followed by a whole record of a call that is accepted there.
+    ensures bad { IsErrOf result ReplayFault.Bad → replayed net.old bytes.now ≡ None }
+    // After a fault the network is one that a prefix of the records leads to.
+    ensures led { LedTo net.old bytes.now net.new }
+{
+    let mut at: usize = 0;
+    'records: while is_open_at(bytes, at) {
+        let (call, behind) = record_at(alloc, bytes, at)?;
+        step(net, &call)?;
+        at = behind;
+    }
+    Ok(at as u64)
+}

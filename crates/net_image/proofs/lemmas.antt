@@ -1,0 +1,12 @@
+pub mod Reading
+pub mod Exact
+pub mod Numbers
+pub mod FieldLaws
+pub mod LinkLaws
+pub mod RouteLaws
+pub mod NetLaws
+pub mod Marks
+pub mod Short
+pub mod Names
+pub mod Taking
+pub mod Fitting
