@@ -4,6 +4,7 @@ mod Attempts
 mod Gives
 mod Says
 mod Applies
+mod Exacts
+mod Tries
 mod Wanted
 mod Calms
-mod Sames

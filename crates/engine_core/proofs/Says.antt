@@ -11,7 +11,7 @@ use Rattle.checkpoint_cell.specs.Cell.{cell_of, saved_net}
 use Rattle.checkpoint_cell.specs.Settled.{standing, taken_back}
 use Rattle.checkpoint_cell.specs.declared.Phase.{Phase}
 use Rattle.engine_model.specs.Merge.{merge}
-use Rattle.engine_model.specs.Machine.{Asked, asked, apply, apply_step, apply_fault, Outcome}
+use Rattle.engine_model.specs.Machine.{Asked, asked, apply, apply_step, apply_fault, Outcome, stays}
 use Rattle.engine_model.specs.Stations.{Any, Waits}
 use Rattle.engine_model.specs.Answers.{IsBefore}
 use Rattle.engine_model.specs.Faults.{IsDamaged, Differs, ApplySays}
@@ -96,13 +96,13 @@ why_rose tells doc start host missed.OutOfMemory is r rose = subst (λ (b : ℕ)
 
 module _ (tells : Type 0) (doc : Doc) (opts : ApplyOpts) (made : ℕ) (start : Start) (old new : HostView) (faults : start.faults ≤ old.faults) (moment : start.moment ≤ old.stops.moment) where
   -- it was
-  pub taken_says : (why : Missed) → Why tells doc start old why → NoneRefused old.kernel new.kernel → old.faults ≤ new.faults → Steps Any old.stops new.stops
+  pub taken_says : (why : Missed) → Why tells doc start old why → ((found : NetData) → why ≡ missed.Differs found → opts.no_verify ≡ false) → NoneRefused old.kernel new.kernel → old.faults ≤ new.faults → Steps Any old.stops new.stops
       → (tells → cell_of new.state.cell ≡ None) → (tells → saved_net new.state.cell ≡ saved_net old.state.cell) → Said tells (asked doc opts made) start new (Err (taken_back_as why))
-  taken_says missed.Failed is quiet later steps none saved = (rose_before start.faults old.faults new.faults is.1 later, none)
-  taken_says (missed.Refused k n) is quiet later steps none saved = refused_before k n start.kernel old.kernel new.kernel is quiet
-  taken_says missed.Damaged is quiet later steps none saved = λ told. since_keeps Any start.moment 0 old new moment steps (is.1 told)
-  taken_says (missed.Differs found) is quiet later steps none saved = (refl, λ told. let o = is.1 told in record { saved = o.saved; is_saved = saved told ∙ o.is_saved; other = o.other })
-  taken_says missed.OutOfMemory is quiet later steps none saved = tt
+  taken_says missed.Failed is compared quiet later steps none saved = (rose_before start.faults old.faults new.faults is.1 later, none)
+  taken_says (missed.Refused k n) is compared quiet later steps none saved = (refused_before k n start.kernel old.kernel new.kernel is quiet, none, λ same. cc)
+  taken_says missed.Damaged is compared quiet later steps none saved = λ told. since_keeps Any start.moment 0 old new moment steps (is.1 told)
+  taken_says (missed.Differs found) is compared quiet later steps none saved = (refl, compared found refl, none, λ told. let o = is.1 told in record { saved = o.saved; is_saved = saved told ∙ o.is_saved; other = o.other })
+  taken_says missed.OutOfMemory is compared quiet later steps none saved = tt
 
   module _ (lawful : IsLawful old.stops) (reads : tells → old.stops.may_leave old.state) where
     pending_says : (fault : BackFault) → ((r : ℕ) → Rose old.kernel.refusals r → Rose start.kernel.refusals r) → (fault ≡ ba.NoCheckpoint → ⊥) → ((left : Left) → fault ≡ ba.HostFault left → Rose old.faults new.faults)
@@ -113,7 +113,7 @@ module _ (tells : Type 0) (doc : Doc) (opts : ApplyOpts) (made : ℕ) (start : S
     pending_says (ba.HostFault left) refusals set rose refused before damaged differs = (rose_after start.faults old.faults new.faults faults (rose left refl), tt)
     pending_says (ba.KernelRefused k n left) refusals set rose refused before damaged differs =
         let was = refused k n left refl in
-        record { rose = refusals new.kernel.refusals was.rose; last = was.last; counted = was.counted }
+        (record { rose = refusals new.kernel.refusals was.rose; last = was.last; counted = was.counted }, tt, λ is. cc)
     pending_says (ba.Damaged area) refusals set rose refused before damaged differs = λ told.
         since_keeps Stays start.moment area old new moment (before tt) (since start.moment area old lawful (reads told) moment (damaged told area refl))
     pending_says (ba.HardwareDiffers names) refusals set rose refused before damaged differs = λ told. differs told names refl
@@ -171,17 +171,20 @@ begun_stopped missed.OutOfMemory fault is = cc
 
 -- ---- where the change is made
 
-pub finished_says : (tells : Type 0) (doc : Doc) (opts : ApplyOpts) (made : ℕ) (start : Start) (from to : NetData) (mid new : HostView) (result : Result Applied ApplyFault) → merge from doc ≡ Ok to → start.faults ≤ mid.faults
+pub finished_says : (tells : Type 0) (doc : Doc) (opts : ApplyOpts) (made : ℕ) (start : Start) (from to : NetData) (mid new : HostView) (result : Result Applied ApplyFault) → merge from doc ≡ Ok to → start.faults ≤ mid.faults → NoneRefused start.kernel new.kernel
     → (tells → opts.no_verify ≡ false → mid.fresh ≡ Some to) → (tells → new.fresh ≡ mid.fresh) → (tells → OnOk result (saved_net new.state.cell ≡ Some from))
     → IfErr result (λ fault. fault ≡ ap_.InDoubt) → OnErr result (Rose mid.faults new.faults) → Said tells (asked doc opts made) start new result
-finished_says tells doc opts made start from to mid new (Ok applied) merges le verified fresh saved doubt rose = λ told wanted. record {
-  saved = from;
-  fresh = to;
-  is_saved = saved told;
-  is_fresh = fresh told ∙ verified told wanted;
-  merges = merges;
-}
-finished_says tells doc opts made start from to mid new (Err fault) merges le verified fresh saved doubt rose =
+finished_says tells doc opts made start from to mid new (Ok applied) merges le quiet verified fresh saved doubt rose = (
+  quiet,
+  λ told wanted. record {
+    saved = from;
+    fresh = to;
+    is_saved = saved told;
+    is_fresh = fresh told ∙ verified told wanted;
+    merges = merges;
+  },
+)
+finished_says tells doc opts made start from to mid new (Err fault) merges le quiet verified fresh saved doubt rose =
     subst (λ (f : ApplyFault). Said tells (asked doc opts made) start new (Err f)) (sym doubt) (rose_after start.faults mid.faults new.faults le rose)
 
 pub finished_begun : (result : Result Applied ApplyFault) → IfErr result (λ fault. fault ≡ ap_.InDoubt) → result ≡ Err (ap_.HostFault NotBegun) → ⊥
@@ -207,8 +210,10 @@ module _ (tells : Type 0) (a : Asked) (old new : HostView) where
   said_says (Err (ap_.HostFault RolledBack)) said = said
   said_says (Err (ap_.HostFault Pending)) said = said
   said_says (Err ap_.InDoubt) said = said
-  said_says (Err (ap_.KernelRefused k n left)) said = said
-  said_says (Err (ap_.NotVerified found left)) said = (said.0, λ told. let o = said.1 told in (o.saved, o.is_saved, o.other))
+  said_says (Err (ap_.KernelRefused k n NotBegun)) said = said
+  said_says (Err (ap_.KernelRefused k n RolledBack)) said = said
+  said_says (Err (ap_.KernelRefused k n Pending)) said = said
+  said_says (Err (ap_.NotVerified found left)) said = (said.0, said.1, said.2, λ told. let o = said.3 told in (o.saved, o.is_saved, o.other))
   said_says (Err (ap_.Damaged area)) said = λ told. let had = said told in record { pair = had.pair; left = had.left; damaged = had.damaged }
   said_says (Err (ap_.HardwareDiffers names)) said = said
   said_says (Err ap_.OutOfMemory) said = said
@@ -217,29 +222,34 @@ module _ (tells : Type 0) (a : Asked) (old new : HostView) where
   Made = Outcome Applied ApplyFault
 
   -- a change waits, and its time isn't up
-  pub waits_says : (until : ℕ) → (tells → (waits : Waits a.now (cell_of old.state.cell)) × (waits.checkpoint.deadline ≡ until)) → ApplySays tells a old new (Err (ap_.Pending until))
-  waits_says until waiting = λ told.
+  pub waits_says : (until : ℕ) → (tells → (waits : Waits a.now (cell_of old.state.cell)) × (waits.checkpoint.deadline ≡ until)) → (tells → new.state ≡ old.state) → ApplySays tells a old new (Err (ap_.Pending until))
+  waits_says until waiting same = λ told.
       let w = waiting told in
       let c = w.0.checkpoint in
       let taken : taken_back a.now c.phase c.made c.deadline ≡ false = ap (λ (p : Phase). taken_back a.now p c.made c.deadline) w.0.waiting ∙ w.0.in_time in
-      let is : (apply a (standing old.state)).answer ≡ Err (ap_.Pending c.deadline) = ap (λ (o : Made). o.answer) (ap (apply_step a) (recover_waits a.now old.state c w.0.is taken)) in
-      subst (λ (d : ℕ). (apply a (standing old.state)).answer ≡ Err (ap_.Pending d)) w.1 is
+      let is : apply a (standing old.state) ≡ stays (standing old.state) (Err (ap_.Pending c.deadline)) = ap (apply_step a) (recover_waits a.now old.state c w.0.is taken) in
+      record {
+        answer = ap (λ (o : Made). o.answer) is ∙ (λ i. Err (ap_.Pending (w.1 i)));
+        after = ap standing (same told) ∙ sym (ap (λ (o : Made). o.after) is);
+      }
 
   -- the settling failed
   pub unsettled_says : IsLawful old.stops → (tells → old.stops.may_leave old.state) → (fault : BackFault) → (fault ≡ ba.NoCheckpoint → ⊥) → ((left : Left) → fault ≡ ba.HostFault left → Rose old.faults new.faults)
-      → ((left : Left) → fault ≡ ba.HostFault left → left ≢ RolledBack) → (IsBefore fault → tells → new.state ≡ old.state) → ((k n : ℕ) (left : Left) → fault ≡ ba.KernelRefused k n left → WasRefused k n old.kernel new.kernel)
+      → ((left : Left) → fault ≡ ba.HostFault left → left ≢ RolledBack) → (IsBefore fault → tells → new.state ≡ old.state) → ((k n : ℕ) (left : Left) → fault ≡ ba.KernelRefused k n left → WasRefused k n old.kernel new.kernel) → ((k n : ℕ) (left : Left) → fault ≡ ba.KernelRefused k n left → left ≡ Pending)
       → (IsBefore fault → Steps Stays old.stops new.stops) → (tells → (area : ℕ) → fault ≡ ba.Damaged area → IsDamaged area old.state) → (tells → (names : List (List ℕ)) → fault ≡ ba.HardwareDiffers names → Differs names new)
       → ApplySays tells a old new (Err (apply_fault fault))
-  unsettled_says lawful reads ba.NoCheckpoint set rose side same refused before damaged differs = absurd (set refl)
-  unsettled_says lawful reads (ba.HostFault NotBegun) set rose side same refused before damaged differs = (rose NotBegun refl, λ told. same tt told)
-  unsettled_says lawful reads (ba.HostFault RolledBack) set rose side same refused before damaged differs = absurd (side RolledBack refl refl)
-  unsettled_says lawful reads (ba.HostFault Pending) set rose side same refused before damaged differs = (rose Pending refl, tt)
-  unsettled_says lawful reads (ba.KernelRefused k n left) set rose side same refused before damaged differs = refused k n left refl
-  unsettled_says lawful reads (ba.Damaged area) set rose side same refused before damaged differs = λ told.
+  unsettled_says lawful reads ba.NoCheckpoint set rose side same refused given_up before damaged differs = absurd (set refl)
+  unsettled_says lawful reads (ba.HostFault NotBegun) set rose side same refused given_up before damaged differs = (rose NotBegun refl, λ told. same tt told)
+  unsettled_says lawful reads (ba.HostFault RolledBack) set rose side same refused given_up before damaged differs = absurd (side RolledBack refl refl)
+  unsettled_says lawful reads (ba.HostFault Pending) set rose side same refused given_up before damaged differs = (rose Pending refl, tt)
+  unsettled_says lawful reads (ba.KernelRefused k n NotBegun) set rose side same refused given_up before damaged differs = let e : NotBegun ≡ Pending = given_up k n NotBegun refl in absurd (cc)
+  unsettled_says lawful reads (ba.KernelRefused k n RolledBack) set rose side same refused given_up before damaged differs = let e : RolledBack ≡ Pending = given_up k n RolledBack refl in absurd (cc)
+  unsettled_says lawful reads (ba.KernelRefused k n Pending) set rose side same refused given_up before damaged differs = (refused k n Pending refl, tt, λ is. cc)
+  unsettled_says lawful reads (ba.Damaged area) set rose side same refused given_up before damaged differs = λ told.
       let had = since_keeps Stays old.stops.moment area old new (omega arith) (before tt) (since old.stops.moment area old lawful (reads told) (omega arith) (damaged told area refl)) in
       record { pair = had.pair; left = had.left; damaged = had.damaged }
-  unsettled_says lawful reads (ba.HardwareDiffers names) set rose side same refused before damaged differs = λ told. differs told names refl
-  unsettled_says lawful reads ba.OutOfMemory set rose side same refused before damaged differs = tt
+  unsettled_says lawful reads (ba.HardwareDiffers names) set rose side same refused given_up before damaged differs = λ told. differs told names refl
+  unsettled_says lawful reads ba.OutOfMemory set rose side same refused given_up before damaged differs = tt
 
   -- what it says of a fault
   pub said_left : (result : Result Applied ApplyFault) (left : Left) → result ≡ Err (ap_.HostFault left) → ApplySays tells a old new result → ApplySays tells a old new (Err (ap_.HostFault left))

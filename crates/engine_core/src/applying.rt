@@ -1,5 +1,5 @@
 //! The whole change: what is wanted, the attempt, and what follows where it fails.
-ghost use Rattle.std.specs.Prelude.{◌≡◌, ◌≢◌, ◌⊎◌, ◌≤◌, ◌+◌, ◌^◌, ◌-◌, ℕ, Bool, if◌then◌else◌, min, true, false, None, Some, Ok, Err, OnOk, OnErr, IfOk, IfErr, IsErrOf, IsSome};
+ghost use Rattle.std.specs.Prelude.{◌≡◌, ◌≢◌, ◌⊎◌, ◌≤◌, ◌+◌, ◌^◌, ◌-◌, ℕ, Bool, Option, if◌then◌else◌, min, true, false, None, Some, Ok, Err, OnOk, OnErr, IfOk, IfErr, IsErrOf, IsSome};
 ghost use Rattle.net_model.specs.Hardware.{hardware};
 ghost use Rattle.net_model.specs.NetData.{NetData};
 ghost use Rattle.document_model.specs.declared.Doc.{Doc};
@@ -14,16 +14,16 @@ ghost use Rattle.checkpoint_cell.specs.Cell.{Checkpoint, applying, cell_of, save
 ghost use Rattle.checkpoint_cell.specs.Steps.{Holds};
 ghost use Rattle.checkpoint_cell.specs.Settled.{standing, Standing, restored_to};
 ghost use Rattle.engine_model.specs.Merge.{merge};
-ghost use Rattle.engine_model.specs.Machine.{asked, apply_fault};
+ghost use Rattle.engine_model.specs.Machine.{asked, apply, change, apply_fault, recover};
 ghost use Rattle.engine_model.specs.Undone.{stand, undone};
 ghost use Rattle.engine_model.specs.Sound.{Sound};
 ghost use Rattle.engine_model.specs.Stations.{Only, Kept, Ends, AllNear, IsSettled, Waits};
 ghost use Rattle.engine_model.specs.Answers.{IsUndone, IsTaken};
-ghost use Rattle.engine_model.specs.Faults.{ApplySays};
+ghost use Rattle.engine_model.specs.Faults.{ApplySays, ApplyExact, Tries, Dumps, Backs, HasTaken};
 ghost use Rattle.engine_core.specs.Attempts.{sealed, done, IsOnWay, IsEither, IsFault};
 ghost use Rattle.engine_core.specs.Saying.{Start, Follows, Why, Said, taken_back_as, pending_as, damaged_as, stopped_as};
 ghost use Rattle.engine_core.specs.Calm.{CalmSince};
-ghost use Rattle.engine_core.specs.Applying.{GaveUp, Exit, Asked, IsStation, IsApplied, ExitApply, asked_of};
+ghost use Rattle.engine_core.specs.Applying.{GaveUp, Hurt, Exit, Asked, IsStation, IsApplied, ExitApply, asked_of};
 
 use crate::attempting::attempt;
 use crate::missed::Missed;
@@ -97,9 +97,17 @@ fn give_up<H: Host>(host: &mut H, alloc: Global, missed: Missed) -> ApplyFault
         → IsFault missed → GaveUp from (H.told host.old).faults result (H.told host.new) }
     ensures memory { missed ≡ Missed.OutOfMemory → result ≡ ApplyFault.OutOfMemory }
     ensures begun { result ≡ ApplyFault.HostFault Left.NotBegun → ⊥ }
+    ensures hurt { H.honest → (start : ℕ) (to : NetData) → IsFault missed → (missed ≡ Missed.Failed → Rose start (H.told host.old).faults) → Hurt (Rose start (H.told host.new).faults) to (H.told host.new) result }
     // On every host.
     ensures says { (doc : Doc) (opts : ApplyOpts) (made : ℕ) (start : Start) → start.faults ≤ (H.told host.old).faults → start.moment ≤ (H.told host.old).stops.moment → Why H.tells doc start (H.told host.old) missed
+        → ((found : NetData) → missed ≡ Missed.Differs found → opts.no_verify ≡ false)
         → Said H.tells (asked doc opts made) start (H.told host.new) (Err result) }
+    // Where it says that a change may stand half way, it tried to restore and failed.
+    ensures tries { (doc : Doc) (opts : ApplyOpts) (start : Start) → Why H.tells doc start (H.told host.old) missed → ((found : NetData) → missed ≡ Missed.Differs found → opts.no_verify ≡ false)
+        → Tries (opts.no_verify ≡ false) start.faults start.kernel.refusals (H.told host.new) (Err result) }
+    // On an honest host, sound or not, where it says that all is taken back.
+    ensures backs { H.honest → (before : Option NetData) → (cell_of (H.told host.old).state.cell ≡ None → (H.told host.old).state.net ≡ before) → Backs before (H.told host.new) (Err result) }
+    ensures moment { (H.told host.old).stops.moment ≤ (H.told host.new).stops.moment }
     ensures later { (H.told host.old).faults ≤ (H.told host.new).faults }
 {
     match go_back(host, alloc) {
@@ -122,6 +130,7 @@ fn finish<H: Host>(host: &mut H, no_commit: bool, deadline: u64) -> Result<Appli
     ensures doubt { IfErr result (λ fault. fault ≡ ApplyFault.InDoubt) }
     ensures fault { OnErr result (Rose (H.told host.old).faults (H.told host.new).faults) }
     ensures value { IfOk result (λ applied. applied.deadline ≡ (if no_commit then Some deadline else None)) }
+    ensures moment { (H.told host.old).stops.moment ≤ (H.told host.new).stops.moment }
     ensures later { (H.told host.old).faults ≤ (H.told host.new).faults }
 {
     if no_commit {
@@ -153,13 +162,21 @@ fn carry_out<H: Host>(
     ensures exit { H.honest → Sound (H.told host.old) → Ends (restored_to from.now) (H.told host.old) → (H.told host.old).state.net ≡ Some from.now → Runs calls.now from.now to.now
         → (doc : Doc) → merge from.now doc ≡ Ok to.now
         → Exit (record { doc = doc; no_commit = opts.now.no_commit; made = made; deadline = deadline }) (restored_to from.now) (H.told host.old).faults result (H.told host.new) }
+    // On an honest host, sound or not.
+    ensures ends { H.honest → (H.told host.old).state.net ≡ Some from.now → Runs calls.now from.now to.now → OnOk result (Ends (done opts.now.no_commit made deadline from.now to.now) (H.told host.new)) }
+    ensures hurt { H.honest → (H.told host.old).state.net ≡ Some from.now → Runs calls.now from.now to.now → IfErr result (λ fault. Hurt (Rose (H.told host.old).faults (H.told host.new).faults) to.now (H.told host.new) fault) }
     ensures calm { H.honest → (t : ℕ) → t ≤ (H.told host.old).stops.moment → (H.told host.old).state.net ≡ Some from.now → IsPlan from.now to.now calls.now → CalmSince from.now to.now t (H.told host.old)
         → OnOk result (CalmSince from.now to.now t (H.told host.new)) }
     ensures value { IfOk result (λ applied. applied.deadline ≡ (if opts.now.no_commit then Some deadline else None)) }
     // On every host.
     ensures says { (doc : Doc) (start : Start) → Follows start (H.told host.old) → (H.told host.old).kernel.calls ≡ 0 → merge from.now doc ≡ Ok to.now
         → Said H.tells (asked doc opts.now made) start (H.told host.new) result }
+    ensures tries { (doc : Doc) (start : Start) → Follows start (H.told host.old) → (H.told host.old).kernel.calls ≡ 0 → merge from.now doc ≡ Ok to.now
+        → Tries (opts.now.no_verify ≡ false) start.faults start.kernel.refusals (H.told host.new) result }
+    ensures dumps { (H.tells → (H.told host.old).fresh ≡ Some from.now) → Dumps H.tells opts.now.no_verify (H.told host.new) result }
+    ensures backs { H.honest → Backs (H.told host.old).state.net (H.told host.new) result }
     ensures begun { IsErrOf result (ApplyFault.HostFault Left.NotBegun) → ⊥ }
+    ensures moment { (H.told host.old).stops.moment ≤ (H.told host.new).stops.moment }
     ensures later { (H.told host.old).faults ≤ (H.told host.new).faults }
 {
     match attempt(host, alloc, from, to, calls, opts, made, deadline) {
@@ -196,6 +213,8 @@ fn change<H: Host>(
         → Kept (IsStation (asked_of doc.now opts.now now) (standing (H.told host.old).state)) (H.told host.old) (H.told host.new) }
     ensures exit { H.honest → Sound (H.told host.old) → Ends (standing (H.told host.old).state) (H.told host.old)
         → Exit (asked_of doc.now opts.now now) (standing (H.told host.old).state) (H.told host.old).faults result (H.told host.new) }
+    // On an honest host, sound or not.
+    ensures exact { H.honest → ApplyExact (Rose (H.told host.old).faults (H.told host.new).faults) (change (asked doc.now opts.now now) (standing (H.told host.old).state) (H.told host.old).state.net) (H.told host.new) result }
     ensures unbegun { IsErrOf result (ApplyFault.HostFault Left.NotBegun) → (left ≡ Left.NotBegun) × Steps Stays (H.told host.old).stops (H.told host.new).stops }
     ensures calm { H.honest → (t : ℕ) → t ≤ (H.told host.old).stops.moment → (from to : NetData) → (H.told host.old).state.net ≡ Some from → merge from doc.now ≡ Ok to → CalmSince from to t (H.told host.old)
         → OnOk result (CalmSince from to t (H.told host.new)) }
@@ -203,6 +222,10 @@ fn change<H: Host>(
     // On every host.
     ensures says { (start : Start) → Follows start (H.told host.old) → (left ≡ Left.NotBegun → H.tells → (H.told host.old).state ≡ start.state)
         → Said H.tells (asked doc.now opts.now now) start (H.told host.new) result }
+    ensures tries { (start : Start) → Follows start (H.told host.old) → Tries (opts.now.no_verify ≡ false) start.faults start.kernel.refusals (H.told host.new) result }
+    ensures dumps { Dumps H.tells opts.now.no_verify (H.told host.new) result }
+    ensures backs { H.honest → Backs (H.told host.old).state.net (H.told host.new) result }
+    ensures moment { (H.told host.old).stops.moment ≤ (H.told host.new).stops.moment }
     ensures later { (H.told host.old).faults ≤ (H.told host.new).faults }
 {
     let from = match host.dump(alloc) {
@@ -249,12 +272,23 @@ pub fn settle_and_change<H: Host>(
     requires { is_document doc.now ≡ true }
     ensures kept { H.honest → Sound (H.told host.old) → Kept (IsApplied (asked_of doc.now opts.now now) (H.told host.old).state) (H.told host.old) (H.told host.new) }
     ensures exit { H.honest → Sound (H.told host.old) → ExitApply (asked_of doc.now opts.now now) (H.told host.old) result (H.told host.new) }
+    // On an honest host, sound or not.
+    ensures exact { H.honest → ApplyExact (Rose (H.told host.old).faults (H.told host.new).faults)
+        (apply (asked doc.now opts.now now) (standing (H.told host.old).state)) (H.told host.new) result }
     ensures unbegun { IsErrOf result (ApplyFault.HostFault Left.NotBegun) → Steps Stays (H.told host.old).stops (H.told host.new).stops }
     ensures calm { H.honest → Sound (H.told host.old) → (from to : NetData) → standing (H.told host.old).state ≡ restored_to from → merge from doc.now ≡ Ok to
         → OnOk result (CalmSince from to (H.told host.old).stops.moment (H.told host.new)) }
     ensures value { IfOk result (λ applied. applied.deadline ≡ (if opts.now.no_commit then Some (asked_of doc.now opts.now now).deadline else None)) }
     // On every host.
     ensures says { ApplySays H.tells (asked doc.now opts.now now) (H.told host.old) (H.told host.new) result }
+    // That a change may stand half way is told only where a restoring was tried.
+    ensures tries { Tries ((H.tells → HasTaken now (standing (H.told host.old).state).cell) ⊎ (opts.now.no_verify ≡ false))
+        (H.told host.old).faults (H.told host.old).kernel.refusals (H.told host.new) result }
+    // What the option to skip verifying skips, by what the host counts and what its last dump gave.
+    ensures dumps { Dumps H.tells opts.now.no_verify (H.told host.new) result }
+    // On an honest host, sound or not, where it says that all is taken back, the network is the one from before.
+    ensures backs { H.honest → Backs (recover now (standing (H.told host.old).state)).after.net (H.told host.new) result }
+    ensures moment { (H.told host.old).stops.moment ≤ (H.told host.new).stops.moment }
     ensures later { (H.told host.old).faults ≤ (H.told host.new).faults }
 {
     match take_back(host, alloc, now) {

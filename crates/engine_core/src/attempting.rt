@@ -7,7 +7,7 @@ ghost use Rattle.host_core.specs.Faults.{Rose, HasCause};
 ghost use Rattle.host_core.specs.Stops.{Steps, Stays};
 ghost use Rattle.host_core.specs.HostView.{State, SameKernel, SameNet, NoneRefused};
 ghost use Rattle.plan_model.specs.Plans.{IsPlan};
-ghost use Rattle.checkpoint_cell.specs.Cell.{Checkpoint, applying, saved_net};
+ghost use Rattle.checkpoint_cell.specs.Cell.{Checkpoint, applying, cell_of, saved_net};
 ghost use Rattle.checkpoint_cell.specs.Steps.{Holds};
 ghost use Rattle.checkpoint_cell.specs.Settled.{restored_to};
 ghost use Rattle.engine_model.specs.Merge.{merge};
@@ -19,12 +19,12 @@ ghost use Rattle.engine_core.specs.Saying.{Start, Follows, Why};
 ghost use Rattle.engine_core.specs.Calm.{CalmSince};
 
 use crate::missed::Missed;
-use crate::same::same_net;
 use checkpoint_cell::{PutFault, mark_waiting, put};
 use engine_model::ApplyOpts;
 use engine_restore::{RunFault, run};
 use host_core::{DumpFault, Failed, Host};
 use net_model::{Call, Net};
+use plan_core::same_net;
 use std::alloc::Global;
 
 // Stores the checkpoint, and makes the calls.
@@ -46,9 +46,13 @@ fn begin<H: Host>(
     ensures calm { H.honest → (to : NetData) (t : ℕ) → t ≤ (H.told host.old).stops.moment → (H.told host.old).state.net ≡ Some from.now → IsPlan from.now to calls.now → CalmSince from.now to t (H.told host.old)
         → OnOk result (CalmSince from.now to t (H.told host.new)) }
     ensures fault { IsErrOf result Missed.Failed → Rose (H.told host.old).faults (H.told host.new).faults }
+    // No dump is made. Where no checkpoint stands behind it, no call was made.
+    ensures fresh { H.tells → OnOk result (((H.told host.new).fresh ≡ (H.told host.old).fresh) ⊎ ((H.told host.new).fresh ≡ None)) }
+    ensures unset { H.tells → OnErr result (cell_of (H.told host.new).state.cell ≡ None → (H.told host.new).state.net ≡ (H.told host.old).state.net) }
     // On every host.
     ensures says { (doc : Doc) (start : Start) → Follows start (H.told host.old) → (H.told host.old).kernel.calls ≡ 0 → IfErr result (λ missed. Why H.tells doc start (H.told host.new) missed) }
     ensures quiet { OnOk result (NoneRefused (H.told host.old).kernel (H.told host.new).kernel) }
+    ensures compared { (found : NetData) → IsErrOf result (Missed.Differs found) → ⊥ }
     ensures moment { (H.told host.old).stops.moment ≤ (H.told host.new).stops.moment }
     ensures later { (H.told host.old).faults ≤ (H.told host.new).faults }
 {
@@ -74,8 +78,11 @@ fn verify<H: Host>(host: &mut H, alloc: Global, to: &Net, no_verify: bool) -> Re
     ensures stops { Steps Stays (H.told host.old).stops (H.told host.new).stops }
     ensures fault { IsErrOf result Missed.Failed → Rose (H.told host.old).faults (H.told host.new).faults }
     ensures quiet { NoneRefused (H.told host.old).kernel (H.told host.new).kernel }
+    ensures compared { (found : NetData) → IsErrOf result (Missed.Differs found) → no_verify ≡ false }
     ensures says { (doc : Doc) (start : Start) (from : NetData) → Follows start (H.told host.old) → merge from doc ≡ Ok to.now → (H.tells → saved_net (H.told host.old).state.cell ≡ Some from)
         → IfErr result (λ missed. Why H.tells doc start (H.told host.new) missed) }
+    ensures dumped { OnOk result (no_verify ≡ false → (H.told host.new).kernel.calls ≡ 0) }
+    ensures fresh { H.tells → no_verify ≡ true → (H.told host.new).fresh ≡ (H.told host.old).fresh }
     ensures later { (H.told host.old).faults ≤ (H.told host.new).faults }
 {
     if no_verify {
@@ -106,6 +113,8 @@ fn mark<H: Host>(host: &mut H, no_commit: bool) -> Result<(), Failed>
     ensures kernel { SameKernel H.tells (H.told host.old) (H.told host.new) }
     ensures nets { Steps SameNet (H.told host.old).stops (H.told host.new).stops }
     ensures moment { (H.told host.old).stops.moment ≤ (H.told host.new).stops.moment }
+    // Also where it fails, the checkpoint stands.
+    ensures stands { H.tells → cell_of (H.told host.new).state.cell ≢ None }
     ensures cause { HasCause (H.told host.old).faults (H.told host.new).faults result }
 {
     if no_commit {
@@ -136,6 +145,12 @@ fn seal<H: Host>(
     // On every host.
     ensures says { (doc : Doc) (start : Start) (from : NetData) → Follows start (H.told host.old) → merge from doc ≡ Ok to.now → (H.tells → saved_net (H.told host.old).state.cell ≡ Some from)
         → IfErr result (λ missed. Why H.tells doc start (H.told host.new) missed) }
+    ensures quiet { OnOk result (NoneRefused (H.told host.old).kernel (H.told host.new).kernel) }
+    // A network is compared only where that is wanted.
+    ensures compared { (found : NetData) → IsErrOf result (Missed.Differs found) → no_verify ≡ false }
+    ensures dumped { OnOk result (no_verify ≡ false → (H.told host.new).kernel.calls ≡ 0) }
+    ensures fresh { H.tells → no_verify ≡ true → (H.told host.new).fresh ≡ (H.told host.old).fresh }
+    ensures stands { H.tells → cell_of (H.told host.new).state.cell ≢ None }
     ensures moment { (H.told host.old).stops.moment ≤ (H.told host.new).stops.moment }
     ensures later { (H.told host.old).faults ≤ (H.told host.new).faults }
 {
@@ -175,6 +190,13 @@ pub fn attempt<H: Host>(
     ensures fault { IsErrOf result Missed.Failed → Rose (H.told host.old).faults (H.told host.new).faults }
     // On every host.
     ensures says { (doc : Doc) (start : Start) → Follows start (H.told host.old) → (H.told host.old).kernel.calls ≡ 0 → merge from.now doc ≡ Ok to.now → IfErr result (λ missed. Why H.tells doc start (H.told host.new) missed) }
+    ensures quiet { OnOk result (NoneRefused (H.told host.old).kernel (H.told host.new).kernel) }
+    ensures compared { (found : NetData) → IsErrOf result (Missed.Differs found) → opts.now.no_verify ≡ false }
+    // A change that is verified was dumped after its last call; in one that isn't no dump is made.
+    ensures dumped { OnOk result (opts.now.no_verify ≡ false → (H.told host.new).kernel.calls ≡ 0) }
+    ensures fresh { H.tells → OnOk result (opts.now.no_verify ≡ true → ((H.told host.new).fresh ≡ (H.told host.old).fresh) ⊎ ((H.told host.new).fresh ≡ None)) }
+    // Where no checkpoint stands behind it, no call was made.
+    ensures unset { H.tells → OnErr result (cell_of (H.told host.new).state.cell ≡ None → (H.told host.new).state.net ≡ (H.told host.old).state.net) }
     ensures moment { (H.told host.old).stops.moment ≤ (H.told host.new).stops.moment }
     ensures later { (H.told host.old).faults ≤ (H.told host.new).faults }
 {

@@ -1,22 +1,23 @@
 //! The calls that begin a change, and end one that waits.
-ghost use Rattle.std.specs.Prelude.{◌≡◌, ◌≢◌, ◌≤◌, true, Some, Ok, Err};
+ghost use Rattle.std.specs.Prelude.{◌≡◌, ◌≢◌, ◌⊎◌, ◌≤◌, true, false, Some, Ok, Err, IsErrOf};
 ghost use Rattle.net_model.specs.NetData.{NetData};
 ghost use Rattle.document_model.specs.Entries.{is_document};
 ghost use Rattle.host_core.specs.Faults.{Rose, RoseTwice};
 ghost use Rattle.host_core.specs.HostView.{State, SameKernel};
+ghost use Rattle.host_core.specs.Stops.{Steps, Stays};
 ghost use Rattle.checkpoint_cell.specs.Settled.{standing, restored_to};
 ghost use Rattle.plan_model.specs.Undisturbed.{IsUndisturbed};
 ghost use Rattle.engine_model.specs.Merge.{merge};
-ghost use Rattle.engine_model.specs.Machine.{asked, apply, commit};
+ghost use Rattle.engine_model.specs.Machine.{asked, apply, commit, recover};
 ghost use Rattle.engine_model.specs.Sound.{Sound};
 ghost use Rattle.engine_model.specs.Stations.{Only, Settled, Either, Kept, at, entry_of, left_by};
 ghost use Rattle.engine_model.specs.Exit.{ApplyExit, CommitExit};
-ghost use Rattle.engine_model.specs.Faults.{ApplyAnswers, CommitAnswers, ApplySays};
+ghost use Rattle.engine_model.specs.Faults.{ApplyAnswers, ApplyExact, CommitAnswers, ApplySays, Tries, Dumps, Backs, HasTaken};
 
 use crate::applying::settle_and_change;
 use crate::committing::end_waiting;
 use document_model::Doc;
-use engine_model::{Applied, ApplyFault, ApplyOpts, CommitFault};
+use engine_model::{Applied, ApplyFault, ApplyOpts, CommitFault, Left};
 use host_core::Host;
 use std::alloc::Global;
 
@@ -33,6 +34,11 @@ pub fn apply<H: Host>(
     // What is answered: on every host, and on an honest host that is sound.
     ensures says { ApplySays H.tells (asked doc.now opts.now now) (H.told host.old) (H.told host.new) result }
     ensures answer { H.honest → Sound (H.told host.old) → ApplyAnswers (asked doc.now opts.now now) (H.told host.old) (H.told host.new) result }
+    // On an honest host that needn't be sound: but for faults and memory the answer is the machine's, and so is what the host reads as.
+    ensures exact { H.honest → ApplyExact (Rose (H.told host.old).faults (H.told host.new).faults)
+        (apply (asked doc.now opts.now now) (standing (H.told host.old).state)) (H.told host.new) result }
+    // On every host no more can be left than before, where it says that nothing was begun.
+    ensures unbegun { IsErrOf result (ApplyFault.HostFault Left.NotBegun) → Steps Stays (H.told host.old).stops (H.told host.new).stops }
     // What stops leave at the exit, what the host reads as then, and what stops leave at each moment.
     ensures exit { H.honest → Sound (H.told host.old) → ApplyExit (asked doc.now opts.now now) (entry_of (H.told host.old)) (left_by (H.told host.new))
         (Rose (H.told host.old).faults (H.told host.new).faults) (RoseTwice (H.told host.old).faults (H.told host.new).faults) result }
@@ -45,6 +51,14 @@ pub fn apply<H: Host>(
     ensures undisturbed { H.honest → Sound (H.told host.old) → (from to : NetData) → standing (H.told host.old).state ≡ restored_to from → merge from doc.now ≡ Ok to
         → (Rose (H.told host.old).faults (H.told host.new).faults → ⊥) → result ≢ Err ApplyFault.OutOfMemory
         → (s : State) → (H.told host.new).stops.left_since (H.told host.old).stops.moment s → (net : NetData) × (s.net ≡ Some net) × IsUndisturbed from to net }
+    // That a change may stand half way is told only where a restoring was tried.
+    ensures tries { Tries ((H.tells → HasTaken now (standing (H.told host.old).state).cell) ⊎ (opts.now.no_verify ≡ false))
+        (H.told host.old).faults (H.told host.old).kernel.refusals (H.told host.new) result }
+    // What the option to skip verifying skips, by what the host counts and what its last dump gave.
+    ensures dumps { Dumps H.tells opts.now.no_verify (H.told host.new) result }
+    // On an honest host, sound or not, where it says that all is taken back, the network is the one from before.
+    ensures backs { H.honest → Backs (recover now (standing (H.told host.old).state)).after.net (H.told host.new) result }
+    ensures moment { (H.told host.old).stops.moment ≤ (H.told host.new).stops.moment }
     ensures later { (H.told host.old).faults ≤ (H.told host.new).faults }
 {
     settle_and_change(host, alloc, doc, opts, now)

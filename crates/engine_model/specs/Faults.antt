@@ -1,9 +1,9 @@
 -- When each answer of a call comes. A fault of the host brings the answers of faults, and running out of memory its own; every other
 -- answer is the command machine's.
-use Rattle.std.specs.Prelude.{◌≡◌, ◌≢◌, ◌⊎◌, ⊤, ℕ, true, false, List, Option, Some, None, Result, Ok, Err}
+use Rattle.std.specs.Prelude.{◌≡◌, ◌≢◌, ◌⊎◌, ⊤, ℕ, Bool, true, false, List, [], Option, Some, None, Result, Ok, Err}
 use Rattle.net_model.specs.NetData.{NetData}
-use Rattle.host_core.specs.Faults.{Rose}
-use Rattle.host_core.specs.HostView.{State, HostView, WasRefused}
+use Rattle.host_core.specs.Faults.{Rose, RoseTwice}
+use Rattle.host_core.specs.HostView.{State, HostView, HasNet, WasRefused, NoneRefused}
 use Rattle.engine_model.specs.Merge.{merge}
 use Rattle.checkpoint_cell.specs.Cell.{Checkpoint, saved_net}
 use Rattle.checkpoint_cell.specs.Loaded.{IsBad}
@@ -71,6 +71,24 @@ ApplyAnswers a old new (Err (ap.NotVerified found left)) = ⊥
 ApplyAnswers a old new (Err ap.OutOfMemory) = Unit {0}
 ApplyAnswers a old new result = IsOutcome (apply a (standing old.state)) new result
 
+-- the machine's answer is a change, and each pair that is left has its network
+pub record IsMade (machine : Outcome Applied ApplyFault) (new : HostView) : Type 0 where
+  pub done : Applied
+  pub answer : machine.answer ≡ Ok done
+  pub net : HasNet machine.after.net new
+
+-- on every honest host, sound or not, where the host's count of faults rose or didn't: but for faults and memory the answer is the
+-- machine's, and the host reads as what it leaves. A putting of a checkpoint that fails half way may leave one that is none
+abbrev pub ApplyExact : Type 0 → Outcome Applied ApplyFault → HostView → Result Applied ApplyFault → Type 0
+ApplyExact rose machine new (Err (ap.HostFault left)) = rose
+ApplyExact rose machine new (Err ap.InDoubt) = rose × IsMade machine new
+ApplyExact rose machine new (Err (ap.KernelRefused k n left)) = ⊥
+ApplyExact rose machine new (Err (ap.NotVerified found left)) = ⊥
+ApplyExact rose machine new (Err (ap.Damaged area)) = rose ⊎ IsOutcome machine new (Err (ap.Damaged area))
+ApplyExact rose machine new (Err (ap.HardwareDiffers names)) = rose ⊎ IsOutcome machine new (Err (ap.HardwareDiffers names))
+ApplyExact rose machine new (Err ap.OutOfMemory) = Unit {0}
+ApplyExact rose machine new result = IsOutcome machine new result
+
 -- ---- on every host; of its content only where the host tells it
 
 -- what was dumped last is the merge of the network that was saved
@@ -98,15 +116,16 @@ pub record Differs (names : List (List ℕ)) (new : HostView) : Type 0 where
   pub is_saved : saved_net new.state.cell ≡ Some saved
   pub is_found : new.fresh ≡ Some found
   pub all : differing saved found ≡ names
+  pub some : names ≢ []
 
 abbrev pub ApplySays : Type 0 → Asked → HostView → HostView → Result Applied ApplyFault → Type 0
-ApplySays tells a old new (Ok done) = tells → a.opts.no_verify ≡ false → Verified a new
-ApplySays tells a old new (Err (ap.Pending deadline)) = tells → (apply a (standing old.state)).answer ≡ Err (ap.Pending deadline)
+ApplySays tells a old new (Ok done) = NoneRefused old.kernel new.kernel × (tells → a.opts.no_verify ≡ false → Verified a new)
+ApplySays tells a old new (Err (ap.Pending deadline)) = tells → IsOutcome (apply a (standing old.state)) new (Err (ap.Pending deadline))
 ApplySays tells a old new (Err (ap.MergeRefused refused)) = tells → (from : NetData) × (new.fresh ≡ Some from) × (merge from a.doc ≡ Err refused)
 ApplySays tells a old new (Err (ap.HostFault left)) = Rose old.faults new.faults × LeftSays tells old new left
 ApplySays tells a old new (Err ap.InDoubt) = Rose old.faults new.faults
-ApplySays tells a old new (Err (ap.KernelRefused k n left)) = WasRefused k n old.kernel new.kernel
-ApplySays tells a old new (Err (ap.NotVerified found left)) = (left ≡ RolledBack) × (tells → (saved : NetData) × (saved_net new.state.cell ≡ Some saved) × (merge saved a.doc ≢ Ok found))
+ApplySays tells a old new (Err (ap.KernelRefused k n left)) = WasRefused k n old.kernel new.kernel × LeftSays tells old new left × (left ≢ NotBegun)
+ApplySays tells a old new (Err (ap.NotVerified found left)) = (left ≡ RolledBack) × (a.opts.no_verify ≡ false) × LeftSays tells old new RolledBack × (tells → (saved : NetData) × (saved_net new.state.cell ≡ Some saved) × (merge saved a.doc ≢ Ok found))
 ApplySays tells a old new (Err (ap.Damaged area)) = tells → HadDamaged area old new
 ApplySays tells a old new (Err (ap.HardwareDiffers names)) = tells → Differs names new
 ApplySays tells a old new (Err ap.OutOfMemory) = Unit {0}
@@ -115,7 +134,28 @@ ApplySays tells a old new (Err ap.OutOfMemory) = Unit {0}
 abbrev pub BackSays : {A : Type 0} → Type 0 → Result A BackFault → HostView → HostView → Result A BackFault → Type 0
 BackSays tells machine old new (Err ba.NoCheckpoint) = tells → machine ≡ Err ba.NoCheckpoint
 BackSays tells machine old new (Err (ba.HostFault left)) = Rose old.faults new.faults × LeftSays tells old new left × (left ≢ RolledBack)
-BackSays tells machine old new (Err (ba.KernelRefused k n left)) = WasRefused k n old.kernel new.kernel
+BackSays tells machine old new (Err (ba.KernelRefused k n left)) = WasRefused k n old.kernel new.kernel × (left ≡ Pending)
 BackSays tells machine old new (Err (ba.Damaged area)) = tells → HadDamaged area old new
 BackSays tells machine old new (Err (ba.HardwareDiffers names)) = tells → Differs names new
-BackSays tells machine old new result = Unit {0}
+BackSays tells machine old new (Err ba.OutOfMemory) = Unit {0}
+BackSays tells machine old new (Ok done) = NoneRefused old.kernel new.kernel
+
+-- ---- whether it tried, and what it did in doing so
+
+-- that a change may stand half way is told only where its restoring was tried: one that was to be taken back first or one that was
+-- compared and differs (the excuse), or else where two things went wrong, the second of them in restoring
+abbrev pub Tries : Type 0 → ℕ → ℕ → HostView → Result Applied ApplyFault → Type 0
+Tries excuse faults refusals new (Err (ap.KernelRefused k n Pending)) = excuse ⊎ RoseTwice refusals new.kernel.refusals ⊎ Rose faults new.faults
+Tries excuse faults refusals new (Err (ap.HostFault Pending)) = excuse ⊎ RoseTwice faults new.faults ⊎ Rose refusals new.kernel.refusals
+Tries excuse faults refusals new result = Unit {0}
+
+-- A change that is verified was dumped after its last kernel call. One that isn't was not: the last dump that is still fresh, if
+-- there is one, gave the network that was saved.
+abbrev pub Dumps : Type 0 → Bool → HostView → Result Applied ApplyFault → Type 0
+Dumps tells no_verify new (Ok done) = (no_verify ≡ false → new.kernel.calls ≡ 0) × (no_verify ≡ true → tells → (net : NetData) → new.fresh ≡ Some net → saved_net new.state.cell ≡ Some net)
+Dumps tells no_verify new (Err fault) = Unit {0}
+
+-- where it says that all is taken back, the network is the saved one, or where none was saved the one from before
+abbrev pub Backs : Option NetData → HostView → Result Applied ApplyFault → Type 0
+Backs before new (Err (ap.HostFault RolledBack)) = (new.state.net ≡ saved_net new.state.cell) ⊎ (new.state.net ≡ before)
+Backs before new result = Unit {0}

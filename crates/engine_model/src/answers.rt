@@ -1,11 +1,12 @@
 //! What is asked of the commands, and what they answer.
 
 use base_model::Items;
+use checkpoint_cell::Seen;
 use document_model::Refused;
 use net_model::{Name, Net};
 
 /// What a command that met a fault leaves.
-#[derive(Clone, Copy, Debug, PartialEq, Eq)]
+#[derive(Clone, Copy, PartialEq, Eq)]
 pub enum Left {
     /// No kernel call was made and nothing was written to the checkpoint area.
     NotBegun,
@@ -16,7 +17,7 @@ pub enum Left {
 }
 
 /// How a change is made.
-#[derive(Clone, Copy, Debug, PartialEq, Eq)]
+#[derive(Clone, Copy, PartialEq, Eq)]
 pub struct ApplyOpts {
     pub no_commit: bool,
     pub no_verify: bool,
@@ -24,13 +25,13 @@ pub struct ApplyOpts {
     pub timeout: u32,
 }
 
-#[derive(Clone, Copy, Debug, PartialEq, Eq)]
+#[derive(Clone, Copy, PartialEq, Eq)]
 pub struct Applied {
     /// When a change that waits is taken back, in seconds.
     pub deadline: Option<u64>,
 }
 
-#[derive(Clone, Copy, Debug, PartialEq, Eq)]
+#[derive(Clone, Copy, PartialEq, Eq)]
 pub enum Recovered {
     Nothing,
     Waiting { deadline: u64 },
@@ -50,7 +51,7 @@ pub enum ApplyFault {
     OutOfMemory,
 }
 
-#[derive(Clone, Copy, Debug, PartialEq, Eq)]
+#[derive(Clone, Copy, PartialEq, Eq)]
 pub enum CommitFault {
     NoCheckpoint,
     Unfinished(u64, u64),
@@ -59,11 +60,27 @@ pub enum CommitFault {
     InDoubt,
 }
 
-#[derive(Debug, PartialEq, Eq, Drop)]
+#[derive(PartialEq, Eq, Drop)]
 pub enum BackFault {
     NoCheckpoint,
     HostFault(Left),
     KernelRefused(u8, u64, Left),
+    Damaged(u8),
+    HardwareDiffers(Items<Name>),
+    OutOfMemory,
+}
+
+/// What stands: the number of links of the network, and the checkpoint.
+#[derive(Clone, Copy, PartialEq, Eq)]
+pub struct Checked {
+    pub links: u32,
+    pub cell: Seen,
+}
+
+/// Why what is stored can't be worked with, or wasn't seen.
+#[derive(PartialEq, Eq, Drop)]
+pub enum CheckFault {
+    HostFault,
     Damaged(u8),
     HardwareDiffers(Items<Name>),
     OutOfMemory,

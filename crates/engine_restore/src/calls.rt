@@ -1,10 +1,14 @@
 //! The calls that take a change back.
-ghost use Rattle.std.specs.Prelude.{◌≡◌, ◌≤◌, ℕ, Ok, IsErrOf};
+ghost use Rattle.std.specs.Prelude.{◌≡◌, ◌≤◌, ℕ, None, Ok, IfOk, IfErr, OnOk, IsErrOf};
+ghost use Rattle.host_core.specs.HostView.{NoneRefused};
+ghost use Rattle.host_core.specs.Stops.{Steps, Stays};
+ghost use Rattle.checkpoint_cell.specs.Steps.{Holds};
 ghost use Rattle.checkpoint_cell.specs.Settled.{standing};
 ghost use Rattle.engine_model.specs.Machine.{rollback, recover, settle};
 ghost use Rattle.engine_model.specs.Sound.{Sound};
 ghost use Rattle.engine_model.specs.Stations.{Only, Kept, at, entry_of, left_by};
 ghost use Rattle.engine_model.specs.Exit.{BackExit};
+ghost use Rattle.engine_model.specs.Answers.{IsBefore, IsClear};
 ghost use Rattle.engine_model.specs.Faults.{BackAnswers, BackExact, BackSays, HasSet, HasTaken};
 
 use crate::restoring::{go_back, take_back};
@@ -22,8 +26,13 @@ pub fn rollback<H: Host>(host: &mut H, alloc: Global) -> Result<(), BackFault>
     ensures exit { H.honest → Sound (H.told host.old) → BackExit (rollback (standing (H.told host.old).state)).after (entry_of (H.told host.old)) (left_by (H.told host.new)) result }
     ensures reads { H.honest → Sound (H.told host.old) → BackExit (rollback (standing (H.told host.old).state)).after (at (standing (H.told host.old).state)) (Only (standing (H.told host.new).state)) result }
     ensures kept { H.honest → Sound (H.told host.old) → Kept (Only (rollback (standing (H.told host.old).state)).after) (H.told host.old) (H.told host.new) }
+    // It is done only where one stands.
+    ensures done { H.tells → OnOk result (HasSet (standing (H.told host.old).state).cell) }
     // It takes memory only where a checkpoint stands.
     ensures memory { H.tells → IsErrOf result BackFault.OutOfMemory → HasSet (standing (H.told host.old).state).cell }
+    // What is answered before anything was begun leaves no more than before.
+    ensures before { IfErr result (λ fault. IsBefore fault → Steps Stays (H.told host.old).stops (H.told host.new).stops) }
+    ensures moment { (H.told host.old).stops.moment ≤ (H.told host.new).stops.moment }
     ensures later { (H.told host.old).faults ≤ (H.told host.new).faults }
 {
     match go_back(host, alloc) {
@@ -50,6 +59,16 @@ pub fn recover<H: Host>(host: &mut H, alloc: Global, now: u64) -> Result<Recover
     // Where it restores nothing, it says so of each host that tells its content.
     ensures nothing { H.tells → result ≡ Ok Recovered.Nothing → (recover now (standing (H.told host.old).state)).answer ≡ Ok Recovered.Nothing }
     ensures waiting { H.tells → (deadline : ℕ) → result ≡ Ok (Recovered.Waiting deadline) → (recover now (standing (H.told host.old).state)).answer ≡ Ok (Recovered.Waiting deadline) }
+    ensures restored { H.tells → result ≡ Ok Recovered.Restored → HasTaken now (standing (H.told host.old).state).cell }
+    // For a command that goes on behind it: no checkpoint stands then, where none stood nothing was changed, and no call was
+    // refused.
+    ensures cleared { H.tells → IfOk result (λ done. IsClear done → Holds None (H.told host.new)) }
+    ensures same { H.tells → result ≡ Ok Recovered.Nothing → (H.told host.new).state ≡ (H.told host.old).state }
+    ensures stays { result ≡ Ok Recovered.Nothing → Steps Stays (H.told host.old).stops (H.told host.new).stops }
+    ensures quiet { OnOk result (NoneRefused (H.told host.old).kernel (H.told host.new).kernel) }
+    // What is answered before anything was begun leaves no more than before.
+    ensures before { IfErr result (λ fault. IsBefore fault → Steps Stays (H.told host.old).stops (H.told host.new).stops) }
+    ensures moment { (H.told host.old).stops.moment ≤ (H.told host.new).stops.moment }
     ensures later { (H.told host.old).faults ≤ (H.told host.new).faults }
 {
     take_back(host, alloc, now)
@@ -67,6 +86,11 @@ pub fn settle<H: Host>(host: &mut H, alloc: Global, now: u64) -> Result<Option<u
     ensures kept { H.honest → Sound (H.told host.old) → Kept (Only (recover now (standing (H.told host.old).state)).after) (H.told host.old) (H.told host.new) }
     // It takes memory only where a change is to be taken back.
     ensures memory { H.tells → IsErrOf result BackFault.OutOfMemory → HasTaken now (standing (H.told host.old).state).cell }
+    // It never answers, as a rollback does, that there is no checkpoint.
+    ensures set_there { IsErrOf result BackFault.NoCheckpoint → ⊥ }
+    // What is answered before anything was begun leaves no more than before.
+    ensures before { IfErr result (λ fault. IsBefore fault → Steps Stays (H.told host.old).stops (H.told host.new).stops) }
+    ensures moment { (H.told host.old).stops.moment ≤ (H.told host.new).stops.moment }
     ensures later { (H.told host.old).faults ≤ (H.told host.new).faults }
 {
     match recover(host, alloc, now) {

@@ -102,7 +102,9 @@ fn undo<H: Host>(host: &mut H, alloc: Global, calls: &[Call]) -> Result<(), Back
     ensures healthy { H.honest → (from saved : NetData) → (H.told host.old).state.net ≡ Some from → Runs calls.now from saved → IfErr result (λ fault. IsHealthy fault) }
     ensures begun { IfErr result (λ fault. IsBefore fault → ⊥) }
     ensures refused { (k n : ℕ) (left : Left) → IsErrOf result (BackFault.KernelRefused k n left) → (H.told host.old).kernel.calls ≡ 0 → WasRefused k n (H.told host.old).kernel (H.told host.new).kernel }
+    ensures given_up { (k n : ℕ) (left : Left) → IsErrOf result (BackFault.KernelRefused k n left) → left ≡ Left.Pending }
     ensures quiet { OnOk result (NoneRefused (H.told host.old).kernel (H.told host.new).kernel) }
+    ensures unrefused { (left : Left) → IsErrOf result (BackFault.HostFault left) → NoneRefused (H.told host.old).kernel (H.told host.new).kernel }
     ensures fault { (left : Left) → IsErrOf result (BackFault.HostFault left) → Rose (H.told host.old).faults (H.told host.new).faults }
     ensures set_there { IsErrOf result BackFault.NoCheckpoint → ⊥ }
     ensures side { (left : Left) → IsErrOf result (BackFault.HostFault left) → left ≢ Left.RolledBack }
@@ -134,7 +136,9 @@ fn restore<H: Host>(host: &mut H, alloc: Global, phase: Phase) -> Result<(), Bac
     ensures exact { H.honest → (checkpoint : Checkpoint) → Holds (Some checkpoint) (H.told host.old) → Finds (saved_on checkpoint.net (H.told host.old).state.net) result }
     ensures before { IfErr result (λ fault. IsBefore fault → Steps Stays (H.told host.old).stops (H.told host.new).stops) }
     ensures refused { (k n : ℕ) (left : Left) → IsErrOf result (BackFault.KernelRefused k n left) → WasRefused k n (H.told host.old).kernel (H.told host.new).kernel }
+    ensures given_up { (k n : ℕ) (left : Left) → IsErrOf result (BackFault.KernelRefused k n left) → left ≡ Left.Pending }
     ensures quiet { OnOk result (NoneRefused (H.told host.old).kernel (H.told host.new).kernel) }
+    ensures unrefused { (left : Left) → IsErrOf result (BackFault.HostFault left) → NoneRefused (H.told host.old).kernel (H.told host.new).kernel }
     ensures fault { (left : Left) → IsErrOf result (BackFault.HostFault left) → Rose (H.told host.old).faults (H.told host.new).faults }
     ensures set_there { IsErrOf result BackFault.NoCheckpoint → ⊥ }
     ensures side { (left : Left) → IsErrOf result (BackFault.HostFault left) → left ≢ Left.RolledBack }
@@ -143,6 +147,8 @@ fn restore<H: Host>(host: &mut H, alloc: Global, phase: Phase) -> Result<(), Bac
     ensures same { IfErr result (λ fault. IsBefore fault → H.tells → (H.told host.new).state ≡ (H.told host.old).state) }
     ensures moves { Steps Any (H.told host.old).stops (H.told host.new).stops }
     ensures saved { H.tells → OnOk result (saved_net (H.told host.new).state.cell ≡ saved_net (H.told host.old).state.cell) }
+    // On an honest host, sound or not, the network is the saved one.
+    ensures reads { H.honest → OnOk result ((H.told host.new).state.net ≡ saved_net (H.told host.new).state.cell) }
     ensures later { (H.told host.old).faults ≤ (H.told host.new).faults }
 {
     let calls = match ready(host, alloc) {
@@ -174,7 +180,9 @@ pub fn go_back<H: Host>(host: &mut H, alloc: Global) -> Result<bool, BackFault>
     ensures before { IfErr result (λ fault. IsBefore fault → Steps Stays (H.told host.old).stops (H.told host.new).stops) }
     ensures memory { H.tells → IsErrOf result BackFault.OutOfMemory → IsSome (cell_of (H.told host.old).state.cell) }
     ensures refused { (k n : ℕ) (left : Left) → IsErrOf result (BackFault.KernelRefused k n left) → WasRefused k n (H.told host.old).kernel (H.told host.new).kernel }
+    ensures given_up { (k n : ℕ) (left : Left) → IsErrOf result (BackFault.KernelRefused k n left) → left ≡ Left.Pending }
     ensures quiet { OnOk result (NoneRefused (H.told host.old).kernel (H.told host.new).kernel) }
+    ensures unrefused { (left : Left) → IsErrOf result (BackFault.HostFault left) → NoneRefused (H.told host.old).kernel (H.told host.new).kernel }
     ensures fault { (left : Left) → IsErrOf result (BackFault.HostFault left) → Rose (H.told host.old).faults (H.told host.new).faults }
     ensures set_there { IsErrOf result BackFault.NoCheckpoint → ⊥ }
     ensures side { (left : Left) → IsErrOf result (BackFault.HostFault left) → left ≢ Left.RolledBack }
@@ -185,6 +193,8 @@ pub fn go_back<H: Host>(host: &mut H, alloc: Global) -> Result<bool, BackFault>
     ensures going { H.honest → Sound (H.told host.old) → IfErr result (λ fault. (IsBefore fault → ⊥) → FromRead (IsUndone (H.told host.old).state) (H.told host.old) (H.told host.new)) }
     ensures moves { Steps Any (H.told host.old).stops (H.told host.new).stops }
     ensures saved { H.tells → OnOk result (saved_net (H.told host.new).state.cell ≡ saved_net (H.told host.old).state.cell) }
+    // On an honest host, sound or not, what is taken back is the saved network.
+    ensures reads { H.honest → IfOk result (λ was. was ≡ true → (H.told host.new).state.net ≡ saved_net (H.told host.new).state.cell) }
     ensures later { (H.told host.old).faults ≤ (H.told host.new).faults }
 {
     let seen = match barrier(host) {
@@ -232,8 +242,11 @@ pub fn take_back<H: Host>(host: &mut H, alloc: Global, now: u64) -> Result<Recov
     ensures before { IfErr result (λ fault. IsBefore fault → Steps Stays (H.told host.old).stops (H.told host.new).stops) }
     ensures memory { H.tells → IsErrOf result BackFault.OutOfMemory → IsTaken now (cell_of (H.told host.old).state.cell) }
     ensures pending { H.tells → IsErrOf result (BackFault.HostFault Left.Pending) → IsTaken now (cell_of (H.told host.old).state.cell) }
+    ensures unaccepted { H.tells → (k n : ℕ) (left : Left) → IsErrOf result (BackFault.KernelRefused k n left) → IsTaken now (cell_of (H.told host.old).state.cell) }
     ensures refused { (k n : ℕ) (left : Left) → IsErrOf result (BackFault.KernelRefused k n left) → WasRefused k n (H.told host.old).kernel (H.told host.new).kernel }
+    ensures given_up { (k n : ℕ) (left : Left) → IsErrOf result (BackFault.KernelRefused k n left) → left ≡ Left.Pending }
     ensures quiet { OnOk result (NoneRefused (H.told host.old).kernel (H.told host.new).kernel) }
+    ensures unrefused { (left : Left) → IsErrOf result (BackFault.HostFault left) → NoneRefused (H.told host.old).kernel (H.told host.new).kernel }
     ensures fault { (left : Left) → IsErrOf result (BackFault.HostFault left) → Rose (H.told host.old).faults (H.told host.new).faults }
     ensures set_there { IsErrOf result BackFault.NoCheckpoint → ⊥ }
     ensures side { (left : Left) → IsErrOf result (BackFault.HostFault left) → left ≢ Left.RolledBack }
@@ -243,6 +256,10 @@ pub fn take_back<H: Host>(host: &mut H, alloc: Global, now: u64) -> Result<Recov
     ensures going { H.honest → Sound (H.told host.old) → IfErr result (λ fault. (IsBefore fault → ⊥) → FromRead (IsSettled now (H.told host.old).state) (H.told host.old) (H.told host.new)) }
     ensures moves { Steps Any (H.told host.old).stops (H.told host.new).stops }
     ensures nothing_same { H.tells → result ≡ Ok Recovered.Nothing → (H.told host.new).state ≡ (H.told host.old).state }
+    ensures waiting_same { H.tells → (deadline : ℕ) → result ≡ Ok (Recovered.Waiting deadline) → (H.told host.new).state ≡ (H.told host.old).state }
+    // On an honest host, sound or not, what is taken back reads as the saved network.
+    ensures restored_reads { H.honest → (taken : IsTaken now (cell_of (H.told host.old).state.cell)) (saved : NetData) → taken.checkpoint.net ≡ Some saved → result ≡ Ok Recovered.Restored → standing (H.told host.new).state ≡ restored_to saved }
+    ensures restored_saved { H.honest → result ≡ Ok Recovered.Restored → (H.told host.new).state.net ≡ saved_net (H.told host.new).state.cell }
     ensures later { (H.told host.old).faults ≤ (H.told host.new).faults }
 {
     let seen = match barrier(host) {

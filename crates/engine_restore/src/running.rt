@@ -1,4 +1,4 @@
-ghost use Rattle.std.specs.Prelude.{◌≡◌, ◌≤◌, ◌+◌, ℕ, Some, OnOk, OnErr, IsErrOf};
+ghost use Rattle.std.specs.Prelude.{◌≡◌, ◌⊎◌, ◌≤◌, ◌+◌, ℕ, None, Some, OnOk, OnErr, IsErrOf};
 ghost use Rattle.net_model.specs.NetData.{NetData};
 ghost use Rattle.kernel_model.specs.Runs.{Runs};
 ghost use Rattle.host_core.specs.Faults.{HasFault};
@@ -11,7 +11,7 @@ use kernel_laws::step_laws;
 use net_model::Call;
 use std::alloc::Global;
 
-#[derive(Debug, PartialEq, Eq, Drop)]
+#[derive(PartialEq, Eq, Drop)]
 pub enum RunFault {
     Refused(u8, u64),
     Failed,
@@ -31,6 +31,8 @@ pub fn run<H: Host>(host: &mut H, alloc: Global, calls: &[Call]) -> Result<(), R
     ensures fronts { H.honest → (from to : NetData) → (H.told host.old).state.net ≡ Some from → Runs calls.now from to → Steps (FrontStep calls.now from) (H.told host.old).stops (H.told host.new).stops }
     ensures refused { (k n : ℕ) → IsErrOf result (RunFault.Refused k n) → (H.told host.old).kernel.calls ≡ 0 → WasRefused k n (H.told host.old).kernel (H.told host.new).kernel }
     ensures quiet { ((k n : ℕ) → IsErrOf result (RunFault.Refused k n) → ⊥) → NoneRefused (H.told host.old).kernel (H.told host.new).kernel }
+    // No dump is made.
+    ensures fresh { H.tells → ((H.told host.new).fresh ≡ (H.told host.old).fresh) ⊎ ((H.told host.new).fresh ≡ None) }
     ensures cause { HasFault (H.told host.old).faults (H.told host.new).faults RunFault.Failed result }
 {
     step_laws();

@@ -132,13 +132,29 @@ pub record IsFirst (net : NetData) : Type 0 where
   pub rules : net.rules ≡ []
   pub dns : net.dns ≡ no_dns
 
--- a stop inside a making leaves what was there, no network, or the new one
-abbrev pub MaybeMade : NetData → State → State → Type 0
-MaybeMade first old new = (new ≡ old) ⊎ (new.net ≡ None) ⊎ (new.net ≡ Some first)
+-- there is no network, and the gate is written, where it is open or the area is empty; all other bytes stay
+pub record Closing (old new : State) : Type 0 where
+  pub net : new.net ≡ None
+  pub was_open : get_or old.cell 0 1 ≡ 1
+  pub gate : Torn 0 1 old.cell new.cell
 
--- the network is stored; the checkpoint area isn't empty, its gate is closed, and nothing of both is in doubt
-pub record IsMade (first : NetData) (host : HostView) : Type 0 where
+-- The checkpoint is closed, and there is no network or the first one. A gate that was closed before wasn't written, and
+-- the bytes behind it never are.
+pub record Storing (first : NetData) (old new : State) : Type 0 where
+  pub net : (new.net ≡ None) ⊎ (new.net ≡ Some first)
+  pub closed : get_or new.cell 0 1 ≢ 1
+  pub gate : Torn 0 1 old.cell new.cell
+  pub kept : get_or old.cell 0 1 ≢ 1 → new.cell ≡ old.cell
+
+-- a stop inside a making leaves what was there, the closing under way, or behind it the storing under way
+abbrev pub MaybeMade : NetData → State → State → Type 0
+MaybeMade first old new = (new ≡ old) ⊎ Closing old new ⊎ Storing first old new
+
+-- The network is stored; the checkpoint area isn't empty, its gate is closed, and nothing of both is in doubt. Where the
+-- gate was closed before, the area is as it was.
+pub record IsMade (first : NetData) (old : State) (host : HostView) : Type 0 where
   pub net : host.state.net ≡ Some first
   pub nets : HasNet (Some first) host
   pub cell : HasCell host.state.cell host
   pub closed : get_or host.state.cell 0 1 ≢ 1
+  pub kept : get_or old.cell 0 1 ≢ 1 → host.state.cell ≡ old.cell

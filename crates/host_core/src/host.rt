@@ -14,7 +14,7 @@ use std::alloc::Global;
 pub enum MakeFault {
     /// There is a network. Nothing changed.
     Exists,
-    /// What was there, no network, or the new one is there.
+    /// What was there, the same with its checkpoint closed, or behind that no network or the new one.
     Failed,
     /// Nothing changed.
     OutOfMemory,
@@ -50,12 +50,12 @@ pub trait Host {
 
     ghost told: { Self → HostView };
 
-    /// Stores the first network, where there is none, and closes the checkpoint.
+    /// Closes the checkpoint, where it is open or its area is empty, and then stores the first network, where there is none.
     fn make(&mut self, alloc: Global, first: &Net) -> Result<(), MakeFault>
         requires { IsFirst first.now }
         ensures exists { tells → IsErrOf result MakeFault.Exists → IsSome (told self.old).state.net }
         ensures met { tells → OnOk result ((told self.old).state.net ≡ None) }
-        ensures made { tells → OnOk result (IsMade first.now (told self.new)) }
+        ensures made { tells → OnOk result (IsMade first.now (told self.old).state (told self.new)) }
         // Where it meets a network, it changes nothing.
         ensures stays { tells → IsSome (told self.old).state.net → Steps Stays (told self.old).stops (told self.new).stops × ((told self.new).state ≡ (told self.old).state) }
         ensures same { tells → IsErrOf result MakeFault.OutOfMemory → Steps Stays (told self.old).stops (told self.new).stops × ((told self.new).state ≡ (told self.old).state) }

@@ -1,82 +1,168 @@
 -- What the making of a first network leaves.
-use Rattle.std.proofs.Common.{◌≡◌, ◌≢◌, inl, inr, ℕ, List, [], ◌∷◌, ◌++◌, take, get_or, reverse, Some, None, Vec, refl, sym, ap, ◌∙◌, subst, arith}
+use Rattle.std.proofs.Common.{◌≡◌, ◌≢◌, ◌⊎◌, inl, inr, ℕ, List, [], ◌∷◌, ◌++◌, take, get_or, map, reverse, Some, None, Vec, refl, sym, ap, ◌∙◌, subst, arith}
 use Rattle.std.proofs.lemmas.List.{append_assoc}
 use Rattle.std.specs.declared.alloc.Global.{Global}
 use Rattle.net_model.specs.NetData.{NetData}
 use Rattle.host_core.specs.Bytes.{Torn, Written}
-use Rattle.host_core.specs.HostView.{State, CellTorn, MaybeMade}
+use Rattle.host_core.specs.HostView.{State, CellTorn, Closing, Storing, MaybeMade}
 use Rattle.host_core.specs.Stops.{Stops, Steps, After, Stays}
 use Rattle.host_core.proofs.lemmas.Moments.{weaken, follow}
 use Rattle.host_memory.specs.declared.record.HostEvent.{HostEvent}
 use Rattle.host_memory.specs.declared.record.HostEvent.TheVariants.{Changed, Wrote, Synced}
-use Rattle.host_memory.specs.HostRecord.{undone, Left, stops_of, reads, one_net}
-use Rattle.host_memory.proofs.HostPushes.{push, newest, write_pushed, sync_pushed}
+use Rattle.host_memory.specs.HostRecord.{undone, Left, stops_of, reads, one_net, WasClosed, WasOpen, IsClosing}
+use Rattle.host_memory.specs.HostStopped.{touch_of}
+use Rattle.host_memory.specs.Touches.{IsTouched}
+use Rattle.host_memory.proofs.DiskPushes.{torn_same}
+use Rattle.host_memory.proofs.HostPushes.{push, newest, write_pushed, sync_pushed, sync_sure}
 
 first_of : (byte default : ℕ) (bytes : List ℕ) → take 1 bytes ≡ byte ∷ [] → get_or bytes 0 default ≡ byte
 first_of byte default [] is = let e : [] ≡ byte ∷ [] = is in absurd (cc)
 first_of byte default (b ∷ bytes) is = let e : b ∷ [] ≡ byte ∷ [] = is in cc
 
-pub closed : (old new : List ℕ) → Written 0 (0 ∷ []) old new → get_or new 0 1 ≢ 1
+-- a gate that was written 0 is closed
+closed : (old new : List ℕ) → Written 0 (0 ∷ []) old new → get_or new 0 1 ≢ 1
 closed old new written = λ is. absurd (omega (arith, is, first_of 0 1 new written.stands))
 
-pub made_on : (first : NetData) (old mid new : Stops State) → Steps (MaybeMade first) old mid → Steps (MaybeMade first) mid new → Steps (MaybeMade first) old new
-made_on first old mid new one two = follow (MaybeMade first) (MaybeMade first) (MaybeMade first) old mid new one two (λ r s left a. a)
-    (λ q r s begin left a b. elim b [
-      | inl same ↦ subst (λ (x : State). MaybeMade first q x) (sym same) a
-      | inr is ↦ inr is
-    ])
+-- nothing happened yet, or the closing is under way
+abbrev pub Began : State → State → Type 0
+Began old new = (new ≡ old) ⊎ Closing old new
 
--- the gate was written
-gate_made : (first : NetData) (before : List HostEvent) (gate : Vec ℕ Global) (old mid : State) → old.net ≡ None → gate.items ≡ old.cell → mid.net ≡ old.net → Torn 0 1 old.cell mid.cell
-    → Steps (MaybeMade first) (stops_of old (reverse before)) (stops_of mid (reverse (before ++ Wrote 0 1 gate ∷ [])))
-gate_made first before gate old mid none is net torn =
-    let after = before ++ Wrote 0 1 gate ∷ [] in
-    let steps : Steps (CellTorn 0 1) (stops_of old (reverse before)) (stops_of mid (reverse after)) = write_pushed before after old mid 0 1 (inl (record { before = gate; items = is; pushed = refl })) net torn in
-    weaken (CellTorn 0 1) (MaybeMade first) (stops_of old (reverse before)) (stops_of mid (reverse after)) steps
-    (λ r s left step. inr (inl (step.net ∙ one_net old (reverse before) r left ∙ none)))
+-- the network was stored, and the checkpoint area stays
+record NetStored (first : NetData) (old new : State) : Type 0 where
+  pub net : new.net ≡ Some first
+  pub cell : new.cell ≡ old.cell
 
-sync_made : (first : NetData) (before : List HostEvent) (now : State) → Steps (MaybeMade first) (stops_of now (reverse before)) (stops_of now (reverse (before ++ Synced ∷ [])))
-sync_made first before now =
-    let after = before ++ Synced ∷ [] in
-    weaken Stays (MaybeMade first) (stops_of now (reverse before)) (stops_of now (reverse after)) (sync_pushed before after now (inr refl)) (λ r s left same. inl same)
-
--- the network was stored
-net_made : (first : NetData) (before : List HostEvent) (mid new : State) → mid.net ≡ None → new.net ≡ Some first → new.cell ≡ mid.cell
-    → Steps (MaybeMade first) (stops_of mid (reverse before)) (stops_of new (reverse (before ++ Changed None ∷ [])))
-net_made first before mid new none stored cell =
-    subst (λ (l : List HostEvent). Steps (MaybeMade first) (stops_of mid (reverse before)) (stops_of new l)) (sym (newest before _ (Changed None) refl))
-    (push (Changed None) (reverse before) mid new was (MaybeMade first) leads)
-  where
-    was : undone (Changed None) new ≡ mid
-    was = λ i. record { net = sym none i; cell = cell i }
-
-    leads : (s : State) → Left new (Changed None ∷ reverse before) s → After (stops_of mid (reverse before)) (MaybeMade first) s
-    leads s (inl same) = (mid, reads mid (reverse before), inr (inr ((λ i. (same i).net) ∙ stored)))
-    leads s (inr (r, left, c, net)) = (r, subst (λ (o : State). Left o (reverse before) r) was left, inr (inr (net ∙ stored)))
-
-module _ (first : NetData) (before after : List HostEvent) (gate : Vec ℕ Global) (old new : State) (is : after ≡ before ++ Wrote 0 1 gate ∷ (Synced ∷ (Changed None ∷ []))) where
-  abbrev wrote : List HostEvent
-  wrote = before ++ Wrote 0 1 gate ∷ []
-
-  one_by_one : after ≡ (wrote ++ Synced ∷ []) ++ Changed None ∷ []
-  one_by_one = is ∙ sym (append_assoc wrote (Synced ∷ []) (Changed None ∷ []) ∙ append_assoc before (Wrote 0 1 gate ∷ []) (Synced ∷ (Changed None ∷ [])))
-
-  -- a making leaves, at each moment, what was, no network or the first
-  pub all_made : old.net ≡ None → gate.items ≡ old.cell → new.net ≡ Some first → Torn 0 1 old.cell new.cell
-      → Steps (MaybeMade first) (stops_of old (reverse before)) (stops_of new (reverse after))
-  all_made none held stored torn =
-      let mid : State = record { net = old.net; cell = new.cell } in
-      subst (λ (l : List HostEvent). Steps (MaybeMade first) (stops_of old (reverse before)) (stops_of new (reverse l))) (sym one_by_one)
-      (made_on first (stops_of old (reverse before)) (stops_of mid (reverse (wrote ++ Synced ∷ []))) (stops_of new (reverse ((wrote ++ Synced ∷ []) ++ Changed None ∷ [])))
-      (made_on first (stops_of old (reverse before)) (stops_of mid (reverse wrote)) (stops_of mid (reverse (wrote ++ Synced ∷ [])))
-      (gate_made first before gate old mid none held refl torn) (sync_made first wrote mid))
-      (net_made first (wrote ++ Synced ∷ []) mid new none stored refl))
-
-  -- and after it nothing of the checkpoint area is in doubt
-  pub all_sure : (s : State) → Left new (reverse after) s → s.cell ≡ new.cell
-  all_sure s left =
-      by (subst (λ (l : List HostEvent). Left new l s) (newest (wrote ++ Synced ∷ []) after (Changed None) one_by_one ∙ ap (λ (l : List HostEvent). Changed None ∷ l) (newest wrote _ Synced refl)) left)
+module _ (first : NetData) (before : List HostEvent) (mid new : State) (none : mid.net ≡ None) (stored : new.net ≡ Some first) (cell : new.cell ≡ mid.cell) where
+  net_stored : Steps (NetStored first) (stops_of mid (reverse before)) (stops_of new (reverse (before ++ Changed None ∷ [])))
+  net_stored =
+      subst (λ (l : List HostEvent). Steps (NetStored first) (stops_of mid (reverse before)) (stops_of new l)) (sym (newest before _ (Changed None) refl))
+      (push (Changed None) (reverse before) mid new was (NetStored first) leads)
     where
-      by : Left new (Changed None ∷ (Synced ∷ reverse wrote)) s → s.cell ≡ new.cell
+      was : undone (Changed None) new ≡ mid
+      was = λ i. record { net = sym none i; cell = cell i }
+
+      leads : (s : State) → Left new (Changed None ∷ reverse before) s → After (stops_of mid (reverse before)) (NetStored first) s
+      leads s (inl same) = (mid, reads mid (reverse before), record { net = (λ i. (same i).net) ∙ stored; cell = (λ i. (same i).cell) ∙ cell })
+      leads s (inr (r, left, c, net)) = (r, subst (λ (o : State). Left o (reverse before) r) was left, record { net = net ∙ stored; cell = c })
+
+  -- behind the closing the network is stored
+  module _ (old : Stops State) (shut : get_or mid.cell 0 1 ≢ 1) (sure : (r : State) → Left mid (reverse before) r → r.cell ≡ mid.cell) where
+    storing : (q r s : State) → Left mid (reverse before) r → Began q r → NetStored first r s → Storing first q s
+    storing q r s left began is = record {
+      net = inr is.net;
+      closed = subst (λ (l : List ℕ). get_or l 0 1 ≢ 1) (sym (is.cell ∙ sure r left)) shut;
+      gate = subst (λ (l : List ℕ). Torn 0 1 q.cell l) (sym is.cell) (torn began);
+      kept = λ shut. is.cell ∙ stays began shut;
+    }
+      where
+        torn : Began q r → Torn 0 1 q.cell r.cell
+        torn (inl same) = subst (λ (x : State). Torn 0 1 q.cell x.cell) (sym same) (torn_same 0 1 q.cell)
+        torn (inr closing) = closing.gate
+
+        stays : Began q r → get_or q.cell 0 1 ≢ 1 → r.cell ≡ q.cell
+        stays (inl same) shut = λ i. (same i).cell
+        stays (inr closing) shut = absurd (shut closing.was_open)
+
+    pub stored_after : Steps Began old (stops_of mid (reverse before)) → Steps (MaybeMade first) old (stops_of new (reverse (before ++ Changed None ∷ [])))
+    stored_after began = follow Began (NetStored first) (MaybeMade first) old (stops_of mid (reverse before)) (stops_of new (reverse (before ++ Changed None ∷ []))) began net_stored
+        (λ q r left step. elim step [ inl same ↦ inl same | inr closing ↦ inr (inl closing) ])
+        (λ q r s begin left step is. inr (inr (storing q r s left step is)))
+
+module _ (before : List HostEvent) (gate : Vec ℕ Global) (old mid : State) where
+  abbrev synced : List HostEvent
+  synced = before ++ Synced ∷ []
+
+  abbrev wrote : List HostEvent
+  wrote = synced ++ Wrote 0 1 gate ∷ []
+
+  -- a gate that is open is synced, written, and synced again
+  opening : old.net ≡ None → get_or old.cell 0 1 ≡ 1 → gate.items ≡ old.cell → mid.net ≡ old.net → Torn 0 1 old.cell mid.cell
+      → Steps Began (stops_of old (reverse before)) (stops_of mid (reverse (wrote ++ Synced ∷ [])))
+  opening none is held net torn =
+      follow Began Stays Began (stops_of old (reverse before)) (stops_of mid (reverse wrote)) (stops_of mid (reverse (wrote ++ Synced ∷ [])))
+      (follow Stays (CellTorn 0 1) Began (stops_of old (reverse before)) (stops_of old (reverse synced)) (stops_of mid (reverse wrote))
+      (sync_pushed before synced old (inr refl))
+      (write_pushed synced wrote old mid 0 1 (inl (record { before = gate; items = held; pushed = refl })) net torn)
+      (λ q r left same. inl same)
+      (λ q r s begin left same step. inr (subst (λ (x : State). Closing x s) same (record {
+        net = step.net ∙ one_net old (reverse synced) r left ∙ none;
+        was_open = ap (λ (l : List ℕ). get_or l 0 1) (sync_sure before synced old refl r left) ∙ is;
+        gate = step.cell;
+      }))))
+      (sync_pushed wrote (wrote ++ Synced ∷ []) mid (inr refl))
+      (λ q r left step. step)
+      (λ q r s begin left step same. subst (λ (x : State). Began q x) (sym same) step)
+
+-- a gate that is closed is synced
+shut_already : (before : List HostEvent) (old : State) → Steps Began (stops_of old (reverse before)) (stops_of old (reverse (before ++ Synced ∷ [])))
+shut_already before old = weaken Stays Began (stops_of old (reverse before)) (stops_of old (reverse (before ++ Synced ∷ []))) (sync_pushed before (before ++ Synced ∷ []) old (inr refl)) (λ r s left same. inl same)
+
+-- what a making leaves, at each moment and behind it
+pub record Makes (first : NetData) (old new : State) (before after : List HostEvent) : Type 0 where
+  pub stops : Steps (MaybeMade first) (stops_of old (reverse before)) (stops_of new (reverse after))
+  pub storing : Storing first old new
+  pub sure : (s : State) → Left new (reverse after) s → s.cell ≡ new.cell
+  pub consistent : IsTouched old.cell (map (touch_of 0) (reverse before)) → IsTouched new.cell (map (touch_of 0) (reverse after))
+
+module _ (first : NetData) (before after closing : List HostEvent) (old new : State) (none : old.net ≡ None) (stored : new.net ≡ Some first) (is : after ≡ before ++ (closing ++ Changed None ∷ [])) where
+  -- the last events of a making are a sync and the storing
+  last_two : (rest : List HostEvent) → after ≡ (rest ++ Synced ∷ []) ++ Changed None ∷ [] → reverse after ≡ Changed None ∷ (Synced ∷ reverse rest)
+  last_two rest two = newest (rest ++ Synced ∷ []) after (Changed None) two ∙ ap (λ (l : List HostEvent). Changed None ∷ l) (newest rest _ Synced refl)
+
+  surely : (rest : List HostEvent) → after ≡ (rest ++ Synced ∷ []) ++ Changed None ∷ [] → (s : State) → Left new (reverse after) s → s.cell ≡ new.cell
+  surely rest two s left = by (subst (λ (l : List HostEvent). Left new l s) (last_two rest two) left)
+    where
+      by : Left new (Changed None ∷ (Synced ∷ reverse rest)) s → s.cell ≡ new.cell
       by (inl same) = λ i. (same i).cell
       by (inr (r, there, c, net)) = c ∙ there.1
+
+  made_closed : WasClosed old.cell new.cell closing → Makes first old new before after
+  made_closed was =
+      record {
+        stops = subst (λ (l : List HostEvent). Steps (MaybeMade first) (stops_of old (reverse before)) (stops_of new (reverse l))) (sym two)
+            (stored_after first (before ++ Synced ∷ []) old new none stored was.bytes (stops_of old (reverse before)) was.closed (sync_sure before (before ++ Synced ∷ []) old refl) (shut_already before old));
+        storing = record {
+          net = inr stored;
+          closed = subst (λ (l : List ℕ). get_or l 0 1 ≢ 1) (sym was.bytes) was.closed;
+          gate = subst (λ (l : List ℕ). Torn 0 1 old.cell l) (sym was.bytes) (torn_same 0 1 old.cell);
+          kept = λ shut. was.bytes;
+        };
+        sure = surely before two;
+        consistent = λ touched. subst (λ (l : List HostEvent). IsTouched new.cell (map (touch_of 0) l)) (sym (last_two before two))
+            (subst (λ (l : List ℕ). IsTouched l (map (touch_of 0) (reverse before))) (sym was.bytes) touched);
+      }
+    where
+      two : after ≡ (before ++ Synced ∷ []) ++ Changed None ∷ []
+      two = is ∙ ap (λ (l : List HostEvent). before ++ (l ++ Changed None ∷ [])) was.pushed ∙ sym (append_assoc before (Synced ∷ []) (Changed None ∷ []))
+
+  made_open : WasOpen old.cell new.cell closing → Makes first old new before after
+  made_open was =
+      record {
+        stops = subst (λ (l : List HostEvent). Steps (MaybeMade first) (stops_of old (reverse before)) (stops_of new (reverse l))) (sym two)
+            (stored_after first (rest ++ Synced ∷ []) mid new none stored refl (stops_of old (reverse before)) (closed old.cell new.cell was.written) (sync_sure rest (rest ++ Synced ∷ []) mid refl)
+            (opening before was.before old mid none was.opened was.items refl was.written.torn));
+        storing = record {
+          net = inr stored;
+          closed = closed old.cell new.cell was.written;
+          gate = was.written.torn;
+          kept = λ shut. absurd (shut was.opened);
+        };
+        sure = surely rest two;
+        consistent = λ touched. subst (λ (l : List HostEvent). IsTouched new.cell (map (touch_of 0) l)) (sym (last_two rest two ∙ ap (λ (l : List HostEvent). Changed None ∷ (Synced ∷ l)) (newest (before ++ Synced ∷ []) rest (Wrote 0 1 was.before) refl ∙ ap (λ (l : List HostEvent). Wrote 0 1 was.before ∷ l) (newest before _ Synced refl))))
+            (subst (λ (l : List ℕ). Torn 0 1 l new.cell) (sym was.items) was.written.torn, subst (λ (l : List ℕ). IsTouched l (map (touch_of 0) (reverse before))) (sym was.items) touched);
+      }
+    where
+      mid : State
+      mid = record { net = old.net; cell = new.cell }
+
+      rest : List HostEvent
+      rest = (before ++ Synced ∷ []) ++ Wrote 0 1 was.before ∷ []
+
+      two : after ≡ (rest ++ Synced ∷ []) ++ Changed None ∷ []
+      two = is ∙ ap (λ (l : List HostEvent). before ++ (l ++ Changed None ∷ [])) was.pushed
+          ∙ sym (append_assoc rest (Synced ∷ []) (Changed None ∷ []) ∙ append_assoc (before ++ Synced ∷ []) (Wrote 0 1 was.before ∷ []) (Synced ∷ (Changed None ∷ [])) ∙ append_assoc before (Synced ∷ []) (Wrote 0 1 was.before ∷ (Synced ∷ (Changed None ∷ []))))
+
+  -- a making over a closed gate, or over an open one
+  pub makes : IsClosing old.cell new.cell closing → Makes first old new before after
+  makes (inl was) = made_closed was
+  makes (inr was) = made_open was

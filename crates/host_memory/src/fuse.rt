@@ -14,7 +14,7 @@ pub struct Fuse {
 }
 
 /// The calls that are to fail, and how many were made.
-#[derive(Debug, Drop)]
+#[derive(Drop)]
 pub struct Fuses {
     fuses: Vec<Fuse>,
     made: u64,

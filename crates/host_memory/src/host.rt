@@ -2,9 +2,9 @@
 ghost use Rattle.std.specs.Prelude.{◌≡◌, ◌≢◌, ◌⊎◌, ◌<◌, ◌≤◌, ◌+◌, ◌^◌, ℕ, [], ◌∷◌, length, get_or, map, reverse, None, Some, false, IfOk, OnOk, OnErr, IsErrOf, IsSome, option_map};
 ghost use Rattle.host_core.specs.Bytes.{Torn, Written, Filled};
 ghost use Rattle.host_core.specs.Faults.{HasCause, HasFault, one_more};
-ghost use Rattle.host_core.specs.HostView.{State, HasCell, Accepts, Refuses, MaybeCalled, SameCell, SameKernel, Untouched, CellTorn, IsFirst, IsMade, MaybeMade, counted, refused, dumped};
+ghost use Rattle.host_core.specs.HostView.{State, HasCell, Accepts, Refuses, MaybeCalled, SameCell, SameKernel, Untouched, CellTorn, IsFirst, IsMade, Storing, MaybeMade, counted, refused, dumped};
 ghost use Rattle.host_core.specs.Stops.{Steps, Stays};
-ghost use Rattle.host_memory.specs.HostRecord.{Left, stops_of, IsAsBefore};
+ghost use Rattle.host_memory.specs.HostRecord.{Left, stops_of, IsAsBefore, IsClosing};
 ghost use Rattle.host_memory.specs.HostStopped.{touch_of};
 ghost use Rattle.host_memory.specs.Touches.{IsTouched, IsTouched-prop};
 
@@ -118,6 +118,17 @@ impl MemoryHost {
         self.calls = raised(self.calls);
         self.fresh = false;
     }
+
+    /// Counts a kernel call that is refused with this number, whatever the network says of it.
+    pub fn refuse(&mut self, number: u8)
+        ensures { self.new ≡ record self.old { calls = one_more self.old.calls; fresh = false; refusals = one_more self.old.refusals; last_number = number; last_call = one_more self.old.calls } }
+    {
+        self.calls = raised(self.calls);
+        self.fresh = false;
+        self.refusals = raised(self.refusals);
+        self.last_number = number;
+        self.last_call = self.calls;
+    }
 }
 
 fn copied(net: &Option<Net>) -> Result<Option<Net>, OutOfMemory>
@@ -129,19 +140,31 @@ fn copied(net: &Option<Net>) -> Result<Option<Net>, OutOfMemory>
     }
 }
 
-// What a making does: the gate is written and synced, and a network stands where none was.
-fn making(alloc: Global, before: Vec<u8>) -> Result<Vec<HostEvent>, AllocError>
-    ensures { IfOk result (λ events. events.items ≡ HostEvent.Wrote 0 1 before ∷ (HostEvent.Synced ∷ (HostEvent.Changed None ∷ []))) }
+// The gate of these bytes, or an open one where there are none.
+fn gate(cell: &[u8]) -> u8
+    ensures { result ≡ get_or cell.now 0 1 }
+{
+    cell.first().copied().unwrap_or(1)
+}
+
+// The bytes behind a closed gate and what closing it does: a sync and, where the gate is open or there is none, its
+// write and another sync.
+fn closing(alloc: Global, cell: &[u8]) -> Result<(Vec<u8>, Vec<HostEvent>), AllocError>
+    ensures { IfOk result (λ both. IsClosing cell.now both.0.items both.1.items) }
 {
     let mut events = Vec::new(alloc);
+    events.push(HostEvent::Synced)?;
+    if gate(cell) != 1 {
+        return Ok((cell.to_vec(alloc)?, events));
+    }
+    let next = rewritten(alloc, cell, 0, &[0], true)?;
     events.push(HostEvent::Wrote {
         at: 0,
         len: 1,
-        before,
+        before: cell.to_vec(alloc)?,
     })?;
     events.push(HostEvent::Synced)?;
-    events.push(HostEvent::Changed(None))?;
-    Ok(events)
+    Ok((next, events))
 }
 
 // Closes the checkpoint and stores the first network, and records it. All memory is taken first.
@@ -154,7 +177,8 @@ fn made(
 ) -> Result<(), OutOfMemory>
     requires { net.old ≡ None }
     ensures net { OnOk result (net.new ≡ Some first.now) }
-    ensures closed { OnOk result (get_or cell.new.items 0 1 ≢ 1) }
+    ensures storing { OnOk result (Storing first.now (record { net = net.old; cell = cell.old.items }) (record { net = net.new; cell = cell.new.items })) }
+    ensures maybe { MaybeMade first.now (record { net = net.old; cell = cell.old.items }) (record { net = net.new; cell = cell.new.items }) }
     ensures sure { OnOk result ((s : State) → Left (record { net = net.new; cell = cell.new.items }) (reverse events.new.items) s → s.cell ≡ cell.new.items) }
     ensures consistent { IsTouched cell.old.items (map (touch_of 0) (reverse events.old.items)) → IsTouched cell.new.items (map (touch_of 0) (reverse events.new.items)) }
     ensures same_net { OnErr result (net.new ≡ net.old) }
@@ -163,8 +187,8 @@ fn made(
         (stops_of (record { net = net.new; cell = cell.new.items }) (reverse events.new.items)) }
 {
     let copy = first.copy()?;
-    let next = rewritten(alloc, cell, 0, &[0], true)?;
-    let mut making = making(alloc, cell.to_vec(alloc)?)?;
+    let (next, mut making) = closing(alloc, cell)?;
+    making.push(HostEvent::Changed(None))?;
     events.append(&mut making)?;
     *cell = next;
     *net = Some(copy);
@@ -188,7 +212,7 @@ impl Host for MemoryHost {
         requires { IsFirst first.now }
         ensures exists { IsErrOf result MakeFault.Exists → IsSome (told_of self.old).state.net }
         ensures met { OnOk result ((told_of self.old).state.net ≡ None) }
-        ensures made { OnOk result (IsMade first.now (told_of self.new)) }
+        ensures made { OnOk result (IsMade first.now (told_of self.old).state (told_of self.new)) }
         ensures stays { IsSome (told_of self.old).state.net → Steps Stays (told_of self.old).stops (told_of self.new).stops × ((told_of self.new).state ≡ (told_of self.old).state) }
         ensures same { IsErrOf result MakeFault.OutOfMemory → Steps Stays (told_of self.old).stops (told_of self.new).stops × ((told_of self.new).state ≡ (told_of self.old).state) }
         ensures maybe { MaybeMade first.now (told_of self.old).state (told_of self.new).state }

@@ -256,8 +256,8 @@ closed_filled : (bytes : List ℕ) → (get_or bytes 0 1 ≡ 1 → ⊥) → byte
 closed_filled bytes closed none = closed (ap (λ (b : List ℕ). get_or b 0 1) none)
 
 -- where a network was made, it stands alone, and each stop can be recovered from
-pub made_at : (first : NetData) (host : HostView) → IsMade first host → IsAt (restored_to first) host
-made_at first host is = record {
+pub made_at : (first : NetData) (old : State) (host : HostView) → IsMade first old host → IsAt (restored_to first) host
+made_at first old host is = record {
   sound = record {
     fit = λ s left. record {
       whole = λ checkpoint set.

@@ -22,7 +22,7 @@ use Rattle.engine_model.specs.declared.ApplyFault.{ApplyFault}
 use Rattle.engine_model.specs.declared.ApplyFault.TheVariants as ap_
 use Rattle.engine_model.specs.declared.BackFault.{BackFault}
 use Rattle.engine_model.specs.declared.BackFault.TheVariants as ba
-use Rattle.scenario_model.specs.Saying.{Past, past_of, host_at, MakeSays, StepSays, RunSays, WorkSays}
+use Rattle.scenario_model.specs.Saying.{Past, past_of, host_at, IsPast, MakeSays, StepSays, RunSays, WorkSays}
 use Rattle.scenario_model.specs.declared.Summary.{Summary}
 use Rattle.scenario_model.specs.declared.WorkFault.{WorkFault}
 use Rattle.scenario_model.specs.declared.WorkFault.TheVariants.{Make, Dump, Apply, Merge, Back, OutOfMemory}
@@ -32,17 +32,29 @@ use Rattle.scenario.specs.Stages.{NoPlan, NotMade, IsOneOf}
 pub rose_after : (a b c : ℕ) → a ≤ b → Rose b c → Rose a c
 rose_after a b c le rose = omega (arith, le, rose)
 
-module _ (tells : Type 0) (first second : Doc) (a b : ℕ) (le : a ≤ b) (new : HostView) where
+-- a later moment than a later one
+pub past_on : (tells : Type 0) (a b c : Past) → IsPast tells a b → IsPast tells b c → IsPast tells a c
+past_on tells a b c one two = record {
+  faults = omega (arith, one.faults, two.faults);
+  quiet = record { refusals = two.quiet.refusals ∙ one.quiet.refusals; last = two.quiet.last ∙ one.quiet.last };
+  moment = λ told. omega (arith, one.moment told, two.moment told);
+}
+
+-- the same moment
+pub past_here : (tells : Type 0) (a : Past) → IsPast tells a a
+past_here tells a = record { faults = omega arith; quiet = record { refusals = refl; last = refl }; moment = λ told. omega arith }
+
+module _ (tells : Type 0) (first second : Doc) (a b : Past) (le : IsPast tells a b) (new : HostView) where
   -- a fault that was met since later was met since before
   pub step_says_from : (fault : WorkFault) → StepSays tells first second b new fault → StepSays tells first second a new fault
   step_says_from (Make f) s = absurd s
-  step_says_from (Dump du.Failed) s = rose_after a b new.faults le s
+  step_says_from (Dump du.Failed) s = rose_after a.faults b.faults new.faults le.faults s
   step_says_from (Dump du.Damaged) s = s
   step_says_from (Dump du.OutOfMemory) s = tt
-  step_says_from (Apply f) s = record { asked = s.asked; is = s.is; past = s.past; later = omega (arith, le, s.later); says = s.says }
+  step_says_from (Apply f) s = record { asked = s.asked; is = s.is; past = s.past; later = past_on tells a b s.past le s.later; says = s.says }
   step_says_from (Merge (me.Refused r)) s = s
   step_says_from (Merge me.OutOfMemory) s = tt
-  step_says_from (Back f) s = record { past = s.past; later = omega (arith, le, s.later); says = s.says }
+  step_says_from (Back f) s = record { past = s.past; later = past_on tells a b s.past le s.later; says = s.says }
   step_says_from OutOfMemory s = tt
 
   -- the same of the answer of a run
@@ -80,14 +92,14 @@ back_past tells machine old new ba.OutOfMemory s = tt
 
 -- ---- where no plan was made
 
-module _ (tells : Type 0) (first second doc : Doc) (is : IsOneOf first second doc) (from : NetData) (faults : ℕ) (new : HostView) (dumped : tells → new.fresh ≡ Some from) where
+module _ (tells : Type 0) (first second doc : Doc) (is : IsOneOf first second doc) (from : NetData) (start : Past) (new : HostView) (dumped : tells → new.fresh ≡ Some from) where
   breaks : (r : Refused) → merge from doc ≡ Err r → (merge from first ≡ Err r) ⊎ (merge from second ≡ Err r)
   breaks r broken = elim is [
     | inl one ↦ inl (subst (λ (d : Doc). merge from d ≡ Err r) one broken)
     | inr two ↦ inr (subst (λ (d : Doc). merge from d ≡ Err r) two broken)
   ]
 
-  pub no_plan_says : (fault : WorkFault) → NoPlan doc from fault → StepSays tells first second faults new fault
+  pub no_plan_says : (fault : WorkFault) → NoPlan doc from fault → StepSays tells first second start new fault
   no_plan_says (Merge (me.Refused r)) s = record { from = from; dumped = dumped; breaks = breaks r s }
   no_plan_says (Merge me.OutOfMemory) s = tt
   no_plan_says OutOfMemory s = tt
@@ -104,7 +116,7 @@ no_merge doc from me.OutOfMemory broken = tt
 -- ---- why the host gave no network, and why none was made
 
 pub dump_says : (tells : Type 0) (first second : Doc) (old new : HostView) (fault : DumpFault) → (fault ≡ du.Failed → Rose old.faults new.faults) → (tells → fault ≡ du.Damaged → old.state.net ≡ None)
-    → (tells → new.state ≡ old.state) → StepSays tells first second old.faults new (Dump fault)
+    → (tells → new.state ≡ old.state) → StepSays tells first second (past_of old) new (Dump fault)
 dump_says tells first second old new du.Failed rose damaged state = rose refl
 dump_says tells first second old new du.Damaged rose damaged state = λ t. ap (λ (s : State). s.net) (state t) ∙ damaged t refl
 dump_says tells first second old new du.OutOfMemory rose damaged state = tt
@@ -118,7 +130,7 @@ make_says tells old new ma.OutOfMemory rose exists stays same = λ t. let still 
 
 -- ---- the whole run
 
-pub work_says : (tells : Type 0) (first second : Doc) (old new : HostView) (result : Result Summary WorkFault) → RunSays tells first second old.faults new result → WorkSays tells first second old new result
+pub work_says : (tells : Type 0) (first second : Doc) (old new : HostView) (result : Result Summary WorkFault) → RunSays tells first second (past_of old) new result → WorkSays tells first second old new result
 work_says tells first second old new (Ok summary) s = s
 work_says tells first second old new (Err (Make f)) s = absurd s
 work_says tells first second old new (Err (Dump f)) s = s

@@ -10,7 +10,7 @@ ghost use Rattle.engine_model.specs.Merge.{merge};
 ghost use Rattle.engine_model.specs.Machine.{asked, changed};
 ghost use Rattle.engine_model.specs.Undone.{stand};
 ghost use Rattle.scenario_model.specs.Asking.{options, IsChange};
-ghost use Rattle.scenario_model.specs.Saying.{StepSays};
+ghost use Rattle.scenario_model.specs.Saying.{StepSays, IsPast, past_of};
 ghost use Rattle.scenario_model.specs.Answering.{StepAnswers};
 ghost use Rattle.scenario.specs.Stages.{IsAt};
 
@@ -41,9 +41,10 @@ pub fn change<H: Host>(
     now: u64,
 ) -> Result<(), WorkFault>
     requires { is_document doc.now ≡ true }
-    ensures says { (first second : Doc) → IsChange first second (asked doc.now opts.now now) → IfErr result (λ fault. StepSays H.tells first second (H.told host.old).faults (H.told host.new) fault) }
+    ensures says { (first second : Doc) → IsChange first second (asked doc.now opts.now now) → IfErr result (λ fault. StepSays H.tells first second (past_of (H.told host.old)) (H.told host.new) fault) }
     ensures answer { H.honest → (from : NetData) → IsAt (restored_to from) (H.told host.old) → IfErr result (λ fault. StepAnswers (merge from doc.now) (H.told host.old).faults (H.told host.new) fault) }
     ensures done { H.honest → (from : NetData) → IsAt (restored_to from) (H.told host.old) → OnOk result ((to : NetData) × (merge from doc.now ≡ Ok to) × IsAt (changed (asked doc.now opts.now now) from to).after (H.told host.new)) }
+    ensures follows { OnOk result (IsPast H.tells (past_of (H.told host.old)) (past_of (H.told host.new))) }
     ensures later { (H.told host.old).faults ≤ (H.told host.new).faults }
 {
     match apply(host, alloc, doc, opts, now) {
@@ -54,10 +55,11 @@ pub fn change<H: Host>(
 
 // Takes back a change that waits.
 fn take_back<H: Host>(host: &mut H, alloc: Global) -> Result<(), WorkFault>
-    ensures says { (first second : Doc) → IfErr result (λ fault. StepSays H.tells first second (H.told host.old).faults (H.told host.new) fault) }
+    ensures says { (first second : Doc) → IfErr result (λ fault. StepSays H.tells first second (past_of (H.told host.old)) (H.told host.new) fault) }
     ensures answer { H.honest → (c : Checkpoint) (from to : NetData) → c.net ≡ Some from → IsAt (stand to (Some c)) (H.told host.old)
         → (made : Result NetData Refused) → IfErr result (λ fault. StepAnswers made (H.told host.old).faults (H.told host.new) fault) }
     ensures done { H.honest → (c : Checkpoint) (from to : NetData) → c.net ≡ Some from → IsAt (stand to (Some c)) (H.told host.old) → OnOk result (IsAt (restored_to from) (H.told host.new)) }
+    ensures follows { OnOk result (IsPast H.tells (past_of (H.told host.old)) (past_of (H.told host.new))) }
     ensures later { (H.told host.old).faults ≤ (H.told host.new).faults }
 {
     match rollback(host, alloc) {
@@ -69,9 +71,10 @@ fn take_back<H: Host>(host: &mut H, alloc: Global) -> Result<(), WorkFault>
 /// Makes the change that a document wants without commit, and takes it back.
 pub fn try_out<H: Host>(host: &mut H, alloc: Global, doc: &Doc) -> Result<(), WorkFault>
     requires { is_document doc.now ≡ true }
-    ensures says { (second : Doc) → IfErr result (λ fault. StepSays H.tells doc.now second (H.told host.old).faults (H.told host.new) fault) }
+    ensures says { (second : Doc) → IfErr result (λ fault. StepSays H.tells doc.now second (past_of (H.told host.old)) (H.told host.new) fault) }
     ensures answer { H.honest → (from : NetData) → IsAt (restored_to from) (H.told host.old) → IfErr result (λ fault. StepAnswers (merge from doc.now) (H.told host.old).faults (H.told host.new) fault) }
     ensures done { H.honest → (from : NetData) → IsAt (restored_to from) (H.told host.old) → OnOk result (IsAt (restored_to from) (H.told host.new)) }
+    ensures follows { OnOk result (IsPast H.tells (past_of (H.told host.old)) (past_of (H.told host.new))) }
     ensures later { (H.told host.old).faults ≤ (H.told host.new).faults }
 {
     let opts = options(true);

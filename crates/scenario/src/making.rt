@@ -2,6 +2,7 @@
 ghost use Rattle.std.specs.Prelude.{◌≡◌, ◌≤◌, true, IfOk, IfErr, OnOk};
 ghost use Rattle.host_core.specs.HostView.{IsMade};
 ghost use Rattle.scenario_model.specs.Asking.{is_hardware, first_net};
+ghost use Rattle.scenario_model.specs.Saying.{IsPast, past_of};
 ghost use Rattle.scenario.specs.Stages.{NotMade};
 
 use base_model::{Items, OutOfMemory};
@@ -41,8 +42,9 @@ pub fn make_first<H: Host>(
     devices: &Vec<Link>,
 ) -> Result<(), WorkFault>
     requires { is_hardware devices.now.items ≡ true }
-    ensures made { H.tells → OnOk result (IsMade (first_net devices.now.items) (H.told host.new)) }
+    ensures made { H.tells → OnOk result (IsMade (first_net devices.now.items) (H.told host.old).state (H.told host.new)) }
     ensures says { IfErr result (λ fault. NotMade H.tells (H.told host.old) (H.told host.new) fault) }
+    ensures follows { OnOk result (IsPast H.tells (past_of (H.told host.old)) (past_of (H.told host.new))) }
     ensures later { (H.told host.old).faults ≤ (H.told host.new).faults }
 {
     let first = match first_net(alloc, devices) {

@@ -8,7 +8,7 @@ ghost use Rattle.document_model.specs.Entries.{is_document};
 ghost use Rattle.host_core.specs.Stops.{Steps, Stays};
 ghost use Rattle.engine_model.specs.Merge.{merge};
 ghost use Rattle.scenario_model.specs.Counts.{IsPlanned, HasPlan};
-ghost use Rattle.scenario_model.specs.Saying.{StepSays};
+ghost use Rattle.scenario_model.specs.Saying.{StepSays, IsPast, past_of};
 ghost use Rattle.scenario_model.specs.Answering.{StepAnswers};
 ghost use Rattle.scenario.specs.Stages.{HasLength, NoPlan, IsOneOf};
 
@@ -69,8 +69,9 @@ pub fn count_calls<H: Host>(host: &mut H, alloc: Global, doc: &Doc) -> Result<u3
     ensures stops { Steps Stays (H.told host.old).stops (H.told host.new).stops }
     ensures plan { IfOk result (λ count. HasPlan doc.now count) }
     ensures counts { H.honest → (from : NetData) → (H.told host.old).state.net ≡ Some from → IfOk result (λ count. (to : NetData) × IsPlanned doc.now from to count) }
-    ensures says { (first second : Doc) → IsOneOf first second doc.now → IfErr result (λ fault. StepSays H.tells first second (H.told host.old).faults (H.told host.new) fault) }
+    ensures says { (first second : Doc) → IsOneOf first second doc.now → IfErr result (λ fault. StepSays H.tells first second (past_of (H.told host.old)) (H.told host.new) fault) }
     ensures answer { H.honest → (from : NetData) → (H.told host.old).state.net ≡ Some from → IfErr result (λ fault. StepAnswers (merge from doc.now) (H.told host.old).faults (H.told host.new) fault) }
+    ensures follows { IsPast H.tells (past_of (H.told host.old)) (past_of (H.told host.new)) }
     ensures later { (H.told host.old).faults ≤ (H.told host.new).faults }
 {
     match host.dump(alloc) {

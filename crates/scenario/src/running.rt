@@ -5,7 +5,7 @@ ghost use Rattle.document_model.specs.declared.Doc.{Doc};
 ghost use Rattle.document_model.specs.Entries.{is_document};
 ghost use Rattle.checkpoint_cell.specs.Settled.{restored_to};
 ghost use Rattle.scenario_model.specs.Counts.{IsPlanned, HasPlan};
-ghost use Rattle.scenario_model.specs.Saying.{RunSays};
+ghost use Rattle.scenario_model.specs.Saying.{RunSays, past_of};
 ghost use Rattle.scenario_model.specs.Answering.{RunAnswers};
 ghost use Rattle.scenario.specs.Stages.{IsAt};
 
@@ -24,7 +24,7 @@ fn summarize<H: Host>(
     first_calls: u32,
     second_calls: u32,
 ) -> Result<Summary, WorkFault>
-    ensures says { (first second : Doc) → HasPlan first first_calls → HasPlan second second_calls → RunSays H.tells first second (H.told host.old).faults (H.told host.new) result }
+    ensures says { (first second : Doc) → HasPlan first first_calls → HasPlan second second_calls → RunSays H.tells first second (past_of (H.told host.old)) (H.told host.new) result }
     ensures answer { H.honest → (first second : Doc) (from middle last : NetData) → IsPlanned first from middle first_calls → IsPlanned second middle last second_calls → IsAt (restored_to last) (H.told host.old)
         → RunAnswers from first second (H.told host.old).faults (H.told host.new) result }
     ensures later { (H.told host.old).faults ≤ (H.told host.new).faults }
@@ -44,7 +44,7 @@ fn apply_second<H: Host>(
     second_calls: u32,
 ) -> Result<Summary, WorkFault>
     requires { is_document second.now ≡ true }
-    ensures says { (first : Doc) → HasPlan first first_calls → HasPlan second.now second_calls → RunSays H.tells first second.now (H.told host.old).faults (H.told host.new) result }
+    ensures says { (first : Doc) → HasPlan first first_calls → HasPlan second.now second_calls → RunSays H.tells first second.now (past_of (H.told host.old)) (H.told host.new) result }
     ensures answer { H.honest → (first : Doc) (from middle last : NetData) → IsPlanned first from middle first_calls → IsPlanned second.now middle last second_calls → IsAt (restored_to middle) (H.told host.old)
         → RunAnswers from first second.now (H.told host.old).faults (H.told host.new) result }
     ensures later { (H.told host.old).faults ≤ (H.told host.new).faults }
@@ -64,7 +64,7 @@ fn plan_second<H: Host>(
     first_calls: u32,
 ) -> Result<Summary, WorkFault>
     requires { is_document second.now ≡ true }
-    ensures says { (first : Doc) → HasPlan first first_calls → RunSays H.tells first second.now (H.told host.old).faults (H.told host.new) result }
+    ensures says { (first : Doc) → HasPlan first first_calls → RunSays H.tells first second.now (past_of (H.told host.old)) (H.told host.new) result }
     ensures answer { H.honest → (first : Doc) (from middle : NetData) → IsPlanned first from middle first_calls → IsAt (restored_to middle) (H.told host.old)
         → RunAnswers from first second.now (H.told host.old).faults (H.told host.new) result }
     ensures later { (H.told host.old).faults ≤ (H.told host.new).faults }
@@ -85,7 +85,7 @@ fn apply_first<H: Host>(
 ) -> Result<Summary, WorkFault>
     requires first { is_document first.now ≡ true }
     requires second { is_document second.now ≡ true }
-    ensures says { HasPlan first.now first_calls → RunSays H.tells first.now second.now (H.told host.old).faults (H.told host.new) result }
+    ensures says { HasPlan first.now first_calls → RunSays H.tells first.now second.now (past_of (H.told host.old)) (H.told host.new) result }
     ensures answer { H.honest → (from middle : NetData) → IsPlanned first.now from middle first_calls → IsAt (restored_to from) (H.told host.old)
         → RunAnswers from first.now second.now (H.told host.old).faults (H.told host.new) result }
     ensures later { (H.told host.old).faults ≤ (H.told host.new).faults }
@@ -107,7 +107,7 @@ fn try_first<H: Host>(
 ) -> Result<Summary, WorkFault>
     requires first { is_document first.now ≡ true }
     requires second { is_document second.now ≡ true }
-    ensures says { HasPlan first.now first_calls → RunSays H.tells first.now second.now (H.told host.old).faults (H.told host.new) result }
+    ensures says { HasPlan first.now first_calls → RunSays H.tells first.now second.now (past_of (H.told host.old)) (H.told host.new) result }
     ensures answer { H.honest → (from middle : NetData) → IsPlanned first.now from middle first_calls → IsAt (restored_to from) (H.told host.old)
         → RunAnswers from first.now second.now (H.told host.old).faults (H.told host.new) result }
     ensures later { (H.told host.old).faults ≤ (H.told host.new).faults }
@@ -127,7 +127,7 @@ pub fn run<H: Host>(
 ) -> Result<Summary, WorkFault>
     requires first { is_document first.now ≡ true }
     requires second { is_document second.now ≡ true }
-    ensures says { RunSays H.tells first.now second.now (H.told host.old).faults (H.told host.new) result }
+    ensures says { RunSays H.tells first.now second.now (past_of (H.told host.old)) (H.told host.new) result }
     ensures answer { H.honest → (from : NetData) → IsAt (restored_to from) (H.told host.old) → RunAnswers from first.now second.now (H.told host.old).faults (H.told host.new) result }
     ensures later { (H.told host.old).faults ≤ (H.told host.new).faults }
 {

@@ -5,7 +5,7 @@ use Rattle.document_model.specs.declared.Doc.{Doc}
 use Rattle.document_model.specs.declared.Refused.{Refused as Refusal}
 use Rattle.merge_model.specs.declared.fault.MergeFault.TheVariants as me
 use Rattle.host_core.specs.Faults.{Rose}
-use Rattle.host_core.specs.HostView.{State, Kernel, HostView}
+use Rattle.host_core.specs.HostView.{State, Kernel, HostView, NoneRefused}
 use Rattle.host_core.specs.Stops.{Steps, Stays}
 use Rattle.host_core.specs.declared.MakeFault.{MakeFault}
 use Rattle.host_core.specs.declared.MakeFault.TheVariants as ma
@@ -49,18 +49,24 @@ pub record IsUnmoved (old new : HostView) : Type 0 where
   pub stops : Steps Stays old.stops new.stops
   pub state : new.state ≡ old.state
 
--- one of the changes was answered so, when the host had counted at least so many faults
-pub record ChangeSays (tells : Type 0) (first second : Doc) (faults : ℕ) (new : HostView) (fault : ApplyFault) : Type 0 where
+-- a later moment of the run, before which no call was refused
+pub record IsPast (tells : Type 0) (start past : Past) : Type 0 where
+  pub faults : start.faults ≤ past.faults
+  pub quiet : NoneRefused start.kernel past.kernel
+  pub moment : tells → start.moment ≤ past.moment
+
+-- one of the changes was answered so, from a later moment of the run
+pub record ChangeSays (tells : Type 0) (first second : Doc) (start : Past) (new : HostView) (fault : ApplyFault) : Type 0 where
   pub asked : Asked
   pub is : IsChange first second asked
   pub past : Past
-  pub later : faults ≤ past.faults
+  pub later : IsPast tells start past
   pub says : ApplySays tells asked (host_at past) new (Err fault)
 
 -- the taking back was answered so
-pub record ReturnSays (tells : Type 0) (faults : ℕ) (new : HostView) (fault : BackFault) : Type 0 where
+pub record ReturnSays (tells : Type 0) (start : Past) (new : HostView) (fault : BackFault) : Type 0 where
   pub past : Past
-  pub later : faults ≤ past.faults
+  pub later : IsPast tells start past
   pub says : BackSays tells (rollback (standing past.state)).answer (host_at past) new (Err fault)
 
 -- one of the documents breaks a rule on what was dumped last
@@ -89,22 +95,22 @@ DumpSays tells faults new du.Failed = Rose faults new.faults
 DumpSays tells faults new du.Damaged = tells → new.state.net ≡ None
 DumpSays tells faults new du.OutOfMemory = Unit {0}
 
--- why a step behind the making failed, from when the host had counted so many faults
-abbrev pub StepSays : Type 0 → Doc → Doc → ℕ → HostView → WorkFault → Type 0
-StepSays tells first second faults new (Make fault) = ⊥
-StepSays tells first second faults new (Dump fault) = DumpSays tells faults new fault
-StepSays tells first second faults new (Apply fault) = ChangeSays tells first second faults new fault
-StepSays tells first second faults new (Merge (me.Refused refused)) = MergeSays tells first second new refused
-StepSays tells first second faults new (Merge me.OutOfMemory) = Unit {0}
-StepSays tells first second faults new (Back fault) = ReturnSays tells faults new fault
-StepSays tells first second faults new OutOfMemory = Unit {0}
+-- why a step behind the making failed, from where the run began
+abbrev pub StepSays : Type 0 → Doc → Doc → Past → HostView → WorkFault → Type 0
+StepSays tells first second start new (Make fault) = ⊥
+StepSays tells first second start new (Dump fault) = DumpSays tells start.faults new fault
+StepSays tells first second start new (Apply fault) = ChangeSays tells first second start new fault
+StepSays tells first second start new (Merge (me.Refused refused)) = MergeSays tells first second new refused
+StepSays tells first second start new (Merge me.OutOfMemory) = Unit {0}
+StepSays tells first second start new (Back fault) = ReturnSays tells start new fault
+StepSays tells first second start new OutOfMemory = Unit {0}
 
 -- of a run behind the making
-abbrev pub RunSays : Type 0 → Doc → Doc → ℕ → HostView → Result Summary WorkFault → Type 0
-RunSays tells first second faults new (Ok summary) = SummarySays tells first second new summary
-RunSays tells first second faults new (Err fault) = StepSays tells first second faults new fault
+abbrev pub RunSays : Type 0 → Doc → Doc → Past → HostView → Result Summary WorkFault → Type 0
+RunSays tells first second start new (Ok summary) = SummarySays tells first second new summary
+RunSays tells first second start new (Err fault) = StepSays tells first second start new fault
 
 -- of the whole run
 abbrev pub WorkSays : Type 0 → Doc → Doc → HostView → HostView → Result Summary WorkFault → Type 0
 WorkSays tells first second old new (Err (Make fault)) = MakeSays tells old new fault
-WorkSays tells first second old new result = RunSays tells first second old.faults new result
+WorkSays tells first second old new result = RunSays tells first second (past_of old) new result

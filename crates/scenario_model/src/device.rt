@@ -20,7 +20,7 @@ pub const RULE_TABLE: u32 = 100;
 pub const RAISED_MTU: u32 = 9000;
 
 /// A device, with the numbers that were drawn for it.
-#[derive(Clone, Copy, Debug, PartialEq, Eq)]
+#[derive(Clone, Copy, PartialEq, Eq)]
 pub struct Device {
     /// From 1.
     pub number: u8,
@@ -30,7 +30,7 @@ pub struct Device {
 }
 
 /// The trees of a workload.
-#[derive(Debug, PartialEq, Eq, Drop)]
+#[derive(PartialEq, Eq, Drop)]
 pub struct Inputs {
     /// A hardware list.
     pub hardware: Tree,

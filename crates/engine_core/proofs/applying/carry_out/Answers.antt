@@ -1,4 +1,4 @@
-use Rattle.std.proofs.Common.{◌≡◌, arith, inl, inr, Some, Err, ap, subst, sym, refl}
+use Rattle.std.proofs.Common.{◌≡◌, false, arith, inl, inr, Some, Err, ap, subst, sym, refl}
 use Rattle.kernel_model.specs.Runs.{Runs}
 use Rattle.host_core.specs.HostView.{State}
 use Rattle.checkpoint_cell.specs.Settled.{Standing}
@@ -12,10 +12,12 @@ use Rattle.engine_model.proofs.lemmas.Leading.{kept_on, kept_wider, near_kept, n
 use Rattle.std.proofs.lemmas.Result.{on_ok_weaker}
 use Rattle.engine_core.proofs.Calms.{calm_on}
 use Rattle.engine_core.proofs.Attempts.{way_back}
+use Rattle.engine_core.proofs.Exacts.{finished_hurt}
 use Rattle.engine_core.proofs.Gives.{gave_up_exit, sealed_near, way_either, finished_exit}
 use Rattle.engine_model.specs.declared.answers.Left.TheVariants.{NotBegun}
 use Rattle.engine_model.specs.declared.answers.ApplyFault.TheVariants.{HostFault}
-use Rattle.engine_core.proofs.Says.{finished_says, finished_begun}
+use Rattle.engine_core.proofs.Says.{finished_says, finished_begun, quiet_on, quiet_same}
+use Rattle.engine_core.proofs.Tries.{finished_tries, finished_backs, dumped_as}
 use Rattle.engine_core.proofs.applying.carry_out.Goals as goal
 use Rattle.engine_core.proofs.applying.carry_out.Goals.{After-attempt, After-finish, After-give_up}
 
@@ -100,13 +102,17 @@ returns-in-Ok-clause-exit g c = λ honest sound ends is runs doc merges.
 
 pub returns-in-Ok-clause-says : goal.returns-in-Ok-clause-says
 returns-in-Ok-clause-says g c = λ doc start follows calls merges.
+    let old = g.H.Host.told c.args.host.now in
+    let new = g.H.Host.told c.finish.new.host in
     let mid = g.H.Host.told c.attempt.new.host in
     finished_says g.H.Host.tells doc c.args.opts.now c.args.made start c.args.from.now c.args.to.now mid (g.H.Host.told c.finish.new.host) c.finish.result merges (omega (arith, follows.faults, c.attempt.ensures.later))
+    (quiet_on start.kernel old.kernel new.kernel follows.quiet (quiet_on old.kernel mid.kernel new.kernel c.in-Ok.ensures.quiet (quiet_same mid.kernel new.kernel c.finish.ensures.kernel.kernel)))
     c.in-Ok.ensures.verified c.finish.ensures.kernel.fresh (λ tells. c.finish.ensures.saved tells c.args.made c.args.deadline c.args.from.now (c.in-Ok.ensures.set tells)) c.finish.ensures.doubt c.finish.ensures.fault
 
 pub returns-in-Err-clause-says : goal.returns-in-Err-clause-says
 returns-in-Err-clause-says g c = λ doc start follows calls merges.
     c.give_up.ensures.says doc c.args.opts.now c.args.made start (omega (arith, follows.faults, c.attempt.ensures.later)) (omega (arith, follows.moment, c.attempt.ensures.moment)) (c.in-Err.ensures.says doc start follows calls merges)
+    (λ found is. c.in-Err.ensures.compared found (ap (λ e. Err e) is))
 
 pub returns-in-Err-clause-begun : goal.returns-in-Err-clause-begun
 returns-in-Err-clause-begun g c = λ is. c.give_up.ensures.begun (let same : c.give_up.result ≡ HostFault NotBegun = cc in same)
@@ -122,3 +128,41 @@ returns-in-Ok-clause-calm g c = λ honest t le is plan calm.
     let new = g.H.Host.told c.finish.new.host in
     let here = c.in-Ok.ensures.calm honest t le is plan calm in
     on_ok_weaker c.finish.result (λ steps. calm_on c.args.from.now c.args.to.now t mid new (g.met.H.Host.lawful c.attempt.new.host).stops (omega (arith, le, c.attempt.ensures.moment)) here steps) c.finish.ensures.stays
+
+-- ---- on an honest host, sound or not
+
+pub returns-in-Ok-clause-ends : goal.returns-in-Ok-clause-ends
+returns-in-Ok-clause-ends g c = λ honest is runs.
+    c.finish.ensures.ends (g.met.H.Host.honest_tells honest) c.args.made c.args.deadline c.args.from.now c.args.to.now (c.in-Ok.ensures.set (g.met.H.Host.honest_tells honest)) (c.in-Ok.ensures.ends honest is runs)
+
+pub returns-in-Ok-clause-hurt : goal.returns-in-Ok-clause-hurt
+returns-in-Ok-clause-hurt g c = λ honest is runs.
+    finished_hurt (g.H.Host.told c.args.host.now).faults (g.H.Host.told c.attempt.new.host).faults c.args.to.now (g.H.Host.told c.finish.new.host) c.finish.result c.finish.ensures.doubt c.attempt.ensures.later c.finish.ensures.fault
+    (c.finish.ensures.nets (g.met.H.Host.honest_tells honest) c.args.made c.args.deadline c.args.from.now c.args.to.now (c.in-Ok.ensures.ends honest is runs))
+
+pub returns-in-Err-clause-hurt : goal.returns-in-Err-clause-hurt
+returns-in-Err-clause-hurt g c = λ honest is runs.
+    c.give_up.ensures.hurt honest (g.H.Host.told c.args.host.now).faults c.args.to.now (c.in-Err.ensures.missed honest is runs) (λ failed. c.in-Err.ensures.fault (ap (λ e. Err e) failed))
+
+-- ---- what was tried, dumped and taken back
+
+pub returns-in-Ok-clause-tries : goal.returns-in-Ok-clause-tries
+returns-in-Ok-clause-tries g c = λ doc start follows calls merges. finished_tries (c.args.opts.now.no_verify ≡ false) start.faults start.kernel.refusals (g.H.Host.told c.finish.new.host) c.finish.result c.finish.ensures.doubt
+
+pub returns-in-Err-clause-tries : goal.returns-in-Err-clause-tries
+returns-in-Err-clause-tries g c = λ doc start follows calls merges.
+    c.give_up.ensures.tries doc c.args.opts.now start (c.in-Err.ensures.says doc start follows calls merges) (λ found is. c.in-Err.ensures.compared found (ap (λ e. Err e) is))
+
+pub returns-in-Ok-clause-dumps : goal.returns-in-Ok-clause-dumps
+returns-in-Ok-clause-dumps g c = λ was.
+    let old = g.H.Host.told c.args.host.now in
+    let mid = g.H.Host.told c.attempt.new.host in
+    let new = g.H.Host.told c.finish.new.host in
+    dumped_as g.H.Host.tells c.args.opts.now.no_verify c.args.from.now old mid new c.finish.result was c.in-Ok.ensures.dumped c.finish.ensures.kernel.kernel
+    c.in-Ok.ensures.fresh c.finish.ensures.kernel.fresh (λ tells. c.finish.ensures.saved tells c.args.made c.args.deadline c.args.from.now (c.in-Ok.ensures.set tells))
+
+pub returns-in-Ok-clause-backs : goal.returns-in-Ok-clause-backs
+returns-in-Ok-clause-backs g c = λ honest. finished_backs (g.H.Host.told c.args.host.now).state.net (g.H.Host.told c.finish.new.host) c.finish.result c.finish.ensures.doubt
+
+pub returns-in-Err-clause-backs : goal.returns-in-Err-clause-backs
+returns-in-Err-clause-backs g c = λ honest. c.give_up.ensures.backs honest (g.H.Host.told c.args.host.now).state.net (c.in-Err.ensures.unset (g.met.H.Host.honest_tells honest))

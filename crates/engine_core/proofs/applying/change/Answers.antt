@@ -16,11 +16,18 @@ use Rattle.std.proofs.lemmas.Result.{on_ok_weaker}
 use Rattle.plan_model.specs.Plans.{IsPlan}
 use Rattle.engine_core.proofs.Calms.{calm_as, calm_stays, one_net, one_merged}
 use Rattle.engine_core.proofs.Gives.{change_exit, either_station}
+use Rattle.std.specs.Prelude.{OnOk}
+use Rattle.host_core.specs.Faults.{Rose}
+use Rattle.engine_core.specs.Attempts.{done}
+use Rattle.engine_core.proofs.Exacts.{none_exact, refused_exact, made_exact}
 use Rattle.engine_core.proofs.Says.{quiet_dumped, follows_on, since, since_keeps, left_says, rose_after}
 use Rattle.host_core.specs.HostView.{Kernel}
 use Rattle.host_core.specs.Stops.{Stays}
 use Rattle.engine_model.specs.Machine.{asked}
 use Rattle.engine_model.specs.Faults.{IsDamaged}
+use Rattle.std.proofs.Common.{Option, false}
+use Rattle.engine_model.specs.Faults.{Backs}
+use Rattle.engine_core.proofs.Tries.{left_tries, left_backs}
 use Rattle.engine_core.proofs.applying.change.Goals as goal
 use Rattle.engine_core.proofs.applying.change.Goals.{After-carry_out, After-dump}
 
@@ -153,3 +160,69 @@ returns-clause-calm g c = λ honest t le from to is merges calm.
     let begun = calm_as from to found aim t mid one two (calm_stays from to t old mid (g.met.H.Host.lawful c.args.host.now).stops le calm c.dump.ensures.stops) in
     on_ok_weaker c.carry_out.result (λ after. calm_as found aim from to t new (sym one) (sym two) after)
     (c.carry_out.ensures.calm honest t (omega (arith, le, c.dump.ensures.stops.later)) here plan begun)
+
+-- ---- on an honest host, sound or not
+
+pub returns-in-Err-Failed-clause-exact : goal.returns-in-Err-Failed-clause-exact
+returns-in-Err-Failed-clause-exact g c = λ honest. c.in-Err-Failed.ensures.cause.failed (ap (λ e. Err e) c.in-Err-Failed.field-0-is)
+
+pub returns-in-Err-Damaged-clause-exact : goal.returns-in-Err-Damaged-clause-exact
+returns-in-Err-Damaged-clause-exact g c = λ honest.
+    let tells = g.met.H.Host.honest_tells honest in
+    let old = g.H.Host.told c.args.host.now in
+    let mid = g.H.Host.told c.dump.new.self in
+    none_exact (asked c.args.doc.now c.args.opts.now c.args.now) (standing old.state) (Rose old.faults mid.faults) mid (c.in-Err-Damaged.ensures.damaged tells (ap (λ e. Err e) c.in-Err-Damaged.field-0-is)) (ap standing (c.dump.ensures.state tells))
+
+pub returns-in-Err-Refused-clause-exact : goal.returns-in-Err-Refused-clause-exact
+returns-in-Err-Refused-clause-exact g c = λ honest.
+    let tells = g.met.H.Host.honest_tells honest in
+    let old = g.H.Host.told c.args.host.now in
+    let mid = g.H.Host.told c.dump.new.self in
+    let stood : standing old.state ≡ restored_to c.in-Ok.found = λ i. record { net = c.in-Ok.ensures.net honest i; cell = (c.requires.none tells).cell i } in
+    let broken : merge c.in-Ok.found c.args.doc.now ≡ Err c.in-Err-Refused.r = c.in-Err-Refused.ensures.refused c.in-Err-Refused.r (ap (λ e. Err e) c.in-Err-Refused.field-0-is) in
+    let same = c.in-Err-Refused.r-is in
+    let is = refused_exact (asked c.args.doc.now c.args.opts.now c.args.now) (standing old.state) c.in-Ok.found c.in-Err-Refused.r (Rose old.faults mid.faults) mid stood broken (ap standing (c.dump.ensures.state tells)) in
+    record { answer = let there = is.answer in cc; after = is.after }
+
+pub returns-clause-exact : goal.returns-clause-exact
+returns-clause-exact g c = λ honest.
+    let tells = g.met.H.Host.honest_tells honest in
+    let old = g.H.Host.told c.args.host.now in
+    let mid = g.H.Host.told c.dump.new.self in
+    let new = g.H.Host.told c.carry_out.new.host in
+    let found = c.in-Ok.found in
+    let aim = c.in-Ok-wanted.to in
+    let opts = c.args.opts.now in
+    let net : mid.state.net ≡ Some found = ap (λ (s : State). s.net) (c.dump.ensures.state tells) ∙ c.in-Ok.ensures.net honest in
+    let runs : Runs c.deref.result.now found aim = subst (λ (l : List Call). Runs l found aim) (sym c.deref.ensures.value) c.in-Ok-plan.ensures.run in
+    let deadline : c.saturating_add-deadline.result ≡ (asked_of c.args.doc.now opts c.args.now).deadline = omega (arith, c.saturating_add-deadline.ensures) in
+    made_exact (asked c.args.doc.now opts c.args.now) (standing old.state) found aim mid new old.faults c.carry_out.result (c.in-Ok.ensures.net honest) c.in-Ok-wanted.ensures.merged ((g.met.H.Host.lawful c.carry_out.new.host).reads tells)
+    c.dump.ensures.cause.later
+    (subst (λ (d : ℕ). IfOk c.carry_out.result (λ applied. applied.deadline ≡ (if opts.no_commit then Some d else None))) deadline c.carry_out.ensures.value)
+    (subst (λ (d : ℕ). OnOk c.carry_out.result (Ends (done opts.no_commit c.args.now d found aim) new)) deadline (c.carry_out.ensures.ends honest net runs))
+    (c.carry_out.ensures.hurt honest net runs)
+
+-- ---- what was tried, dumped and taken back
+
+pub returns-in-Err-Failed-clause-tries : goal.returns-in-Err-Failed-clause-tries
+returns-in-Err-Failed-clause-tries g c = λ start follows. left_tries (c.args.opts.now.no_verify ≡ false) start.faults start.kernel.refusals (g.H.Host.told c.dump.new.self) c.args.left c.requires.left
+
+pub returns-clause-tries : goal.returns-clause-tries
+returns-clause-tries g c = λ start follows.
+    let old = g.H.Host.told c.args.host.now in
+    let mid = g.H.Host.told c.dump.new.self in
+    c.carry_out.ensures.tries c.args.doc.now start
+    (follows_on start old mid follows c.dump.ensures.cause.later c.dump.ensures.stops.later (quiet_dumped old.kernel mid.kernel c.in-Ok.ensures.calls))
+    (ap (λ (k : Kernel). k.calls) c.in-Ok.ensures.calls) c.in-Ok-wanted.ensures.merged
+
+pub returns-clause-dumps : goal.returns-clause-dumps
+returns-clause-dumps g c = c.carry_out.ensures.dumps c.in-Ok.ensures.fresh
+
+pub returns-in-Err-Failed-clause-backs : goal.returns-in-Err-Failed-clause-backs
+returns-in-Err-Failed-clause-backs g c = λ honest.
+    left_backs (g.H.Host.told c.args.host.now).state.net (g.H.Host.told c.dump.new.self) c.args.left (ap (λ (s : State). s.net) (c.dump.ensures.state (g.met.H.Host.honest_tells honest)))
+
+pub returns-clause-backs : goal.returns-clause-backs
+returns-clause-backs g c = λ honest.
+    let net = ap (λ (s : State). s.net) (c.dump.ensures.state (g.met.H.Host.honest_tells honest)) in
+    subst (λ (n : Option NetData). Backs n (g.H.Host.told c.carry_out.new.host) c.carry_out.result) net (c.carry_out.ensures.backs honest)

@@ -1,4 +1,4 @@
-use Rattle.std.proofs.Common.{◌∙◌, Err, ap, subst, sym}
+use Rattle.std.proofs.Common.{◌≡◌, ◌∙◌, false, Err, ap, subst, sym}
 use Rattle.net_model.specs.NetData.{NetData}
 use Rattle.host_core.specs.HostView.{State}
 use Rattle.checkpoint_cell.specs.Settled.{standing, restored_to}
@@ -8,11 +8,20 @@ use Rattle.engine_model.specs.Stations.{Only, Kept}
 use Rattle.engine_model.specs.Answers.{IsUndone}
 use Rattle.engine_model.specs.declared.answers.ApplyFault.{ApplyFault}
 use Rattle.engine_model.proofs.lemmas.Leading.{kept_wider}
-use Rattle.engine_core.specs.Applying.{GaveUp}
+use Rattle.engine_core.specs.Applying.{GaveUp, Hurt}
+use Rattle.std.proofs.Common.{Bool, refl}
+use Rattle.host_core.specs.Faults.{Rose}
+use Rattle.checkpoint_cell.specs.Cell.{cell_of}
+use Rattle.engine_model.specs.Answers.{Finds}
+use Rattle.engine_model.specs.Machine.{saved_on}
+use Rattle.engine_model.specs.declared.answers.BackFault.{BackFault}
+use Rattle.engine_core.proofs.Exacts.{taken_hurt, never_refused, stopped_hurt}
 use Rattle.engine_core.specs.Saying.{Said, taken_back_as, stopped_as}
 use Rattle.engine_core.specs.declared.missed.Missed.{Missed}
 use Rattle.engine_core.proofs.Gives.{one_way, taken_exit, stopped_exit}
 use Rattle.engine_core.proofs.Says.{taken_says, stopped_says, begun_taken, begun_stopped}
+use Rattle.engine_model.specs.Faults.{Tries, Backs}
+use Rattle.engine_core.proofs.Tries.{taken_tries, stopped_tries, taken_backs, stopped_backs, back_or}
 use Rattle.engine_core.proofs.applying.give_up.Goals as goal
 use Rattle.engine_core.proofs.applying.give_up.Goals.{After-go_back}
 
@@ -45,14 +54,14 @@ pub returns-in-Err-clause-memory : goal.returns-in-Err-clause-memory
 returns-in-Err-clause-memory g c = λ is. c.stopped.ensures ∙ ap (λ (m : Missed). stopped_as m c.in-Err.fault) is
 
 pub returns-in-Ok-clause-says : goal.returns-in-Ok-clause-says
-returns-in-Ok-clause-says g c = λ doc opts made start faults moment why.
+returns-in-Ok-clause-says g c = λ doc opts made start faults moment why compared.
     let old = g.H.Host.told c.args.host.now in
     let new = g.H.Host.told c.go_back.new.host in
     subst (λ (a : ApplyFault). Said g.H.Host.tells (asked doc opts made) start new (Err a)) (sym c.taken_back.ensures)
-    (taken_says g.H.Host.tells doc opts made start old new faults moment c.args.missed why c.in-Ok.ensures.quiet c.go_back.ensures.later c.go_back.ensures.moves (λ tells. (c.in-Ok.ensures.cleared tells).cell) c.in-Ok.ensures.saved)
+    (taken_says g.H.Host.tells doc opts made start old new faults moment c.args.missed why compared c.in-Ok.ensures.quiet c.go_back.ensures.later c.go_back.ensures.moves (λ tells. (c.in-Ok.ensures.cleared tells).cell) c.in-Ok.ensures.saved)
 
 pub returns-in-Err-clause-says : goal.returns-in-Err-clause-says
-returns-in-Err-clause-says g c = λ doc opts made start faults moment why.
+returns-in-Err-clause-says g c = λ doc opts made start faults moment why compared.
     let old = g.H.Host.told c.args.host.now in
     let new = g.H.Host.told c.go_back.new.host in
     subst (λ (a : ApplyFault). Said g.H.Host.tells (asked doc opts made) start new (Err a)) (sym c.stopped.ensures)
@@ -65,3 +74,46 @@ returns-in-Ok-clause-begun g c = λ is. begun_taken c.args.missed (sym c.taken_b
 
 pub returns-in-Err-clause-begun : goal.returns-in-Err-clause-begun
 returns-in-Err-clause-begun g c = λ is. begun_stopped c.args.missed c.in-Err.fault (sym c.stopped.ensures ∙ is)
+
+-- ---- on an honest host, sound or not
+
+pub returns-in-Ok-clause-hurt : goal.returns-in-Ok-clause-hurt
+returns-in-Ok-clause-hurt g c = λ honest start to is rose.
+    let new = g.H.Host.told c.go_back.new.host in
+    subst (λ (a : ApplyFault). Hurt (Rose start new.faults) to new a) (sym c.taken_back.ensures) (taken_hurt start (g.H.Host.told c.args.host.now).faults to new c.args.missed is rose c.go_back.ensures.later)
+
+pub returns-in-Err-clause-hurt : goal.returns-in-Err-clause-hurt
+returns-in-Err-clause-hurt g c = λ honest start to is rose.
+    let old = g.H.Host.told c.args.host.now in
+    let new = g.H.Host.told c.go_back.new.host in
+    subst (λ (a : ApplyFault). Hurt (Rose start new.faults) to new a) (sym c.stopped.ensures)
+    (stopped_hurt start old.faults to new c.args.missed c.in-Err.fault is rose c.go_back.ensures.later (λ k n left same.
+    never_refused old.state (cell_of old.state.cell) refl k n left
+    (λ checkpoint has. subst (λ (f : BackFault). Finds {A = Bool} (saved_on checkpoint.net old.state.net) (Err f)) same (c.in-Err.ensures.exact honest checkpoint has))
+    (λ none. sym same ∙ c.in-Err.ensures.unset (g.met.H.Host.honest_tells honest) none)))
+
+-- ---- what was tried
+
+pub returns-in-Ok-clause-tries : goal.returns-in-Ok-clause-tries
+returns-in-Ok-clause-tries g c = λ doc opts start why compared.
+    let new = g.H.Host.told c.go_back.new.host in
+    subst (λ (a : ApplyFault). Tries (opts.no_verify ≡ false) start.faults start.kernel.refusals new (Err a)) (sym c.taken_back.ensures) (taken_tries (opts.no_verify ≡ false) start.faults start.kernel.refusals new c.args.missed)
+
+pub returns-in-Err-clause-tries : goal.returns-in-Err-clause-tries
+returns-in-Err-clause-tries g c = λ doc opts start why compared.
+    let old = g.H.Host.told c.args.host.now in
+    let new = g.H.Host.told c.go_back.new.host in
+    subst (λ (a : ApplyFault). Tries (opts.no_verify ≡ false) start.faults start.kernel.refusals new (Err a)) (sym c.stopped.ensures)
+    (stopped_tries g.H.Host.tells doc start old new c.go_back.ensures.later (opts.no_verify ≡ false) c.in-Err.fault (λ left is. c.in-Err.ensures.fault left (ap (λ e. Err e) is)) (λ left is. c.in-Err.ensures.unrefused left (ap (λ e. Err e) is))
+    (λ k n left is. c.in-Err.ensures.refused k n left (ap (λ e. Err e) is)) c.args.missed why compared)
+
+pub returns-in-Ok-clause-backs : goal.returns-in-Ok-clause-backs
+returns-in-Ok-clause-backs g c = λ honest before unset.
+    let tells = g.met.H.Host.honest_tells honest in
+    let old = g.H.Host.told c.args.host.now in
+    let new = g.H.Host.told c.go_back.new.host in
+    subst (λ (a : ApplyFault). Backs before new (Err a)) (sym c.taken_back.ensures) (taken_backs before new c.args.missed
+    (back_or before old new c.in-Ok.field-0 (c.in-Ok.ensures.reads honest) (c.in-Ok.ensures.empty tells) (c.in-Ok.ensures.none_same tells) unset))
+
+pub returns-in-Err-clause-backs : goal.returns-in-Err-clause-backs
+returns-in-Err-clause-backs g c = λ honest before unset. subst (λ (a : ApplyFault). Backs before (g.H.Host.told c.go_back.new.host) (Err a)) (sym c.stopped.ensures) (stopped_backs before (g.H.Host.told c.go_back.new.host) c.args.missed c.in-Err.fault)

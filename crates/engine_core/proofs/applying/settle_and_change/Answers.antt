@@ -1,4 +1,4 @@
-use Rattle.std.proofs.Common.{◌≡◌, ◌∙◌, inl, Some, None, Err, Ok, arith, ap, subst, sym}
+use Rattle.std.proofs.Common.{◌≡◌, ◌⊎◌, ◌∙◌, inl, Some, None, Err, Ok, arith, ap, subst, sym}
 use Rattle.host_core.specs.HostView.{State}
 use Rattle.checkpoint_cell.specs.Settled.{Standing}
 use Rattle.engine_model.specs.declared.answers.ApplyFault.{ApplyFault}
@@ -12,8 +12,26 @@ use Rattle.engine_core.specs.Saying.{start_of, Follows}
 use Rattle.engine_core.proofs.Gives.{unsettled_exit, after_exit, after_kept, now_ends}
 use Rattle.checkpoint_cell.specs.Cell.{cell_of}
 use Rattle.engine_core.proofs.Calms.{calm_first, calm_stays}
+use Rattle.std.proofs.Common.{refl, Result}
+use Rattle.checkpoint_cell.specs.Settled.{standing}
+use Rattle.host_core.specs.Faults.{Rose}
+use Rattle.engine_model.specs.Machine.{apply, change, saved_on}
+use Rattle.engine_model.specs.Answers.{Finds}
+use Rattle.engine_model.specs.Faults.{ApplyExact}
+use Rattle.engine_model.specs.declared.answers.Recovered.{Recovered}
+use Rattle.engine_model.specs.declared.answers.Recovered.TheVariants.{Restored}
+use Rattle.engine_model.specs.declared.answers.BackFault.{BackFault}
+use Rattle.engine_model.proofs.lemmas.Finding.{recover_exact, found_saved}
+use Rattle.engine_core.proofs.Exacts.{exact_from, nothing_is, restored_is, unsettled_exact}
 use Rattle.engine_core.proofs.Says.{said_says, waits_says, unsettled_says}
 use Rattle.host_core.specs.HostView.{NoneRefused}
+use Rattle.std.proofs.Common.{Option, false}
+use Rattle.net_model.specs.NetData.{NetData}
+use Rattle.engine_model.specs.Faults.{Tries, Backs, HasTaken}
+use Rattle.engine_model.proofs.lemmas.Backs.{has_taken}
+use Rattle.engine_model.specs.Machine.{recover}
+use Rattle.engine_core.proofs.Exacts.{nothing_after, restored_after}
+use Rattle.engine_core.proofs.Tries.{tries_more, unsettled_tries, unsettled_backs}
 use Rattle.engine_core.proofs.applying.settle_and_change.Goals as goal
 use Rattle.engine_core.proofs.applying.settle_and_change.Goals.{After-take_back}
 
@@ -74,6 +92,7 @@ pub returns-in-Ok-Waiting-clause-says : goal.returns-in-Ok-Waiting-clause-says
 returns-in-Ok-Waiting-clause-says g c =
     waits_says g.H.Host.tells (asked c.args.doc.now c.args.opts.now c.args.now) (g.H.Host.told c.args.host.now) (g.H.Host.told c.take_back.new.host) c.in-Ok-Waiting.deadline
     (λ tells. c.take_back.ensures.waiting tells c.in-Ok-Waiting.deadline (c.in-Ok-Waiting.is ∙ ap (λ r. Ok r) c.in-Ok-Waiting.field-0-is))
+    (λ tells. c.take_back.ensures.waiting_same tells c.in-Ok-Waiting.deadline (c.in-Ok-Waiting.is ∙ ap (λ r. Ok r) c.in-Ok-Waiting.field-0-is))
 
 pub returns-in-Ok-Nothing-clause-says : goal.returns-in-Ok-Nothing-clause-says
 returns-in-Ok-Nothing-clause-says g c =
@@ -96,7 +115,7 @@ returns-in-Err-clause-says g c =
     subst (λ (a : ApplyFault). ApplySays g.H.Host.tells (asked c.args.doc.now c.args.opts.now c.args.now) old new (Err a)) (sym c.unsettled.ensures)
     (unsettled_says g.H.Host.tells (asked c.args.doc.now c.args.opts.now c.args.now) old new (g.met.H.Host.lawful c.args.host.now).stops (g.met.H.Host.lawful c.args.host.now).reads c.in-Err.fault
     (λ is. c.in-Err.ensures.set_there (ap (λ e. Err e) is)) (λ left is. c.in-Err.ensures.fault left (ap (λ e. Err e) is)) (λ left is. c.in-Err.ensures.side left (ap (λ e. Err e) is)) c.in-Err.ensures.same
-    (λ k n left is. c.in-Err.ensures.refused k n left (ap (λ e. Err e) is)) c.in-Err.ensures.before (λ tells area is. c.in-Err.ensures.damaged tells area (ap (λ e. Err e) is)) (λ tells names is. c.in-Err.ensures.differs tells names (ap (λ e. Err e) is)))
+    (λ k n left is. c.in-Err.ensures.refused k n left (ap (λ e. Err e) is)) (λ k n left is. c.in-Err.ensures.given_up k n left (ap (λ e. Err e) is)) c.in-Err.ensures.before (λ tells area is. c.in-Err.ensures.damaged tells area (ap (λ e. Err e) is)) (λ tells names is. c.in-Err.ensures.differs tells names (ap (λ e. Err e) is)))
 
 -- ---- what isn't touched
 
@@ -117,3 +136,98 @@ returns-in-Ok-Restored-clause-calm g c = λ honest sound from to is merges.
     let taken = c.take_back.ensures.restored (g.met.H.Host.honest_tells honest) (c.in-Ok-Restored.is ∙ ap (λ r. Ok r) c.in-Ok-Restored.field-0-is) in
     let e : None ≡ Some taken.checkpoint = sym (ap (λ (x : Standing). x.cell) is) ∙ taken.is in
     absurd (cc)
+
+-- ---- on an honest host, sound or not
+
+pub returns-in-Ok-Waiting-clause-exact : goal.returns-in-Ok-Waiting-clause-exact
+returns-in-Ok-Waiting-clause-exact g c = λ honest.
+    let is = c.in-Ok-Waiting.is ∙ ap (λ r. Ok r) c.in-Ok-Waiting.field-0-is in
+    waits_says g.H.Host.tells (asked c.args.doc.now c.args.opts.now c.args.now) (g.H.Host.told c.args.host.now) (g.H.Host.told c.take_back.new.host) c.in-Ok-Waiting.deadline
+    (λ tells. c.take_back.ensures.waiting tells c.in-Ok-Waiting.deadline is) (λ tells. c.take_back.ensures.waiting_same tells c.in-Ok-Waiting.deadline is) (g.met.H.Host.honest_tells honest)
+
+pub returns-in-Ok-Nothing-clause-exact : goal.returns-in-Ok-Nothing-clause-exact
+returns-in-Ok-Nothing-clause-exact g c = λ honest.
+    let tells = g.met.H.Host.honest_tells honest in
+    let a = asked c.args.doc.now c.args.opts.now c.args.now in
+    let old = g.H.Host.told c.args.host.now in
+    let mid = g.H.Host.told c.take_back.new.host in
+    let nothing = c.in-Ok-Nothing.is ∙ ap (λ r. Ok r) c.in-Ok-Nothing.field-0-is in
+    exact_from (change a (standing mid.state) mid.state.net) (apply a (standing old.state)) (nothing_is a old.state mid.state (c.take_back.ensures.nothing tells nothing) (c.take_back.ensures.nothing_same tells nothing))
+    old.faults mid.faults (g.H.Host.told c.change.new.host) c.take_back.ensures.later c.change.result (c.change.ensures.exact honest)
+
+pub returns-in-Ok-Restored-clause-exact : goal.returns-in-Ok-Restored-clause-exact
+returns-in-Ok-Restored-clause-exact g c = λ honest.
+    let tells = g.met.H.Host.honest_tells honest in
+    let a = asked c.args.doc.now c.args.opts.now c.args.now in
+    let old = g.H.Host.told c.args.host.now in
+    let mid = g.H.Host.told c.take_back.new.host in
+    let restored = c.in-Ok-Restored.is ∙ ap (λ r. Ok r) c.in-Ok-Restored.field-0-is in
+    let t = c.take_back.ensures.restored tells restored in
+    let found : Finds {A = Recovered} (saved_on t.checkpoint.net old.state.net) (Ok Restored) = subst (λ (r : Result Recovered BackFault). Finds (saved_on t.checkpoint.net old.state.net) r) restored (c.take_back.ensures.exact honest t) in
+    let has = found_saved t.checkpoint.net old.state.net found.0 found.1 in
+    exact_from (change a (standing mid.state) mid.state.net) (apply a (standing old.state)) (restored_is a old.state mid.state t found.0 found.1 (c.take_back.ensures.restored_reads honest t found.0 has restored))
+    old.faults mid.faults (g.H.Host.told c.change-in-Ok-Restored.new.host) c.take_back.ensures.later c.change-in-Ok-Restored.result (c.change-in-Ok-Restored.ensures.exact honest)
+
+pub returns-in-Err-clause-exact : goal.returns-in-Err-clause-exact
+returns-in-Err-clause-exact g c = λ honest.
+    let tells = g.met.H.Host.honest_tells honest in
+    let a = asked c.args.doc.now c.args.opts.now c.args.now in
+    let old = g.H.Host.told c.args.host.now in
+    let new = g.H.Host.told c.take_back.new.host in
+    subst (λ (f : ApplyFault). ApplyExact (Rose old.faults new.faults) (apply a (standing old.state)) new (Err f)) (sym c.unsettled.ensures)
+    (unsettled_exact a old.state old.faults new c.in-Err.fault (λ is. c.in-Err.ensures.set_there (ap (λ e. Err e) is)) (λ left is. c.in-Err.ensures.fault left (ap (λ e. Err e) is)) (λ before. c.in-Err.ensures.same before tells)
+    (recover_exact c.args.now old.state (cell_of old.state.cell) refl Recovered c.in-Err.fault (λ t. c.in-Err.ensures.exact honest t) (c.in-Err.ensures.untaken tells)))
+
+-- ---- what was tried, dumped and taken back
+
+abbrev Taken : (g : _) (c : After-take_back g) → Type 0
+Taken g c = g.H.Host.tells → HasTaken c.args.now (standing (g.H.Host.told c.args.host.now).state).cell
+
+pub returns-in-Ok-Nothing-clause-tries : goal.returns-in-Ok-Nothing-clause-tries
+returns-in-Ok-Nothing-clause-tries g c =
+    let old = g.H.Host.told c.args.host.now in
+    let at = (goal.at.returns-in-Ok-Nothing-clause-tries g c).After-take_back in
+    tries_more (Taken g at) (c.args.opts.now.no_verify ≡ false) old.faults old.kernel.refusals (g.H.Host.told c.change.new.host) c.change.result
+    (c.change.ensures.tries (start_of old) (begun g at c.in-Ok-Nothing.ensures.quiet))
+
+pub returns-in-Ok-Restored-clause-tries : goal.returns-in-Ok-Restored-clause-tries
+returns-in-Ok-Restored-clause-tries g c =
+    let old = g.H.Host.told c.args.host.now in
+    let at = (goal.at.returns-in-Ok-Restored-clause-tries g c).After-take_back in
+    tries_more (Taken g at) (c.args.opts.now.no_verify ≡ false) old.faults old.kernel.refusals (g.H.Host.told c.change-in-Ok-Restored.new.host) c.change-in-Ok-Restored.result
+    (c.change-in-Ok-Restored.ensures.tries (start_of old) (begun g at c.in-Ok-Restored.ensures.quiet))
+
+pub returns-in-Err-clause-tries : goal.returns-in-Err-clause-tries
+returns-in-Err-clause-tries g c =
+    let old = g.H.Host.told c.args.host.now in
+    let new = g.H.Host.told c.take_back.new.host in
+    let taken = Taken g (goal.at.returns-in-Err-clause-tries g c).After-take_back in
+    subst (λ (a : ApplyFault). Tries (taken ⊎ (c.args.opts.now.no_verify ≡ false)) old.faults old.kernel.refusals new (Err a)) (sym c.unsettled.ensures)
+    (unsettled_tries taken (c.args.opts.now.no_verify ≡ false) old.faults old.kernel.refusals new c.in-Err.fault
+    (λ is tells. has_taken c.args.now (cell_of old.state.cell) (c.in-Err.ensures.pending tells (ap (λ e. Err e) is))) (λ k n left is tells. has_taken c.args.now (cell_of old.state.cell) (c.in-Err.ensures.unaccepted tells k n left (ap (λ e. Err e) is))))
+
+pub returns-in-Ok-Nothing-clause-backs : goal.returns-in-Ok-Nothing-clause-backs
+returns-in-Ok-Nothing-clause-backs g c = λ honest.
+    let tells = g.met.H.Host.honest_tells honest in
+    let old = g.H.Host.told c.args.host.now in
+    let nothing = c.in-Ok-Nothing.is ∙ ap (λ r. Ok r) c.in-Ok-Nothing.field-0-is in
+    let net = ap (λ (s : State). s.net) (c.take_back.ensures.nothing_same tells nothing) ∙ sym (nothing_after (asked c.args.doc.now c.args.opts.now c.args.now) old.state (c.take_back.ensures.nothing tells nothing)) in
+    subst (λ (n : Option NetData). Backs n (g.H.Host.told c.change.new.host) c.change.result) net (c.change.ensures.backs honest)
+
+pub returns-in-Ok-Restored-clause-backs : goal.returns-in-Ok-Restored-clause-backs
+returns-in-Ok-Restored-clause-backs g c = λ honest.
+    let tells = g.met.H.Host.honest_tells honest in
+    let a = asked c.args.doc.now c.args.opts.now c.args.now in
+    let old = g.H.Host.told c.args.host.now in
+    let restored = c.in-Ok-Restored.is ∙ ap (λ r. Ok r) c.in-Ok-Restored.field-0-is in
+    let t = c.take_back.ensures.restored tells restored in
+    let found : Finds {A = Recovered} (saved_on t.checkpoint.net old.state.net) (Ok Restored) = subst (λ (r : Result Recovered BackFault). Finds (saved_on t.checkpoint.net old.state.net) r) restored (c.take_back.ensures.exact honest t) in
+    let has = found_saved t.checkpoint.net old.state.net found.0 found.1 in
+    let net = ap (λ (x : Standing). x.net) (c.take_back.ensures.restored_reads honest t found.0 has restored ∙ sym (restored_after a old.state t found.0 found.1)) in
+    subst (λ (n : Option NetData). Backs n (g.H.Host.told c.change-in-Ok-Restored.new.host) c.change-in-Ok-Restored.result) net (c.change-in-Ok-Restored.ensures.backs honest)
+
+pub returns-in-Err-clause-backs : goal.returns-in-Err-clause-backs
+returns-in-Err-clause-backs g c = λ honest.
+    let before = (recover c.args.now (standing (g.H.Host.told c.args.host.now).state)).after.net in
+    subst (λ (a : ApplyFault). Backs before (g.H.Host.told c.take_back.new.host) (Err a)) (sym c.unsettled.ensures)
+    (unsettled_backs before (g.H.Host.told c.take_back.new.host) c.in-Err.fault (λ left is. c.in-Err.ensures.side left (ap (λ e. Err e) is)))

@@ -6,8 +6,9 @@ use Rattle.checkpoint_cell.specs.Settled.{restored_to}
 use Rattle.engine_core.specs.Attempts.{IsOnWay}
 use Rattle.checkpoint_cell.specs.Cell.{applying}
 use Rattle.checkpoint_cell.proofs.lemmas.Saved.{saved_is}
-use Rattle.engine_core.proofs.Says.{follows_on}
+use Rattle.engine_core.proofs.Says.{follows_on, quiet_on}
 use Rattle.engine_model.proofs.lemmas.Leading.{kept_on, kept_wider, near_kept, near_ends, kept_stays}
+use Rattle.engine_core.proofs.Tries.{fresh_on, ok_any, err_any}
 use Rattle.engine_core.proofs.attempting.attempt.Goals as goal
 
 pub returns-in-Err-clause-kept : goal.returns-in-Err-clause-kept
@@ -49,9 +50,22 @@ returns-clause-says g c = λ doc start follows calls merges.
     c.seal.ensures.says doc start c.args.from.now (follows_on start old mid follows c.begin.ensures.later c.begin.ensures.moment c.in-Ok.ensures.quiet) merges
     (λ tells. saved_is (applying c.args.made c.args.deadline c.args.from.now) mid.state.cell (c.in-Ok.ensures.set tells).cell)
 
+pub returns-clause-quiet : goal.returns-clause-quiet
+returns-clause-quiet g c =
+    on_ok_weaker c.seal.result (λ quiet. quiet_on (g.H.Host.told c.args.host.now).kernel (g.H.Host.told c.begin.new.host).kernel (g.H.Host.told c.seal.new.host).kernel c.in-Ok.ensures.quiet quiet) c.seal.ensures.quiet
+
 pub returns-clause-calm : goal.returns-clause-calm
 returns-clause-calm g c = λ honest t le is plan calm.
     let mid = g.H.Host.told c.begin.new.host in
     let new = g.H.Host.told c.seal.new.host in
     let here = c.in-Ok.ensures.calm honest c.args.to.now t le is plan calm in
     on_ok_weaker c.seal.result (λ steps. calm_on c.args.from.now c.args.to.now t mid new (g.met.H.Host.lawful c.begin.new.host).stops (omega (arith, le, c.begin.ensures.moment)) here steps) c.seal.ensures.nets
+
+-- ---- what is dumped, and what stands where it fails
+
+pub returns-clause-fresh : goal.returns-clause-fresh
+returns-clause-fresh g c = λ tells.
+    on_ok_weaker c.seal.result (λ fresh skipped. fresh_on (g.H.Host.told c.args.host.now).fresh (g.H.Host.told c.begin.new.host).fresh (g.H.Host.told c.seal.new.host).fresh (c.in-Ok.ensures.fresh tells) (fresh skipped)) (ok_any c.seal.result (c.seal.ensures.fresh tells))
+
+pub returns-clause-unset : goal.returns-clause-unset
+returns-clause-unset g c = λ tells. err_any c.seal.result (λ none. absurd (c.seal.ensures.stands tells none))

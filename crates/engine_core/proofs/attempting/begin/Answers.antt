@@ -1,7 +1,7 @@
-use Rattle.std.proofs.Common.{◌≡◌, ◌∙◌, Option, Some, None, Err, arith, ap, subst, refl}
+use Rattle.std.proofs.Common.{◌≡◌, ◌∙◌, Option, Some, None, Err, arith, ap, subst, sym, refl}
 use Rattle.net_model.specs.NetData.{NetData}
 use Rattle.host_core.specs.HostView.{HasNet}
-use Rattle.checkpoint_cell.specs.Cell.{applying}
+use Rattle.checkpoint_cell.specs.Cell.{applying, cell_of}
 use Rattle.checkpoint_cell.specs.Steps.{NoneOr}
 use Rattle.engine_model.specs.Sound.{Sound}
 use Rattle.engine_model.specs.Stations.{Only, Kept, Ends}
@@ -118,3 +118,17 @@ returns-in-Ok-run-clause-calm g c = λ honest to t le is plan calm.
     let nets : HasNet (Some from) mid = subst (λ (n : Option NetData). HasNet n mid) here ((g.met.H.Host.lawful c.put.new.host).no_doubt tells (c.put.ensures.kernel.settled c.requires.settled)) in
     calm_runs from to t mid (g.H.Host.told c.run.new.host) (g.met.H.Host.lawful c.put.new.host).stops (omega (arith, le, c.put.ensures.stops_net.later))
     (calm_on from to t old mid (g.met.H.Host.lawful c.args.host.now).stops le calm c.put.ensures.stops_net) c.args.calls.now plan nets (c.run.ensures.fronts honest from to here plan.run)
+
+-- ---- where no checkpoint stands, no call was made
+
+held_cell : (g : _) (c : After-run g) → g.H.Host.tells → cell_of (g.H.Host.told c.run.new.host).state.cell ≡ Some (applying c.args.made c.args.deadline c.args.from.now)
+held_cell g c tells = ap cell_of (c.run.ensures.cell tells) ∙ (c.in-Ok.ensures.put tells).cell
+
+pub returns-in-Err-Refused-clause-unset : goal.returns-in-Err-Refused-clause-unset
+returns-in-Err-Refused-clause-unset g c = λ tells none. let e : Some (applying c.args.made c.args.deadline c.args.from.now) ≡ None = sym (held_cell g (goal.at.returns-in-Err-Refused-clause-unset g c).After-run tells) ∙ none in absurd (cc)
+
+pub returns-in-Err-Failed-run-clause-unset : goal.returns-in-Err-Failed-run-clause-unset
+returns-in-Err-Failed-run-clause-unset g c = λ tells none. let e : Some (applying c.args.made c.args.deadline c.args.from.now) ≡ None = sym (held_cell g (goal.at.returns-in-Err-Failed-run-clause-unset g c).After-run tells) ∙ none in absurd (cc)
+
+pub returns-in-Err-OutOfMemory-run-clause-unset : goal.returns-in-Err-OutOfMemory-run-clause-unset
+returns-in-Err-OutOfMemory-run-clause-unset g c = λ tells none. let e : Some (applying c.args.made c.args.deadline c.args.from.now) ≡ None = sym (held_cell g (goal.at.returns-in-Err-OutOfMemory-run-clause-unset g c).After-run tells) ∙ none in absurd (cc)

@@ -1,12 +1,13 @@
-use Rattle.std.proofs.Common.{Some, true, subst, sym, refl}
+use Rattle.std.proofs.Common.{◌≡◌, ◌∙◌, Some, None, true, subst, sym, refl}
 use Rattle.std.proofs.lemmas.Result.{on_ok_weaker}
-use Rattle.checkpoint_cell.specs.Cell.{applying}
+use Rattle.checkpoint_cell.specs.Cell.{applying, cell_of}
 use Rattle.checkpoint_cell.specs.Steps.{Holds, EitherPhase}
 use Rattle.engine_model.specs.Stations.{Ends, Kept}
 use Rattle.engine_model.specs.Undone.{stand}
 use Rattle.engine_core.specs.Attempts.{IsOnWay, sealed}
 use Rattle.engine_model.proofs.lemmas.Leading.{cell_kept, same_kind, ends_cell}
 use Rattle.engine_core.proofs.Attempts.{marking}
+use Rattle.engine_core.proofs.Tries.{phase_stands}
 use Rattle.engine_core.proofs.Calms.{still}
 use Rattle.engine_core.proofs.attempting.mark.Goals as goal
 
@@ -31,3 +32,16 @@ returns-then-no_commit-clause-marked g c = λ tells made deadline from holds.
 
 pub returns-clause-nets : goal.returns-clause-nets
 returns-clause-nets g c = still (g.H.Host.told c.args.host.now).stops
+
+pub returns-then-no_commit-clause-stands : goal.returns-then-no_commit-clause-stands
+returns-then-no_commit-clause-stands g c = λ tells.
+    let was = c.requires tells in
+    let new = g.H.Host.told c.mark_waiting.new.host in
+    let from = (c.mark_waiting.ensures.stops tells _ was.3).now new.state ((g.met.H.Host.lawful c.mark_waiting.new.host).reads tells) in
+    phase_stands (applying was.0 was.1 was.2) (cell_of new.state.cell) from.2.cell
+
+pub returns-clause-stands : goal.returns-clause-stands
+returns-clause-stands g c = λ tells none.
+    let was = c.requires tells in
+    let e : Some (applying was.0 was.1 was.2) ≡ None = sym was.3.cell ∙ none in
+    absurd (cc)

@@ -1,4 +1,5 @@
-use Rattle.std.proofs.Common.{arith, ap}
+use Rattle.std.proofs.Common.{◌≡◌, ◌∙◌, Some, None, sym, arith, ap}
+use Rattle.checkpoint_cell.specs.Cell.{applying, cell_of}
 use Rattle.host_core.specs.HostView.{State}
 use Rattle.engine_core.specs.Attempts.{IsOnWay}
 use Rattle.engine_core.proofs.Calms.{stays_nets}
@@ -57,5 +58,18 @@ returns-in-Err-mark-clause-says g c = λ doc start from follows merges saved.
       rose_after start.faults mid.faults new.faults (omega (arith, follows.faults, c.verify.ensures.later)) c.in-Err-mark.ensures.cause.failed,
     )
 
+pub returns-in-Ok-mark-clause-quiet : goal.returns-in-Ok-mark-clause-quiet
+returns-in-Ok-mark-clause-quiet g c =
+    let old = g.H.Host.told c.args.host.now in
+    let mid = g.H.Host.told c.verify.new.host in
+    let new = g.H.Host.told c.mark.new.host in
+    quiet_on old.kernel mid.kernel new.kernel c.verify.ensures.quiet (quiet_same mid.kernel new.kernel c.mark.ensures.kernel.kernel)
+
 pub returns-in-Ok-mark-clause-nets : goal.returns-in-Ok-mark-clause-nets
 returns-in-Ok-mark-clause-nets g c = stays_nets (g.H.Host.told c.args.host.now).stops (g.H.Host.told c.verify.new.host).stops (g.H.Host.told c.mark.new.host).stops c.verify.ensures.stops c.mark.ensures.nets
+
+pub returns-in-Err-clause-stands : goal.returns-in-Err-clause-stands
+returns-in-Err-clause-stands g c = λ tells none.
+    let was = c.requires tells in
+    let e : Some (applying was.0 was.1 was.2) ≡ None = sym was.3.cell ∙ ap (λ (s : State). cell_of s.cell) (sym (c.verify.ensures.state tells)) ∙ none in
+    absurd (cc)

@@ -18,6 +18,7 @@ use Rattle.std.specs.Prelude.{⊤, Vec}
 use Rattle.std.specs.declared.alloc.Global.{Global}
 use Rattle.engine_model.specs.Machine.{saved_on}
 use Rattle.engine_model.proofs.lemmas.Finding.{finds_as, finds_done, found_saved}
+use Rattle.engine_restore.proofs.Compares.{restored_net}
 use Rattle.engine_restore.proofs.restoring.restore.Goals as goal
 use Rattle.engine_restore.proofs.restoring.restore.Goals.{After-take_up}
 
@@ -111,3 +112,19 @@ returns-in-Ok-take_up-clause-exact g c = λ honest checkpoint holds.
     finds_done found is.0 is.1 c.undo.result
     (c.undo.ensures.healthy honest k.from is.0 (c.take_up.ensures.kernel.net tells ∙ k.net) (subst (λ (l : List Call). Runs l k.from is.0) (sym c.deref.ensures.value) k.runs))
     c.undo.ensures.set_there
+
+pub returns-in-Ok-take_up-clause-reads : goal.returns-in-Ok-take_up-clause-reads
+returns-in-Ok-take_up-clause-reads g c = λ honest.
+    let tells = g.met.H.Host.honest_tells honest in
+    let was = c.requires tells in
+    let old = g.H.Host.told c.args.host.now in
+    let new = g.H.Host.told c.undo.new.host in
+    let at = (goal.at.returns-in-Ok-take_up-clause-reads g c).After-take_up in
+    let is = c.in-Ok.ensures.exact honest was.0 was.1 in
+    let has = found_saved was.0.net old.state.net is.0 is.1 in
+    let k = known g at was.0 is.0 honest was.1 has in
+    let there = held_stays (Some was.0) old (g.H.Host.told c.ready.new.host) was.1 c.ready.ensures.stops (ap (λ (s : State). s.cell) (c.ready.ensures.state tells)) in
+    let marked = c.in-Ok-take_up.ensures.taken tells was.0 there in
+    let cell = saved_is (in_phase Applying was.0) (g.H.Host.told c.take_up.new.host).state.cell marked.cell ∙ has in
+    restored_net is.0 (g.H.Host.told c.take_up.new.host) new c.undo.result ((g.met.H.Host.lawful c.undo.new.host).reads tells) cell
+    (c.undo.ensures.ends honest k.from is.0 (c.take_up.ensures.kernel.net tells ∙ k.net) (subst (λ (l : List Call). Runs l k.from is.0) (sym c.deref.ensures.value) k.runs)) (c.undo.ensures.saved tells)

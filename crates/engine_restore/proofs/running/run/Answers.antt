@@ -1,4 +1,4 @@
-use Rattle.std.proofs.Common.{◌≡◌, ◌∙◌, Err, Ok, Some, refl, ap, arith, Option, subst}
+use Rattle.std.proofs.Common.{◌≡◌, ◌∙◌, inl, inr, Err, Ok, Some, refl, ap, arith, Option, subst}
 use Rattle.host_core.specs.declared.host.CallFault.TheVariants.{Refused, Failed}
 use Rattle.net_model.specs.NetData.{NetData}
 use Rattle.kernel_model.specs.Runs.{Runs}
@@ -73,5 +73,6 @@ loop-i-preserved g c =
       stops = λ honest. run_on _ _ _ (c.loop-i.invariant.stops honest) (weaken (MaybeCalled _) RunStep _ _ (c.call.ensures.stops honest) (λ r s left step. called c.step_laws.ensures.net c.step_laws.ensures.hardware _ r s step));
       quiet = record { refusals = ap (λ (k : Kernel). k.refusals) counts ∙ c.loop-i.invariant.quiet.refusals; last = ap (λ (k : Kernel). k.last) counts ∙ c.loop-i.invariant.quiet.last };
       calls = λ zero. let is : before.kernel.calls ≡ c.loop-i.i = c.loop-i.invariant.calls zero in let more : after.kernel.calls ≡ one_more before.kernel.calls = ap (λ (k : Kernel). k.calls) counts in omega (arith, is, more);
+      fresh = λ tells. inr (c.call.ensures.fresh tells);
       later = omega (arith, c.loop-i.invariant.later, c.call.ensures.cause.later);
     }

@@ -1,4 +1,4 @@
-use Rattle.std.proofs.Common.{◌≡◌, ◌≤◌, Some, drop, take}
+use Rattle.std.proofs.Common.{◌≡◌, ◌⊎◌, ◌≤◌, None, Some, drop, take}
 use Rattle.net_model.specs.NetData.{NetData}
 use Rattle.kernel_model.specs.Runs.{Runs}
 use Rattle.host_core.specs.Stops.{Steps}
@@ -18,5 +18,6 @@ invariant-loop-i g l = record {
   stops : g.H.Host.honest → Steps RunStep (g.H.Host.told l.fn.host).stops (g.H.Host.told l.host).stops;
   quiet : NoneRefused (g.H.Host.told l.fn.host).kernel (g.H.Host.told l.host).kernel;
   calls : (g.H.Host.told l.fn.host).kernel.calls ≡ 0 → (g.H.Host.told l.host).kernel.calls ≡ l.i;
+  fresh : g.H.Host.tells → ((g.H.Host.told l.host).fresh ≡ (g.H.Host.told l.fn.host).fresh) ⊎ ((g.H.Host.told l.host).fresh ≡ None);
   later : (g.H.Host.told l.fn.host).faults ≤ (g.H.Host.told l.host).faults;
 }

@@ -3,7 +3,7 @@ use Rattle.engine_model.specs.Machine.{rollback}
 use Rattle.checkpoint_cell.specs.Settled.{standing}
 use Rattle.engine_model.specs.Faults.{HasSet}
 use Rattle.scenario_model.specs.Saying.{past_of}
-use Rattle.scenario.proofs.Says.{back_past}
+use Rattle.scenario.proofs.Says.{back_past, past_here}
 use Rattle.scenario.proofs.Answers.{back_answers, back_done}
 use Rattle.scenario.proofs.changing.take_back.Goals as goal
 
@@ -16,10 +16,13 @@ returns-in-Ok-clause-done g c = λ h ck from to saved at. record {
 pub returns-in-Err-clause-says : goal.returns-in-Err-clause-says
 returns-in-Err-clause-says g c = λ first second. record {
   past = past_of (g.H.Host.told c.args.host.now);
-  later = omega arith;
+  later = past_here g.H.Host.tells (past_of (g.H.Host.told c.args.host.now));
   says = back_past g.H.Host.tells (rollback (standing (g.H.Host.told c.args.host.now).state)).answer (g.H.Host.told c.args.host.now) (g.H.Host.told c.rollback.new.host) c.in-Err.fault c.in-Err.ensures.says;
 }
 
 pub returns-in-Err-clause-answer : goal.returns-in-Err-clause-answer
 returns-in-Err-clause-answer g c = λ h ck from to saved at made.
     back_answers from to ck saved (g.H.Host.told c.args.host.now) (g.H.Host.told c.rollback.new.host) at.reads made _ _ c.in-Err.fault (c.in-Err.ensures.answer h at.sound) (c.in-Err.ensures.exit h at.sound)
+
+pub returns-in-Ok-clause-follows : goal.returns-in-Ok-clause-follows
+returns-in-Ok-clause-follows g c = record { faults = c.rollback.ensures.later; quiet = c.in-Ok.ensures.says; moment = λ told. c.rollback.ensures.moment }

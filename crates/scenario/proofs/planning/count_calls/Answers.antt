@@ -4,11 +4,12 @@ use Rattle.std.proofs.lemmas.Result.{IfOk-weaker, IfErr-weaker}
 use Rattle.net_model.specs.NetData.{NetData}
 use Rattle.engine_model.specs.Merge.{merge}
 use Rattle.scenario_model.specs.Counts.{IsPlanned, HasPlan}
-use Rattle.scenario_model.specs.Saying.{StepSays}
+use Rattle.scenario_model.specs.Saying.{StepSays, past_of}
 use Rattle.scenario_model.specs.Answering.{StepAnswers}
 use Rattle.scenario.specs.Stages.{NoPlan}
 use Rattle.scenario.proofs.Says.{no_plan_says, dump_says}
 use Rattle.scenario.proofs.Answers.{same_found, no_plan_answers, dump_answers}
+use Rattle.host_core.specs.HostView.{Kernel}
 use Rattle.scenario.proofs.planning.count_calls.Goals as goal
 
 pub returns-in-Ok-clause-plan : goal.returns-in-Ok-clause-plan
@@ -23,8 +24,8 @@ pub returns-in-Ok-clause-says : goal.returns-in-Ok-clause-says
 returns-in-Ok-clause-says g c = λ first second is.
     let old = g.H.Host.told c.args.host.now in
     let new = g.H.Host.told c.dump.new.self in
-    IfErr-weaker c.calls_from.result (NoPlan c.args.doc.now c.in-Ok.from) (StepSays g.H.Host.tells first second old.faults new)
-    (no_plan_says g.H.Host.tells first second c.args.doc.now is c.in-Ok.from old.faults new c.in-Ok.ensures.fresh) c.calls_from.ensures.fails
+    IfErr-weaker c.calls_from.result (NoPlan c.args.doc.now c.in-Ok.from) (StepSays g.H.Host.tells first second (past_of old) new)
+    (no_plan_says g.H.Host.tells first second c.args.doc.now is c.in-Ok.from (past_of old) new c.in-Ok.ensures.fresh) c.calls_from.ensures.fails
 
 pub returns-in-Ok-clause-answer : goal.returns-in-Ok-clause-answer
 returns-in-Ok-clause-answer g c = λ h from found.
@@ -43,3 +44,9 @@ pub returns-in-Err-clause-answer : goal.returns-in-Err-clause-answer
 returns-in-Err-clause-answer g c = λ h from found.
     dump_answers (merge from c.args.doc.now) from (g.H.Host.told c.args.host.now) (g.H.Host.told c.dump.new.self) c.in-Err.fault found
     (λ e. c.in-Err.ensures.cause.failed (ap (λ f. Err f) e)) (λ e. c.in-Err.ensures.damaged (g.met.H.Host.honest_tells h) (ap (λ f. Err f) e))
+
+pub returns-in-Ok-clause-follows : goal.returns-in-Ok-clause-follows
+returns-in-Ok-clause-follows g c = record { faults = c.dump.ensures.cause.later; quiet = record { refusals = ap (λ (k : Kernel). k.refusals) c.in-Ok.ensures.calls; last = ap (λ (k : Kernel). k.last) c.in-Ok.ensures.calls }; moment = λ told. c.dump.ensures.stops.later }
+
+pub returns-in-Err-clause-follows : goal.returns-in-Err-clause-follows
+returns-in-Err-clause-follows g c = record { faults = c.dump.ensures.cause.later; quiet = record { refusals = ap (λ (k : Kernel). k.refusals) c.in-Err.ensures.kernel; last = ap (λ (k : Kernel). k.last) c.in-Err.ensures.kernel }; moment = λ told. c.dump.ensures.stops.later }

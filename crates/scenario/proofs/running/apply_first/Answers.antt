@@ -8,7 +8,7 @@ use Rattle.scenario.proofs.running.apply_first.Goals as goal
 
 pub returns-in-Ok-clause-says : goal.returns-in-Ok-clause-says
 returns-in-Ok-clause-says g c = λ one.
-    run_says_from g.H.Host.tells c.args.first.now c.args.second.now _ _ c.in-Ok.ensures.later (g.H.Host.told c.plan_second.new.host) c.plan_second.result (c.plan_second.ensures.says c.args.first.now one)
+    run_says_from g.H.Host.tells c.args.first.now c.args.second.now _ _ c.in-Ok.ensures.follows (g.H.Host.told c.plan_second.new.host) c.plan_second.result (c.plan_second.ensures.says c.args.first.now one)
 
 pub returns-in-Ok-clause-answer : goal.returns-in-Ok-clause-answer
 returns-in-Ok-clause-answer g c = λ h from middle one at.

@@ -8,7 +8,7 @@ use Rattle.scenario.proofs.running.apply_second.Goals as goal
 
 pub returns-in-Ok-clause-says : goal.returns-in-Ok-clause-says
 returns-in-Ok-clause-says g c = λ first one two.
-    run_says_from g.H.Host.tells first c.args.second.now _ _ c.in-Ok.ensures.later (g.H.Host.told c.summarize.new.host) c.summarize.result (c.summarize.ensures.says first c.args.second.now one two)
+    run_says_from g.H.Host.tells first c.args.second.now _ _ c.in-Ok.ensures.follows (g.H.Host.told c.summarize.new.host) c.summarize.result (c.summarize.ensures.says first c.args.second.now one two)
 
 pub returns-in-Ok-clause-answer : goal.returns-in-Ok-clause-answer
 returns-in-Ok-clause-answer g c = λ h first from middle last one two at.

@@ -6,7 +6,7 @@ use Rattle.scenario.proofs.running.plan_second.Goals as goal
 
 pub returns-in-Ok-clause-says : goal.returns-in-Ok-clause-says
 returns-in-Ok-clause-says g c = λ first one.
-    run_says_from g.H.Host.tells first c.args.second.now _ _ c.in-Ok.ensures.later (g.H.Host.told c.apply_second.new.host) c.apply_second.result (c.apply_second.ensures.says first one c.in-Ok.ensures.plan)
+    run_says_from g.H.Host.tells first c.args.second.now _ _ c.in-Ok.ensures.follows (g.H.Host.told c.apply_second.new.host) c.apply_second.result (c.apply_second.ensures.says first one c.in-Ok.ensures.plan)
 
 pub returns-in-Ok-clause-answer : goal.returns-in-Ok-clause-answer
 returns-in-Ok-clause-answer g c = λ h first from middle one at.

@@ -6,7 +6,7 @@ use Rattle.scenario.proofs.running.run.Goals as goal
 
 pub returns-in-Ok-clause-says : goal.returns-in-Ok-clause-says
 returns-in-Ok-clause-says g c =
-    run_says_from g.H.Host.tells c.args.first.now c.args.second.now _ _ c.in-Ok.ensures.later (g.H.Host.told c.try_first.new.host) c.try_first.result (c.try_first.ensures.says c.in-Ok.ensures.plan)
+    run_says_from g.H.Host.tells c.args.first.now c.args.second.now _ _ c.in-Ok.ensures.follows (g.H.Host.told c.try_first.new.host) c.try_first.result (c.try_first.ensures.says c.in-Ok.ensures.plan)
 
 pub returns-in-Ok-clause-answer : goal.returns-in-Ok-clause-answer
 returns-in-Ok-clause-answer g c = λ h from at.

@@ -4,7 +4,7 @@ use Rattle.scenario.proofs.running.try_first.Goals as goal
 
 pub returns-in-Ok-clause-says : goal.returns-in-Ok-clause-says
 returns-in-Ok-clause-says g c = λ one.
-    run_says_from g.H.Host.tells c.args.first.now c.args.second.now _ _ c.in-Ok.ensures.later (g.H.Host.told c.apply_first.new.host) c.apply_first.result (c.apply_first.ensures.says one)
+    run_says_from g.H.Host.tells c.args.first.now c.args.second.now _ _ c.in-Ok.ensures.follows (g.H.Host.told c.apply_first.new.host) c.apply_first.result (c.apply_first.ensures.says one)
 
 pub returns-in-Ok-clause-answer : goal.returns-in-Ok-clause-answer
 returns-in-Ok-clause-answer g c = λ h from middle one at.

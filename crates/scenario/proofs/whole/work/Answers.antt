@@ -9,14 +9,14 @@ returns-in-Ok-clause-says g c =
     let old = g.H.Host.told c.args.host.now in
     let new = g.H.Host.told c.run.new.host in
     work_says g.H.Host.tells c.args.first.now c.args.second.now old new c.run.result
-    (run_says_from g.H.Host.tells c.args.first.now c.args.second.now _ _ c.in-Ok.ensures.later new c.run.result c.run.ensures.says)
+    (run_says_from g.H.Host.tells c.args.first.now c.args.second.now _ _ c.in-Ok.ensures.follows new c.run.result c.run.ensures.says)
 
 pub returns-in-Ok-clause-answer : goal.returns-in-Ok-clause-answer
 returns-in-Ok-clause-answer g c = λ h.
     let old = g.H.Host.told c.args.host.now in
     let new = g.H.Host.told c.run.new.host in
     let first = first_net c.args.hardware.now.items in
-    let at = made_at first (g.H.Host.told c.make_first.new.host) (c.in-Ok.ensures.made (g.met.H.Host.honest_tells h)) in
+    let at = made_at first old.state (g.H.Host.told c.make_first.new.host) (c.in-Ok.ensures.made (g.met.H.Host.honest_tells h)) in
     work_answers c.args.hardware.now.items c.args.first.now c.args.second.now old new c.run.result
     (run_answers_from first c.args.first.now c.args.second.now _ _ c.in-Ok.ensures.later new c.run.result (c.run.ensures.answer h first at))
 

@@ -1,0 +1,226 @@
+-- What an apply tried before it says that a change may stand half way, what it dumped, and what it took back.
+use Rattle.std.proofs.Common.{◌≡◌, ◌≢◌, ◌⊎◌, ◌≤◌, ◌∙◌, inl, inr, arith, ℕ, Bool, true, false, refl, sym, ap, subst, Option, Some, None, Result, Ok, Err}
+use Rattle.std.specs.Prelude.{OnOk, OnErr, IfErr}
+use Rattle.net_model.specs.NetData.{NetData}
+use Rattle.document_model.specs.declared.Doc.{Doc}
+use Rattle.host_core.specs.Faults.{Rose, RoseTwice}
+use Rattle.host_core.specs.HostView.{State, HostView, WasRefused, NoneRefused}
+use Rattle.checkpoint_cell.specs.Cell.{Checkpoint, cell_of, saved_net, in_phase}
+use Rattle.checkpoint_cell.specs.Steps.{EitherPhase}
+use Rattle.checkpoint_cell.specs.declared.Phase.TheVariants.{Applying, Waiting}
+use Rattle.checkpoint_cell.specs.Settled.{Standing, standing, restored_to}
+use Rattle.engine_model.specs.Faults.{Tries, Dumps, Backs}
+use Rattle.engine_model.specs.declared.answers.Left.{Left}
+use Rattle.engine_model.specs.declared.answers.Left.TheVariants.{NotBegun, RolledBack, Pending}
+use Rattle.engine_model.specs.declared.answers.Applied.{Applied}
+use Rattle.engine_model.specs.declared.answers.BackFault.{BackFault}
+use Rattle.engine_model.specs.declared.answers.BackFault.TheVariants as ba
+use Rattle.engine_model.specs.declared.answers.ApplyFault.{ApplyFault}
+use Rattle.engine_model.specs.declared.answers.ApplyFault.TheVariants as ap_
+use Rattle.engine_model.specs.Machine.{apply_fault}
+use Rattle.engine_core.specs.declared.missed.Missed.{Missed}
+use Rattle.engine_core.specs.declared.missed.Missed.TheVariants as missed
+use Rattle.engine_core.specs.Saying.{Start, Why, taken_back_as, pending_as, damaged_as, stopped_as}
+
+twice : (a b c : ℕ) → Rose a b → Rose b c → RoseTwice a c
+twice a b c one two = omega arith
+
+once_more : (a b c : ℕ) → Rose a b → b ≤ c → Rose a c
+once_more a b c rose le = omega arith
+
+-- ---- what was tried
+
+-- the change was taken back
+pub taken_tries : (excuse : Type 0) (faults refusals : ℕ) (new : HostView) (why : Missed) → Tries excuse faults refusals new (Err (taken_back_as why))
+taken_tries excuse faults refusals new missed.Failed = tt
+taken_tries excuse faults refusals new (missed.Refused k n) = tt
+taken_tries excuse faults refusals new missed.Damaged = tt
+taken_tries excuse faults refusals new (missed.Differs found) = tt
+taken_tries excuse faults refusals new missed.OutOfMemory = tt
+
+module _ (tells : Type 0) (doc : Doc) (start : Start) (old new : HostView) (later : old.faults ≤ new.faults) where
+  module _ (excuse : Type 0) (fault : BackFault) (rose : (left : Left) → fault ≡ ba.HostFault left → Rose old.faults new.faults) (unrefused : (left : Left) → fault ≡ ba.HostFault left → NoneRefused old.kernel new.kernel)
+      (refused : (k n : ℕ) (left : Left) → fault ≡ ba.KernelRefused k n left → WasRefused k n old.kernel new.kernel) where
+    -- the host failed, and then the restoring didn't come to its end
+    failed_tries : (f : BackFault) → fault ≡ f → Rose start.faults old.faults → Tries excuse start.faults start.kernel.refusals new (Err (pending_as f))
+    failed_tries ba.NoCheckpoint is was = tt
+    failed_tries (ba.HostFault left) is was = inr (inl (twice start.faults old.faults new.faults was (rose left is)))
+    failed_tries (ba.KernelRefused k n left) is was = inr (inr (once_more start.faults old.faults new.faults was later))
+    failed_tries (ba.Damaged area) is was = tt
+    failed_tries (ba.HardwareDiffers names) is was = tt
+    failed_tries ba.OutOfMemory is was = tt
+
+    -- a call was refused, and then it didn't
+    refused_tries : (f : BackFault) → fault ≡ f → Rose start.kernel.refusals old.kernel.refusals → Tries excuse start.faults start.kernel.refusals new (Err (pending_as f))
+    refused_tries ba.NoCheckpoint is was = tt
+    refused_tries (ba.HostFault left) is was = inr (inr (subst (λ (r : ℕ). Rose start.kernel.refusals r) (sym (unrefused left is).refusals) was))
+    refused_tries (ba.KernelRefused k n left) is was = inr (inl (twice start.kernel.refusals old.kernel.refusals new.kernel.refusals was (refused k n left is).rose))
+    refused_tries (ba.Damaged area) is was = tt
+    refused_tries (ba.HardwareDiffers names) is was = tt
+    refused_tries ba.OutOfMemory is was = tt
+
+    -- the network that was made was compared
+    differs_tries : (f : BackFault) → excuse → Tries excuse start.faults start.kernel.refusals new (Err (pending_as f))
+    differs_tries ba.NoCheckpoint why = tt
+    differs_tries (ba.HostFault left) why = inl why
+    differs_tries (ba.KernelRefused k n left) why = inl why
+    differs_tries (ba.Damaged area) why = tt
+    differs_tries (ba.HardwareDiffers names) why = tt
+    differs_tries ba.OutOfMemory why = tt
+
+    damaged_tries : (f : BackFault) → Tries excuse start.faults start.kernel.refusals new (Err (damaged_as f))
+    damaged_tries ba.NoCheckpoint = tt
+    damaged_tries (ba.HostFault left) = tt
+    damaged_tries (ba.KernelRefused k n left) = tt
+    damaged_tries (ba.Damaged area) = tt
+    damaged_tries (ba.HardwareDiffers names) = tt
+    damaged_tries ba.OutOfMemory = tt
+
+    -- the restoring didn't come to its end
+    pub stopped_tries : (why : Missed) → Why tells doc start old why → ((found : NetData) → why ≡ missed.Differs found → excuse) → Tries excuse start.faults start.kernel.refusals new (Err (stopped_as why fault))
+    stopped_tries missed.Failed is compared = failed_tries fault refl is.1
+    stopped_tries (missed.Refused k n) is compared = refused_tries fault refl is.rose
+    stopped_tries missed.Damaged is compared = damaged_tries fault
+    stopped_tries (missed.Differs found) is compared = differs_tries fault (compared found refl)
+    stopped_tries missed.OutOfMemory is compared = tt
+
+-- where the attempt succeeded, only the clearing may fail
+pub finished_tries : (excuse : Type 0) (faults refusals : ℕ) (new : HostView) (result : Result Applied ApplyFault) → IfErr result (λ fault. fault ≡ ap_.InDoubt) → Tries excuse faults refusals new result
+finished_tries excuse faults refusals new (Ok done) doubt = tt
+finished_tries excuse faults refusals new (Err fault) doubt = subst (λ (f : ApplyFault). Tries excuse faults refusals new (Err f)) (sym doubt) tt
+
+-- a dump failed before anything was changed
+pub left_tries : (excuse : Type 0) (faults refusals : ℕ) (new : HostView) (left : Left) → left ≢ Pending → Tries excuse faults refusals new (Err (ap_.HostFault left))
+left_tries excuse faults refusals new NotBegun is = tt
+left_tries excuse faults refusals new RolledBack is = tt
+left_tries excuse faults refusals new Pending is = absurd (is refl)
+
+-- with one excuse more
+pub tries_more : (first second : Type 0) (faults refusals : ℕ) (new : HostView) (result : Result Applied ApplyFault) → Tries second faults refusals new result → Tries (first ⊎ second) faults refusals new result
+tries_more first second faults refusals new (Ok done) tries = tt
+tries_more first second faults refusals new (Err (ap_.Pending deadline)) tries = tt
+tries_more first second faults refusals new (Err (ap_.MergeRefused refused)) tries = tt
+tries_more first second faults refusals new (Err (ap_.HostFault NotBegun)) tries = tt
+tries_more first second faults refusals new (Err (ap_.HostFault RolledBack)) tries = tt
+tries_more first second faults refusals new (Err (ap_.HostFault Pending)) (inl why) = inl (inr why)
+tries_more first second faults refusals new (Err (ap_.HostFault Pending)) (inr rose) = inr rose
+tries_more first second faults refusals new (Err ap_.InDoubt) tries = tt
+tries_more first second faults refusals new (Err (ap_.KernelRefused k n NotBegun)) tries = tt
+tries_more first second faults refusals new (Err (ap_.KernelRefused k n RolledBack)) tries = tt
+tries_more first second faults refusals new (Err (ap_.KernelRefused k n Pending)) (inl why) = inl (inr why)
+tries_more first second faults refusals new (Err (ap_.KernelRefused k n Pending)) (inr rose) = inr rose
+tries_more first second faults refusals new (Err (ap_.NotVerified found left)) tries = tt
+tries_more first second faults refusals new (Err (ap_.Damaged area)) tries = tt
+tries_more first second faults refusals new (Err (ap_.HardwareDiffers names)) tries = tt
+tries_more first second faults refusals new (Err ap_.OutOfMemory) tries = tt
+
+-- the settling didn't come to its end
+pub unsettled_tries : (taken second : Type 0) (faults refusals : ℕ) (new : HostView) (fault : BackFault) → (fault ≡ ba.HostFault Pending → taken) → ((k n : ℕ) (left : Left) → fault ≡ ba.KernelRefused k n left → taken)
+    → Tries (taken ⊎ second) faults refusals new (Err (apply_fault fault))
+unsettled_tries taken second faults refusals new ba.NoCheckpoint failed refused = tt
+unsettled_tries taken second faults refusals new (ba.HostFault NotBegun) failed refused = tt
+unsettled_tries taken second faults refusals new (ba.HostFault RolledBack) failed refused = tt
+unsettled_tries taken second faults refusals new (ba.HostFault Pending) failed refused = inl (inl (failed refl))
+unsettled_tries taken second faults refusals new (ba.KernelRefused k n NotBegun) failed refused = tt
+unsettled_tries taken second faults refusals new (ba.KernelRefused k n RolledBack) failed refused = tt
+unsettled_tries taken second faults refusals new (ba.KernelRefused k n Pending) failed refused = inl (inl (refused k n Pending refl))
+unsettled_tries taken second faults refusals new (ba.Damaged area) failed refused = tt
+unsettled_tries taken second faults refusals new (ba.HardwareDiffers names) failed refused = tt
+unsettled_tries taken second faults refusals new ba.OutOfMemory failed refused = tt
+
+-- ---- what was dumped
+
+some_is : (fresh : Option NetData) (from net : NetData) → fresh ≡ Some from → fresh ≡ Some net → from ≡ net
+some_is fresh from net is has = let e : Some from ≡ Some net = sym is ∙ has in cc
+
+-- a dump that is as fresh as it was, or isn't any more
+pub fresh_on : (old mid new : Option NetData) → (mid ≡ old) ⊎ (mid ≡ None) → new ≡ mid → (new ≡ old) ⊎ (new ≡ None)
+fresh_on old mid new (inl same) is = inl (is ∙ same)
+fresh_on old mid new (inr none) is = inr (is ∙ none)
+
+-- what holds of every answer
+pub ok_any : {A E P : Type 0} (result : Result A E) → P → OnOk result P
+ok_any (Ok a) p = p
+ok_any (Err e) p = tt
+
+pub err_any : {A E P : Type 0} (result : Result A E) → P → OnErr result P
+err_any (Ok a) p = tt
+err_any (Err e) p = p
+
+-- the last dump that is fresh is the one of the network that was saved
+fresh_is : (mid new : Option NetData) (from net : NetData) → mid ≡ Some from → (new ≡ mid) ⊎ (new ≡ None) → new ≡ Some net → from ≡ net
+fresh_is mid new from net is (inl same) has = some_is mid from net is (sym same ∙ has)
+fresh_is mid new from net is (inr none) has = let e : None ≡ Some net = sym none ∙ has in absurd (cc)
+
+pub dumped_as : (tells : Type 0) (no_verify : Bool) (from : NetData) (old mid new : HostView) (result : Result Applied ApplyFault) → (tells → old.fresh ≡ Some from) → (no_verify ≡ false → mid.kernel.calls ≡ 0) → new.kernel ≡ mid.kernel
+    → (tells → no_verify ≡ true → (mid.fresh ≡ old.fresh) ⊎ (mid.fresh ≡ None)) → (tells → new.fresh ≡ mid.fresh) → (tells → OnOk result (saved_net new.state.cell ≡ Some from)) → Dumps tells no_verify new result
+dumped_as tells no_verify from old mid new (Ok done) was calls kernel fresh same saved = (
+  λ verified. (λ i. (kernel i).calls) ∙ calls verified,
+  λ skipped told net is. saved told ∙ ap (λ (n : NetData). Some n) (fresh_is old.fresh mid.fresh from net (was told) (fresh told skipped) (sym (same told) ∙ is)),
+)
+dumped_as tells no_verify from old mid new (Err fault) was calls kernel fresh same saved = tt
+
+-- ---- what was taken back
+
+-- a checkpoint in either phase stands
+pub phase_stands : (checkpoint : Checkpoint) (cell : Option Checkpoint) → EitherPhase checkpoint cell → cell ≢ None
+phase_stands checkpoint cell (inl is) none = let e : Some (in_phase Applying checkpoint) ≡ None = sym is ∙ none in cc
+phase_stands checkpoint cell (inr is) none = let e : Some (in_phase Waiting checkpoint) ≡ None = sym is ∙ none in cc
+
+-- the change was
+pub taken_backs : (before : Option NetData) (new : HostView) (why : Missed) → (new.state.net ≡ saved_net new.state.cell) ⊎ (new.state.net ≡ before) → Backs before new (Err (taken_back_as why))
+taken_backs before new missed.Failed is = is
+taken_backs before new (missed.Refused k n) is = tt
+taken_backs before new missed.Damaged is = tt
+taken_backs before new (missed.Differs found) is = tt
+taken_backs before new missed.OutOfMemory is = tt
+
+-- a restoring was made, or none was needed
+pub back_or : (before : Option NetData) (old new : HostView) (was : Bool) → (was ≡ true → new.state.net ≡ saved_net new.state.cell) → (was ≡ false → cell_of old.state.cell ≡ None) → (was ≡ false → new.state ≡ old.state)
+    → (cell_of old.state.cell ≡ None → old.state.net ≡ before) → (new.state.net ≡ saved_net new.state.cell) ⊎ (new.state.net ≡ before)
+back_or before old new true reads empty same unset = inl (reads refl)
+back_or before old new false reads empty same unset = inr (ap (λ (s : State). s.net) (same refl) ∙ unset (empty refl))
+
+pending_backs : (before : Option NetData) (new : HostView) (fault : BackFault) → Backs before new (Err (pending_as fault))
+pending_backs before new ba.NoCheckpoint = tt
+pending_backs before new (ba.HostFault left) = tt
+pending_backs before new (ba.KernelRefused k n left) = tt
+pending_backs before new (ba.Damaged area) = tt
+pending_backs before new (ba.HardwareDiffers names) = tt
+pending_backs before new ba.OutOfMemory = tt
+
+damaged_backs : (before : Option NetData) (new : HostView) (fault : BackFault) → Backs before new (Err (damaged_as fault))
+damaged_backs before new ba.NoCheckpoint = tt
+damaged_backs before new (ba.HostFault left) = tt
+damaged_backs before new (ba.KernelRefused k n left) = tt
+damaged_backs before new (ba.Damaged area) = tt
+damaged_backs before new (ba.HardwareDiffers names) = tt
+damaged_backs before new ba.OutOfMemory = tt
+
+-- it wasn't
+pub stopped_backs : (before : Option NetData) (new : HostView) (why : Missed) (fault : BackFault) → Backs before new (Err (stopped_as why fault))
+stopped_backs before new missed.Failed fault = pending_backs before new fault
+stopped_backs before new (missed.Refused k n) fault = pending_backs before new fault
+stopped_backs before new missed.Damaged fault = damaged_backs before new fault
+stopped_backs before new (missed.Differs found) fault = pending_backs before new fault
+stopped_backs before new missed.OutOfMemory fault = tt
+
+pub finished_backs : (before : Option NetData) (new : HostView) (result : Result Applied ApplyFault) → IfErr result (λ fault. fault ≡ ap_.InDoubt) → Backs before new result
+finished_backs before new (Ok done) doubt = tt
+finished_backs before new (Err fault) doubt = subst (λ (f : ApplyFault). Backs before new (Err f)) (sym doubt) tt
+
+-- a dump failed before anything was changed
+pub left_backs : (before : Option NetData) (new : HostView) (left : Left) → new.state.net ≡ before → Backs before new (Err (ap_.HostFault left))
+left_backs before new NotBegun is = tt
+left_backs before new RolledBack is = inr is
+left_backs before new Pending is = tt
+
+pub unsettled_backs : (before : Option NetData) (new : HostView) (fault : BackFault) → ((left : Left) → fault ≡ ba.HostFault left → left ≢ RolledBack) → Backs before new (Err (apply_fault fault))
+unsettled_backs before new ba.NoCheckpoint side = tt
+unsettled_backs before new (ba.HostFault NotBegun) side = tt
+unsettled_backs before new (ba.HostFault RolledBack) side = absurd (side RolledBack refl refl)
+unsettled_backs before new (ba.HostFault Pending) side = tt
+unsettled_backs before new (ba.KernelRefused k n left) side = tt
+unsettled_backs before new (ba.Damaged area) side = tt
+unsettled_backs before new (ba.HardwareDiffers names) side = tt
+unsettled_backs before new ba.OutOfMemory side = tt
