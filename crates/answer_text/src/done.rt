@@ -1,9 +1,10 @@
 //! The lines of commands that are done, each with its end. They take no memory.
 ghost use Rattle.std.specs.Prelude.{◌≡◌, ◌≤◌, ◌+◌, ◌++◌, length, codes, decimal};
-ghost use Rattle.top_model.specs.Said.{Says, line, said_applied, said_recovered, committed, rolled_back, made, summary_lines};
+ghost use Rattle.top_model.specs.Said.{Says, line, said_applied, said_recovered, committed, rolled_back, made, checked, phase_words, seen_words, summary_lines};
 
 use crate::line::{Line, ROOM, push_number};
-use engine_model::{Applied, Recovered};
+use checkpoint_cell::{Phase, Seen};
+use engine_model::{Applied, Checked, Recovered};
 use scenario_model::Summary;
 
 // Words, a number and more words.
@@ -92,4 +93,51 @@ pub fn summary_lines(summary: &Summary) -> Line
     push_count(&mut lines, b"\nmetrics ", summary.metrics);
     lines.push(b"\n");
     lines
+}
+
+// Appends the word of a phase.
+fn push_phase(line: &mut Line, phase: Phase)
+    requires { length line.old + 8 ≤ ROOM }
+    ensures added { line.new ≡ line.old ++ phase_words phase }
+    ensures long { length line.new ≤ length line.old + 8 }
+{
+    match phase {
+        Phase::Applying => line.push(b"applying"),
+        Phase::Waiting => line.push(b"waiting"),
+    }
+}
+
+// Appends what is seen of a checkpoint.
+fn push_seen(line: &mut Line, seen: Seen)
+    requires { length line.old + 106 ≤ ROOM }
+    ensures added { line.new ≡ line.old ++ seen_words seen }
+    ensures long { length line.new ≤ length line.old + 106 }
+{
+    match seen {
+        Seen::Empty => line.push(b"none"),
+        Seen::Set {
+            phase,
+            made,
+            deadline,
+        } => {
+            push_phase(line, phase);
+            line.push(b", made ");
+            push_number(line, made);
+            line.push(b", deadline ");
+            push_number(line, deadline);
+        }
+    }
+}
+
+/// What is said of a check: how many links the network has, and what the checkpoint is.
+pub fn checked_line(found: Checked) -> Line
+    ensures { Says (checked found) result }
+{
+    let mut line = Line::new();
+    line.push(b"kernel ");
+    push_number(&mut line, found.links as u64);
+    line.push(b" links, checkpoint ");
+    push_seen(&mut line, found.cell);
+    line.push(b"\n");
+    line
 }

@@ -1,6 +1,7 @@
 //! The lines of errors, each with its end.
 ghost use Rattle.std.specs.Prelude.{◌≡◌, ◌≤◌, ◌++◌, length, codes, decimal};
-ghost use Rattle.top_model.specs.Texts.{error, error_line, times, left_words};
+ghost use Rattle.top_model.specs.Said.{times};
+ghost use Rattle.top_model.specs.Texts.{error, error_line, left_words};
 ghost use Rattle.top_model.specs.declared.report.Cause.TheVariants.{MergeRefused, KernelRefused, Damaged};
 
 use crate::line::{Line, push_number};

@@ -19,11 +19,10 @@ mod refusals;
 mod telling;
 // The status lines of a script.
 mod status;
-#[cfg(test)]
-mod tests;
 
 pub use done::{
-    applied_line, committed_line, made_line, recovered_line, rolled_back_line, summary_lines,
+    applied_line, checked_line, committed_line, made_line, recovered_line, rolled_back_line,
+    summary_lines,
 };
 pub use line::{Line, ROOM, push_number};
 pub use status::write_status;

@@ -1,6 +1,7 @@
 //! The words of what an answer carries: what stands after a fault, a rule of the merge and its place, an area.
 ghost use Rattle.std.specs.Prelude.{◌≡◌, ◌≤◌, ◌+◌, ◌++◌, length, codes, decimal};
-ghost use Rattle.top_model.specs.Texts.{left_words, rule_name, which_words, place_words, merge_words, area_words, times};
+ghost use Rattle.top_model.specs.Said.{times};
+ghost use Rattle.top_model.specs.Texts.{left_words, rule_name, which_words, place_words, merge_words, area_words};
 
 use crate::line::{Line, ROOM, push_number};
 use document_model::{Place, Refused};
@@ -70,6 +71,7 @@ fn rule_name(rule: u8) -> &'static [u8]
         19 => b"RouteGateway",
         20 => b"RouteTwin",
         21 => b"Limit",
+        22 => b"PeerBroken",
         _ => b"",
     }
 }

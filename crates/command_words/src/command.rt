@@ -12,7 +12,7 @@ pub const MIN_DEVICES: u32 = 1;
 pub const MAX_DEVICES: u32 = 100;
 
 /// A command with its arguments. A FILE that is missing is standard input.
-#[derive(Debug, PartialEq, Eq, Drop)]
+#[derive(PartialEq, Eq, Drop)]
 pub enum Command {
     Show {
         only: Option<Str>,
@@ -31,6 +31,7 @@ pub enum Command {
     Commit,
     Rollback,
     Recover,
+    Check,
     Init {
         file: Option<Str>,
     },

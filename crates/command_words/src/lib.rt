@@ -16,6 +16,3 @@ mod words;
 
 pub use command::{Command, DEFAULT_TIMEOUT, MAX_DEVICES, MIN_DEVICES};
 pub use words::{command_of, lone};
-
-#[cfg(test)]
-mod tests;

@@ -16,6 +16,9 @@ pub enum FileFault {
     /// The files couldn't be opened or made when the disk was.
     #[error("the files of the folder aren't open")]
     NotOpen,
+    /// The folder couldn't be locked at the first call: another program works on it.
+    #[error("the folder is in use")]
+    InUse,
     /// A write took none of its bytes.
     #[error("a write stood still")]
     NothingWritten,

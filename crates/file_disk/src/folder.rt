@@ -15,10 +15,20 @@ const KERNEL: &str = "kernel";
 /// The file of area 1, the checkpoint.
 const CELL: &str = "cell";
 
+// The lock on a folder, which keeps every other program that takes it off the files.
+#[derive(Drop)]
+enum Lock {
+    Untried,
+    Held,
+    Refused,
+}
+
 // The open files of a folder, and the folder itself.
 #[derive(Drop)]
 struct Opened {
     folder: File,
+    // It is tried once, at the first call, and ends with the disk or the process, whatever ends that.
+    lock: Lock,
     kernel: File,
     cell: File,
     // Whether the folder was synced since it was opened, so that its files keep their names.
@@ -49,6 +59,7 @@ fn open_file(rt: &HostRuntime, folder: &str, name: &str) -> Result<File, FileFau
 fn open_all(rt: &HostRuntime, folder: &str) -> Result<Opened, FileFault> {
     Ok(Opened {
         folder: File::open(rt, folder)?,
+        lock: Lock::Untried,
         kernel: open_file(rt, folder, KERNEL)?,
         cell: open_file(rt, folder, CELL)?,
         is_synced: false,
@@ -57,7 +68,8 @@ fn open_all(rt: &HostRuntime, folder: &str) -> Result<Opened, FileFault> {
 
 impl WholeDisk<Folder> {
     /// A disk over the files of this folder. Where the folder isn't there, or its files can't be opened or made, each
-    /// call on the disk fails, and this counts as a first one that did.
+    /// call on the disk fails, and this counts as a first one that did. The first call on the disk locks the folder without
+    /// waiting, and the lock is held as long as the disk lives; where another holds it, that call and each later one fails.
     pub fn open(rt: &HostRuntime, folder: &str) -> FileDisk
         ensures { (⟦<WholeDisk<Folder> as Disk>⟧.told result).faults ≤ 1 }
     {
@@ -77,6 +89,21 @@ impl Opened {
         if area == 0 { &self.kernel } else { &self.cell }
     }
 
+    // Locks the folder, at the first call alone: a lock that was refused once isn't tried again, so that no command begins
+    // on a state that another one is about to leave.
+    fn lock(&mut self) -> Result<(), FileFault> {
+        if let Lock::Untried = self.lock {
+            self.lock = match self.folder.try_lock() {
+                Ok(()) => Lock::Held,
+                Err(_) => Lock::Refused,
+            };
+        }
+        match self.lock {
+            Lock::Held => Ok(()),
+            _ => Err(FileFault::InUse),
+        }
+    }
+
     // Syncs the folder once.
     fn sync_folder(&mut self) -> Result<(), FileFault> {
         if !self.is_synced {
@@ -88,9 +115,13 @@ impl Opened {
 }
 
 impl Folder {
+    // The open files, once the folder is locked.
     fn opened(&mut self) -> Result<&mut Opened, FileFault> {
         match &mut self.opened {
-            Some(opened) => Ok(opened),
+            Some(opened) => {
+                opened.lock()?;
+                Ok(opened)
+            }
             None => Err(FileFault::NotOpen),
         }
     }

@@ -53,3 +53,27 @@ fn what_was_written_is_read_by_a_disk_made_anew(rt: HostRuntime) -> Result<(), F
     fs::remove_dir_all(&rt, FOLDER)?;
     Ok(())
 }
+
+#[test]
+fn a_folder_in_use_is_refused_until_its_disk_ends(rt: HostRuntime) -> Result<(), Fail> {
+    let folder = "file_disk_lock_test";
+    let _ = fs::remove_dir_all(&rt, folder);
+    fs::create_dir(&rt, folder)?;
+    // Nothing is locked before the first call.
+    let mut idle = FileDisk::open(&rt, folder);
+    let mut first = FileDisk::open(&rt, folder);
+    assert_eq!(rt; first.write_at(1, 0, b"cell"), Ok(()));
+    let mut second = FileDisk::open(&rt, folder);
+    assert_eq!(rt; second.size(1), Err(Failed));
+    assert_eq!(rt; second.write_at(1, 0, b"other"), Err(Failed));
+    assert_eq!(rt; first.size(1), Ok(4));
+    drop(first);
+    // What was refused once stays so; another disk isn't.
+    assert_eq!(rt; second.size(1), Err(Failed));
+    assert_eq!(rt; second.faults(), 3);
+    assert_eq!(rt; idle.size(1), Ok(4));
+    assert_eq!(rt; idle.faults(), 0);
+    drop(idle);
+    fs::remove_dir_all(&rt, folder)?;
+    Ok(())
+}

@@ -1,30 +1,32 @@
 -- All that is said of an apply, from what the engine promises of it.
-use Rattle.std.proofs.Common.{◌≡◌, inr, refl, ap}
-use Rattle.std.specs.Prelude.{◌≢◌, ℕ, Some, Result, Ok, Err}
+use Rattle.std.proofs.Common.{◌≡◌, inl, inr, refl, sym, ap, ◌∙◌}
+use Rattle.std.specs.Prelude.{◌≢◌, Some, Result, Ok, Err}
 use Rattle.net_model.specs.NetData.{NetData}
 use Rattle.document_model.specs.declared.Doc.{Doc}
 use Rattle.host_core.specs.HostView.{State}
 use Rattle.plan_model.specs.Undisturbed.{IsUndisturbed}
-use Rattle.checkpoint_cell.specs.Settled.{standing, restored_to}
+use Rattle.checkpoint_cell.specs.Settled.{Standing, standing, restored_to}
 use Rattle.engine_model.specs.Merge.{merge}
-use Rattle.engine_model.specs.Machine.{Asked, asked, apply}
+use Rattle.engine_model.specs.Machine.{Asked, asked, apply, recover}
 use Rattle.engine_model.specs.Sound.{Sound}
 use Rattle.engine_model.specs.Stations.{Stands, Entry, Only, Settled, Either, Kept, at}
 use Rattle.engine_model.specs.Exit.{ApplyExit}
-use Rattle.engine_model.specs.Faults.{ApplyAnswers, ApplySays}
+use Rattle.engine_model.specs.Faults.{ApplyAnswers, ApplyExact, ApplySays, Tries, Dumps, Backs}
 use Rattle.engine_model.specs.declared.Left.TheVariants as sides
 use Rattle.engine_model.specs.declared.Applied.{Applied}
 use Rattle.engine_model.specs.declared.ApplyFault.{ApplyFault}
 use Rattle.engine_model.specs.declared.ApplyFault.TheVariants.{Pending, MergeRefused, HostFault, KernelRefused, NotVerified, InDoubt, Damaged, HardwareDiffers, OutOfMemory}
 use Rattle.engine_model.specs.declared.ApplyOpts.{ApplyOpts}
 use Rattle.top_model.specs.Said.{said_applied}
-use Rattle.top_model.specs.Orders.{Inputs, Order, applying, committing, rolling_back, recovering, order_of}
+use Rattle.top_model.specs.Orders.{Inputs, applying, committing, rolling_back, recovering, order_of}
 use Rattle.top_model.specs.Machine.{told, apply_cause}
 use Rattle.top_model.specs.Runs.{Run, MayRead, HostRose, HostRoseTwice, entry, reads, left_at_exit}
 use Rattle.top_model.specs.Told.{Answer, Told}
-use Rattle.top_model.specs.Causes.{MayWant, MayAnswer, Comes, Expects}
+use Rattle.top_model.specs.Causes.{MayWant, MayAnswer, Comes, Expects, ExactlyOf}
+use Rattle.top_model.specs.Tried.{HasExcuse, Tried}
 use Rattle.top_model.specs.Exits.{ApplyLeaves}
 use Rattle.top_model.specs.Answered.{GoesOn, Answered}
+use Rattle.top_model.proofs.lemmas.Settling.{refused_settles, pending_stays}
 use Rattle.top_model.proofs.lemmas.Wanting.{may_want_order}
 
 abbrev pub answer_of : Result Applied ApplyFault → Answer
@@ -75,17 +77,51 @@ module _ (r : Run) (doc : Doc) (opts : ApplyOpts) where
   abbrev Ask : Asked
   Ask = asked doc opts r.now
 
-  comes : (result : Result Applied ApplyFault) → ApplySays r.host_tells Ask r.host r.host_after result → MayWant r → Comes r (Ok (applying doc opts)) (answer_of result)
-  comes (Ok done) says wants = says
-  comes (Err (Pending deadline)) says wants = λ t. ap answer_of (says t)
-  comes (Err (MergeRefused refused)) says wants = (λ t. let s = says t in record { doc = doc; net = s.0; is_doc = refl; dumped = s.1; broken = s.2 }, tt)
-  comes (Err (HostFault side)) says wants = (says.0, says.1)
-  comes (Err (KernelRefused k n side)) says wants = says
-  comes (Err (NotVerified found side)) says wants = (says.0, λ t. let s = says.1 t in record { doc = doc; saved = s.0; is_doc = refl; is_saved = s.1; other = s.2 })
-  comes (Err InDoubt) says wants = (says, λ t. tt)
-  comes (Err (Damaged area)) says wants = says
-  comes (Err (HardwareDiffers names)) says wants = says
-  comes (Err OutOfMemory) says wants = wants
+  comes : (result : Result Applied ApplyFault) → ApplySays r.host_tells Ask r.host r.host_after result → (r.honest → ApplyExact (HostRose r) (apply Ask (reads r)) r.host_after result) → MayWant r → Comes r (Ok (applying doc opts)) (answer_of result)
+  comes (Ok done) says exact wants = says
+  comes (Err (Pending deadline)) says exact wants = (λ t. ap answer_of (says t).answer, λ t. (says t).after ∙ pending_stays Ask deadline (reads r) (says t).answer)
+  comes (Err (MergeRefused refused)) says exact wants = (
+    λ t. let s = says t in record { doc = doc; net = s.0; is_doc = refl; dumped = s.1; broken = s.2 },
+    λ honest. let is = exact honest in refused_settles Ask refused (reads r) is.answer ∙ ap (λ (x : Standing). Some x) (sym is.after),
+  )
+  comes (Err (HostFault side)) says exact wants = (says.0, says.1)
+  comes (Err (KernelRefused k n side)) says exact wants = (says.0, (says.1, says.2))
+  comes (Err (NotVerified found side)) says exact wants = (says.0, says.1, says.2, λ t. let s = says.3 t in record { doc = doc; saved = s.0; is_doc = refl; is_saved = s.1; other = s.2 })
+  comes (Err InDoubt) says exact wants = (says, λ t. tt)
+  comes (Err (Damaged area)) says exact wants = says
+  comes (Err (HardwareDiffers names)) says exact wants = says
+  comes (Err OutOfMemory) says exact wants = wants
+
+  tried : (result : Result Applied ApplyFault) → Tries (HasExcuse r opts) r.host.faults r.host.kernel.refusals r.host_after result → Dumps r.host_tells opts.no_verify r.host_after result
+      → (r.honest → Backs (recover r.now (reads r)).after.net r.host_after result) → Tried r (Ok (applying doc opts)) (answer_of result)
+  tried (Ok done) tries dumps backs = record { verified = dumps.0; skipped = dumps.1 }
+  tried (Err (Pending deadline)) tries dumps backs = tt
+  tried (Err (MergeRefused refused)) tries dumps backs = tt
+  tried (Err (HostFault sides.NotBegun)) tries dumps backs = tt
+  tried (Err (HostFault sides.RolledBack)) tries dumps backs = backs
+  tried (Err (HostFault sides.Pending)) tries dumps backs = tries
+  tried (Err (KernelRefused k n sides.NotBegun)) tries dumps backs = tt
+  tried (Err (KernelRefused k n sides.RolledBack)) tries dumps backs = tt
+  tried (Err (KernelRefused k n sides.Pending)) tries dumps backs = tries
+  tried (Err (NotVerified found side)) tries dumps backs = tt
+  tried (Err InDoubt) tries dumps backs = tt
+  tried (Err (Damaged area)) tries dumps backs = tt
+  tried (Err (HardwareDiffers names)) tries dumps backs = tt
+  tried (Err OutOfMemory) tries dumps backs = tt
+
+  exactly : (result : Result Applied ApplyFault) → ApplyExact (HostRose r) (apply Ask (reads r)) r.host_after result → MayWant r → ExactlyOf r (Ok (applying doc opts)) (answer_of result)
+  exactly (Ok done) is wants = ap answer_of is.answer
+  exactly (Err (Pending deadline)) is wants = ap answer_of is.answer
+  exactly (Err (MergeRefused refused)) is wants = ap answer_of is.answer
+  exactly (Err (HostFault side)) is wants = is
+  exactly (Err InDoubt) is wants = (is.0, (said_applied is.1.done, ap answer_of is.1.answer, is.1.net))
+  exactly (Err (KernelRefused k n side)) is wants = is
+  exactly (Err (NotVerified found side)) is wants = is
+  exactly (Err (Damaged area)) (inl rose) wants = inl rose
+  exactly (Err (Damaged area)) (inr is) wants = inr (ap answer_of is.answer)
+  exactly (Err (HardwareDiffers names)) (inl rose) wants = inl rose
+  exactly (Err (HardwareDiffers names)) (inr is) wants = inr (ap answer_of is.answer)
+  exactly (Err OutOfMemory) is wants = wants
 
   expects : (result : Result Applied ApplyFault) → ApplyAnswers Ask r.host r.host_after result → MayWant r → Expects r (Ok (applying doc opts)) (answer_of result)
   expects (Ok done) is wants = record { answer = ap answer_of is.answer; after = is.after }
@@ -101,6 +137,9 @@ module _ (r : Run) (doc : Doc) (opts : ApplyOpts) where
 
   module _ (inputs : Inputs) (may_read : MayRead r inputs) (is : order_of r.in_script inputs r.words ≡ Ok (applying doc opts)) (result : Result Applied ApplyFault)
       (says : ApplySays r.host_tells Ask r.host r.host_after result)
+      (tries : Tries (HasExcuse r opts) r.host.faults r.host.kernel.refusals r.host_after result) (dumps : Dumps r.host_tells opts.no_verify r.host_after result)
+      (backs : r.honest → Backs (recover r.now (reads r)).after.net r.host_after result)
+      (exact : r.honest → ApplyExact (HostRose r) (apply Ask (reads r)) r.host_after result)
       (answers : r.honest → Sound r.host → ApplyAnswers Ask r.host r.host_after result)
       (exits : r.honest → Sound r.host → ApplyExit Ask (entry r) (left_at_exit r) (HostRose r) (HostRoseTwice r) result)
       (read_exits : r.honest → Sound r.host → ApplyExit Ask (at (reads r)) (Only (standing r.host_after.state)) (HostRose r) (HostRoseTwice r) result)
@@ -116,7 +155,9 @@ module _ (r : Run) (doc : Doc) (opts : ApplyOpts) where
       gives = (inputs, may_read, is);
       answer = answer_of result;
       may = may doc opts result;
-      comes = comes result says wants;
+      comes = comes result says exact wants;
+      tried = tried result tries dumps backs;
+      exactly = λ honest. exactly result (exact honest) wants;
       told = told;
       goes_on = goes_on;
       expects = λ a. expects result (answers a.honest a.sound) wants;

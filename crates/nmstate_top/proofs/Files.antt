@@ -2,8 +2,7 @@
 use Rattle.std.proofs.Common.{◌≡◌, ◌≢◌, ◌∙◌, ◌⊎◌, inl, inr, refl, sym, ap, List, Option, Some, None}
 use Rattle.std.specs.Prelude.{[], false, option_map, Result, Ok, Err, Vec}
 use Rattle.std.specs.declared.alloc.Global.{Global}
-use Rattle.command_words.specs.Words.{lone, command_of}
-use Rattle.command_words.specs.declared.Command.{Command}
+use Rattle.command_words.specs.Words.{command_of}
 use Rattle.command_words.specs.declared.Command.TheVariants.{Commit, Rollback, Recover}
 use Rattle.order_reading.specs.Reading.{Reads}
 use Rattle.order_reading.specs.Steps.{seen}
@@ -13,7 +12,7 @@ use Rattle.top_model.specs.Texts.{status_of, error_line}
 use Rattle.top_model.specs.Runs.{Run, SourceRose}
 use Rattle.top_model.specs.Told.{Told}
 use Rattle.top_model.specs.Causes.{MayWant}
-use Rattle.top_model.specs.Scripts.{Folded, EndsSteps, file_of, as_steps, script_of, GivesScript, KeepsFrom, IsUnrun, ScriptAnswered}
+use Rattle.top_model.specs.Scripts.{Folded, EndsSteps, file_of, as_steps, GivesScript, KeepsFrom, ScriptAnswered}
 use Rattle.top_model.specs.declared.Step.{Step}
 use Rattle.top_model.specs.declared.report.Cause.{Cause}
 use Rattle.top_model.specs.declared.report.Cause.TheVariants.{DocRefused, Usage, BadLine, NoSuchName, ReadFault, OutOfMemory}
@@ -35,7 +34,7 @@ failed c = Err c
 abbrev Steps : Type 0
 Steps = Result (List Timed) Cause
 
-module _ (r : Run) (file : Option Text) (is : file_of (command_of r.words) ≡ Some file) where
+module _ (r : Run) (runs : List Timed → Type 0) (file : Option Text) (is : file_of (command_of r.words) ≡ Some file) where
   -- no single word is a script
   may_want : MayWant r
   may_want = record {
@@ -53,11 +52,11 @@ module _ (r : Run) (file : Option Text) (is : file_of (command_of r.words) ≡ S
       (inputs, may_read, ap (λ (f : Option (Option Text)). option_map (λ f. and_then (input false inputs f) (λ bytes. as_steps (steps_of bytes))) f) is ∙ ap Some same)
 
   -- its steps are run
-  pub run : (steps : Vec Step Global) → Reads seen read r.source_tells r.source r.source_after (Ok steps) → Folded (seen steps) r → EndsSteps r.report.cause → ScriptAnswered r
-  run steps reads folded ends = record { script = Ok (seen steps); gives = gives reads.0 reads.1 (Ok (seen steps)) reads.2; comes = inr (folded, ends) }
+  pub run : (steps : Vec Step Global) → Reads seen read r.source_tells r.source r.source_after (Ok steps) → Folded (seen steps) r → EndsSteps r.report.cause → runs (seen steps) → ScriptAnswered r runs
+  run steps reads folded ends ran = record { script = Ok (seen steps); gives = gives reads.0 reads.1 (Ok (seen steps)) reads.2; comes = inr (folded, ends, ran) }
 
   module _ (untouched : r.untouched) where
-    unrun : (inputs : Inputs) → (r.source_tells → inputs ≡ r.source.inputs) → (script : Steps) → read inputs ≡ script → (c : Cause) → KeepsFrom r script c → Told r (Err c) (Err c) → ScriptAnswered r
+    unrun : (inputs : Inputs) → (r.source_tells → inputs ≡ r.source.inputs) → (script : Steps) → read inputs ≡ script → (c : Cause) → KeepsFrom r script c → Told r (Err c) (Err c) → ScriptAnswered r runs
     unrun inputs may_read script same c keeps told = record { script = script; gives = gives inputs may_read script same; comes = inl (record { cause = c; keeps = keeps; untouched = untouched; told = told }) }
 
     keeps_memory : (script : Steps) → KeepsFrom r script OutOfMemory
@@ -75,7 +74,7 @@ module _ (r : Run) (file : Option Text) (is : file_of (command_of r.words) ≡ S
     Speaks c = Spoken r.sinks_tell c [] (error_line c) r.out r.out_after r.err r.err_after r.report
 
     -- no step of it is run
-    pub refused : (c : Cause) → Reads seen read r.source_tells r.source r.source_after (failed c) → Speaks c → ScriptAnswered r
+    pub refused : (c : Cause) → Reads seen read r.source_tells r.source r.source_after (failed c) → Speaks c → ScriptAnswered r runs
     refused Usage reads told = unrun reads.0 reads.1 (Err Usage) reads.2 Usage refl (told_refused r (Err Usage) Usage [] refl told)
     refused NoSuchName reads told = unrun reads.0 reads.1 (Err NoSuchName) reads.2 NoSuchName refl (told_refused r (Err NoSuchName) NoSuchName [] refl told)
     refused (DocRefused fault) reads told = unrun reads.0 reads.1 (Err (DocRefused fault)) reads.2 (DocRefused fault) refl (told_refused r (Err (DocRefused fault)) (DocRefused fault) [] refl told)

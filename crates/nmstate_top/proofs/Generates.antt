@@ -122,8 +122,10 @@ module _ (r : Run) (devices : List Link) (first second : Doc) where
           answer = answer_of devices first second result;
           may = may result w;
           comes = comes want result w;
+          tried = tt;
           told = ran.told;
           goes_on = ran.goes_on;
+          exactly = λ honest. tt;
           expects = λ a. expects want result w;
           leaves = λ a. left_before r nothing;
           reads_as = λ a. reads_before r nothing (ran.goes_on.tells a.honest);

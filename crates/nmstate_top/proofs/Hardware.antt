@@ -1,8 +1,7 @@
 -- The links of a hardware list are a valid network of devices.
-use Rattle.std.proofs.Common.{◌≡◌, ◌∙◌, refl, sym, ap, ap₂, subst, arith, ℕ, zero, suc, ◌+◌, ◌≤◌, Bool, true, false, not, ◌&&◌, ◌||◌, List, [], ◌∷◌, ◌++◌, length, Option, None, Some}
-use Rattle.std.specs.Prelude.{nat_lt, nat_le, nat_eq, is_none, is_some, Result, Ok, Err, IfOk, if◌then◌else◌, codes, map}
+use Rattle.std.proofs.Common.{◌≡◌, ◌∙◌, refl, ap, ap₂, subst, arith, ℕ, zero, suc, ◌+◌, Bool, true, false, not, ◌&&◌, ◌||◌, List, [], ◌∷◌, ◌++◌, length, Option, None, Some}
+use Rattle.std.specs.Prelude.{nat_lt, nat_le, nat_eq, is_none, is_some, Result, Ok, Err, IfOk, if◌then◌else◌, codes}
 use Rattle.std.specs.List.{list_all, list_any}
-use Rattle.std.specs.Cmp.Lexicographic.{pointwise}
 use Rattle.std.proofs.lemmas.List.{length-append}
 use Rattle.std.proofs.lemmas.List.Folds.{list_any-append}
 use Rattle.std.proofs.lemmas.Bool.Decides.{nat_tests}
@@ -15,15 +14,13 @@ use Rattle.net_model.specs.Links.{is_named, same_name, base_passes, can_be_base,
 use Rattle.net_model.specs.Standing.{stands_on, on_cycle}
 use Rattle.net_model.specs.Hardware.{device_of}
 use Rattle.net_model.specs.Lists.{net_of, no_dns}
-use Rattle.net_model.specs.Valid.{HasAllParts, least_broken, names_differ, address_count, bases_stand, controllers_take, bases_up, mtus_fit, ports_without_addresses, addresses_fit, options_fit, links_fit, unused_default, limits_hold}
+use Rattle.net_model.specs.Valid.{HasAllParts, least_broken, names_differ, address_count, unused_default, limits_hold}
 use Rattle.net_model.specs.declared.limits.TheConstants.{MAX_LINKS, MAX_LINK_ADDRESSES, MAX_ADDRESSES}
 use Rattle.net_model.specs.declared.Link.{Link}
 use Rattle.net_model.specs.declared.Mac.{Mac}
 use Rattle.net_model.proofs.lemmas.AllParts.{none_broken}
 use Rattle.doc_tree.specs.Shape.{Shape, nothing, truth, whole, text, list, mapping, Shapes, no_shapes, more, item_count, Pairs, no_pairs, pair}
-use Rattle.tree_schema.specs.declared.Reason.{Reason}
 use Rattle.tree_schema.specs.declared.Reason.TheVariants.{OutOfRange, Missing}
-use Rattle.tree_schema.specs.declared.SchemaFault.{SchemaFault}
 use Rattle.tree_schema.specs.Reading.{Steps, Reading, given, refuse, at_once, below, with_value, after, and_then}
 use Rattle.tree_schema.specs.Values.{Looked, and_if, name, is_null}
 use Rattle.tree_schema.specs.Tables.{Row, Table, read_row, read_other, read_key, read_pair, read_pairs, read_map, needed_at, value_under, top_of}
@@ -43,7 +40,7 @@ use Rattle.document_model.specs.declared.Doc.{Doc}
 use Rattle.top_model.specs.declared.report.Cause.{Cause}
 use Rattle.order_reading.specs.Asked.{asked}
 use Rattle.order_reading.specs.declared.order.Order.{Order}
-use Rattle.order_reading.specs.declared.order.Order.TheVariants.{Show, Plan, Apply, Commit, Rollback, Recover, Init, Generate}
+use Rattle.order_reading.specs.declared.order.Order.TheVariants.{Show, Plan, Apply, Commit, Rollback, Recover, Check, Init, Generate}
 use Rattle.nmstate_top.specs.First.{is_hardware, has_hardware}
 
 -- ---- what holds of the value of a reading
@@ -327,6 +324,7 @@ module _ (ls : List Link) (short : IsShort ls) where
     rules = refl;
     options = simple _ (λ n m. refl);
     limits = limits;
+    peers = simple _ (λ n m. refl);
   }
 
   valid : is_none (least_broken (net_of ls [] [] no_dns)) ≡ true
@@ -396,6 +394,7 @@ module _ (in_script : Bool) (inputs : Inputs) where
   order_right (Some command.Commit) = tt
   order_right (Some command.Rollback) = tt
   order_right (Some command.Recover) = tt
+  order_right (Some command.Check) = tt
   order_right (Some (command.Init file)) =
       if_right RightOrder RightLinks (model.and_then (input in_script inputs file) hardware_list) (λ links. Ok (making links))
       (if_ok RightLinks (input in_script inputs file) hardware_list list_is) (λ links right. right)
@@ -413,5 +412,6 @@ module _ (in_script : Bool) (inputs : Inputs) where
   hardware_right words Commit is = refl
   hardware_right words Rollback is = refl
   hardware_right words Recover is = refl
+  hardware_right words Check is = refl
   hardware_right words (Init links) is = right_order words (making links) is
   hardware_right words (Generate devices first second) is = right_order words (generating devices first second) is

@@ -11,3 +11,5 @@ mod Hardware
 mod Makes
 mod Merging
 mod Generates
+mod Checks
+mod Takes

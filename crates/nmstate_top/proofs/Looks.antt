@@ -1,18 +1,16 @@
 -- All that is said of a command that only looks at the network.
-use Rattle.std.proofs.Common.{◌≡◌, ◌∙◌, inl, inr, refl, sym, ap, subst, arith, ℕ, Bool, List, [], ◌++◌, Option, None, Some}
-use Rattle.std.specs.Prelude.{◌≢◌, ◌≤◌, Vec, Result, Ok, Err}
+use Rattle.std.proofs.Common.{◌≡◌, ◌∙◌, inl, inr, refl, sym, ap, subst, arith, ℕ, Bool, [], ◌++◌, Option, None}
+use Rattle.std.specs.Prelude.{◌≢◌, Vec, Result, Ok, Err}
 use Rattle.std.specs.declared.alloc.Global.{Global}
 use Rattle.net_model.specs.NetData.{NetData}
 use Rattle.document_model.specs.declared.Doc.{Doc}
 use Rattle.document_model.specs.declared.Refused.{Refused}
 use Rattle.host_core.specs.HostView.{HostView, IsLawfulHost}
-use Rattle.host_core.specs.Stops.{Steps, Stays}
 use Rattle.host_core.proofs.lemmas.Moments.{stays as stays_there}
-use Rattle.checkpoint_cell.specs.Settled.{Standing, standing}
+use Rattle.checkpoint_cell.specs.Settled.{standing}
 use Rattle.engine_model.specs.Merge.{merge}
 use Rattle.engine_model.specs.Machine.{Outcome, stays}
-use Rattle.engine_model.specs.Sound.{Sound}
-use Rattle.engine_model.specs.Stations.{Stands, Within, Only, Before, Kept, at}
+use Rattle.engine_model.specs.Stations.{Within, Only, Before, at}
 use Rattle.engine_model.specs.Faults.{IsOutcome, HadDamaged}
 use Rattle.engine_model.specs.declared.Left.TheVariants as left
 use Rattle.engine_model.proofs.lemmas.Leading.{alike_is, kept_stays}
@@ -22,7 +20,7 @@ use Rattle.top_model.specs.Machine.{looked, plan_to, machine_of}
 use Rattle.top_model.specs.Texts.{error_line, note_lines}
 use Rattle.top_model.specs.Runs.{Run, entry, reads, left_at_exit, MayRead}
 use Rattle.top_model.specs.Told.{Answer, Told, ErrText}
-use Rattle.top_model.specs.Causes.{MayWant, MayAnswer, Comes, Expects}
+use Rattle.top_model.specs.Causes.{MayWant, MayAnswer, Comes, Expects, ExactlyOf}
 use Rattle.top_model.specs.Answered.{GoesOn, Answered}
 use Rattle.top_model.specs.declared.report.Cause.{Cause}
 use Rattle.top_model.specs.declared.report.Cause.TheVariants.{Done, MergeRefused, ReadFault, HostFault, Damaged, OutOfMemory}
@@ -122,7 +120,8 @@ not_unread tells honest say old new (Ok said) refusal is has same = has
 not_unread tells honest say old new (Err cause) refusal is has same = subst (λ c. Looked tells honest say old new (Err c)) (sym has ∙ same) is
 
 module _ (r : Run) (nothing : ChangesNothing r.host_tells r.host r.host_after) where
-  same_reads : r.host_tells → standing r.host_after.state ≡ reads r
+  -- the host reads as it did
+  pub same_reads : r.host_tells → standing r.host_after.state ≡ reads r
   same_reads t = ap standing (nothing.state t)
 
   -- what is left was there
@@ -189,6 +188,14 @@ module _ (r : Run) (only : Option Text) (json : Bool) (nothing : ChangesNothing 
   show_may (Err OutOfMemory) l = tt
   show_may (Err cause) l = absurd l
 
+  show_exactly : (answer : Answer) → Looked r.host_tells r.honest shows r.host r.host_after answer → Expects r (Ok (showing only json)) answer → ExactlyOf r (Ok (showing only json)) answer
+  show_exactly (Ok said) l is = is.answer
+  show_exactly (Err (MergeRefused refused)) l is = is.answer
+  show_exactly (Err (HostFault left.NotBegun)) l is = is
+  show_exactly (Err (Damaged area)) l is = inr is.answer
+  show_exactly (Err OutOfMemory) l is = is
+  show_exactly (Err cause) l is = absurd l
+
   -- all that is said of a show
   pub show_answered : (answer : Answer) → Looked r.host_tells r.honest shows r.host r.host_after answer → Ran r (showing only json) answer → Answered r
   show_answered answer l ran =
@@ -199,8 +206,10 @@ module _ (r : Run) (only : Option Text) (json : Bool) (nothing : ChangesNothing 
         answer = answer;
         may = show_may answer l;
         comes = show_comes ran.goes_on.lawful want answer l;
+        tried = tt;
         told = ran.told;
         goes_on = ran.goes_on;
+        exactly = λ honest. show_exactly answer l (expects r nothing (showing only json) shows refl (ran.goes_on.tells honest) honest answer want l);
         expects = λ a. expects r nothing (showing only json) shows refl (ran.goes_on.tells a.honest) a.honest answer want l;
         leaves = λ a. left_before r nothing;
         reads_as = λ a. reads_before r nothing (ran.goes_on.tells a.honest);
@@ -242,6 +251,14 @@ module _ (r : Run) (doc : Doc) (nothing : ChangesNothing r.host_tells r.host r.h
   plan_may (Err OutOfMemory) l = tt
   plan_may (Err cause) l = absurd l
 
+  plan_exactly : (answer : Answer) → Looked r.host_tells r.honest plans r.host r.host_after answer → Expects r (Ok (planning doc)) answer → ExactlyOf r (Ok (planning doc)) answer
+  plan_exactly (Ok said) l is = is.answer
+  plan_exactly (Err (MergeRefused refused)) l is = is.answer
+  plan_exactly (Err (HostFault left.NotBegun)) l is = is
+  plan_exactly (Err (Damaged area)) l is = inr is.answer
+  plan_exactly (Err OutOfMemory) l is = is
+  plan_exactly (Err cause) l is = absurd l
+
   -- all that is said of a plan
   pub plan_answered : (answer : Answer) → Looked r.host_tells r.honest plans r.host r.host_after answer → Ran r (planning doc) answer → Answered r
   plan_answered answer l ran =
@@ -252,8 +269,10 @@ module _ (r : Run) (doc : Doc) (nothing : ChangesNothing r.host_tells r.host r.h
         answer = answer;
         may = plan_may answer l;
         comes = plan_comes ran.goes_on.lawful want answer l;
+        tried = tt;
         told = ran.told;
         goes_on = ran.goes_on;
+        exactly = λ honest. plan_exactly answer l (expects r nothing (planning doc) plans refl (ran.goes_on.tells honest) honest answer want l);
         expects = λ a. expects r nothing (planning doc) plans refl (ran.goes_on.tells a.honest) a.honest answer want l;
         leaves = λ a. left_before r nothing;
         reads_as = λ a. reads_before r nothing (ran.goes_on.tells a.honest);

@@ -14,19 +14,17 @@ use Rattle.net_model.proofs.lemmas.Sorting.{sorted_moves}
 use Rattle.net_model.proofs.lemmas.Truth.{and_right}
 use Rattle.net_model.specs.declared.Link.{Link}
 use Rattle.host_core.specs.HostView.{State, HostView, IsFirst, IsMade, MaybeMade}
-use Rattle.host_core.specs.Stops.{Steps, Stays}
+use Rattle.host_core.specs.Stops.{Stays}
 use Rattle.host_core.proofs.lemmas.Moments.{stays as stays_there, weaken}
-use Rattle.checkpoint_cell.specs.Cell.{Checkpoint, cell_of}
+use Rattle.checkpoint_cell.specs.Cell.{cell_of}
 use Rattle.checkpoint_cell.specs.Settled.{Standing, standing, restored_to}
 use Rattle.checkpoint_cell.proofs.lemmas.Cells.{gate_shut}
-use Rattle.engine_model.specs.Machine.{Outcome}
-use Rattle.engine_model.specs.Sound.{Fit, Sound}
+use Rattle.engine_model.specs.Sound.{Sound}
 use Rattle.engine_model.specs.Stations.{Stands, Entry, Near, Only, Before, Either, at}
-use Rattle.engine_model.specs.Faults.{IsOutcome}
 use Rattle.engine_model.specs.declared.Left.TheVariants as side
 use Rattle.engine_model.proofs.lemmas.Leading.{alike_is, sound_stays}
 use Rattle.top_model.specs.Said.{Said, Says, made}
-use Rattle.top_model.specs.Orders.{Text, Inputs, Order, committing, rolling_back, recovering, making}
+use Rattle.top_model.specs.Orders.{Text, committing, rolling_back, recovering, making}
 use Rattle.top_model.specs.Machine.{first_net, make_on}
 use Rattle.top_model.specs.Texts.{error_line}
 use Rattle.top_model.specs.Runs.{Run, entry, reads, left_at_exit}
@@ -140,14 +138,14 @@ module _ (links : List Link) where
 
 -- what is left, or read, and where it comes from
 record From (r : Run) (links : List Link) (entry : Entry) (left : Stands) : Type 0 where
-  made : r.host_tells → IsMade (first_net links) r.host_after → (stands : Standing) → left stands → stands ≡ restored_to (first_net links)
+  made : r.host_tells → IsMade (first_net links) r.host.state r.host_after → (stands : Standing) → left stands → stands ≡ restored_to (first_net links)
   stays : Unmoved r.host r.host_after → (stands : Standing) → left stands → entry.left stands
   maybe : r.host_tells → (stands : Standing) → left stands → (o : State) × (s : State) × entry.left (standing o) × (standing s ≡ stands) × MaybeMade (first_net links) o s
   reads : entry.reads.net ≡ r.host.state.net
 
 module _ (r : Run) (links : List Link) (t : r.host_tells) where
   -- a host on which the network was made
-  module _ (is : IsMade (first_net links) r.host_after) where
+  module _ (is : IsMade (first_net links) r.host.state r.host_after) where
     made_stands : (s : State) → s.net ≡ Some (first_net links) → s.cell ≡ r.host_after.state.cell → standing s ≡ restored_to (first_net links)
     made_stands s net cell = λ i. record { net = net i; cell = (ap cell_of cell ∙ closed_none r.host_after.state.cell is.closed) i }
 
@@ -186,7 +184,8 @@ module _ (r : Run) (links : List Link) (t : r.host_tells) where
     perhaps : r.host.state.net ≡ None → (stands : Standing) → (o : State) × (s : State) × entry.left (standing o) × (standing s ≡ stands) × MaybeMade (first_net links) o s
         → Either (Before entry) (MaybeMade_at (first_net links) entry) stands
     perhaps none stands (o, s, was, is, inl same) = inl (subst (λ (x : Standing). entry.left x) (ap standing (sym same) ∙ is) was)
-    perhaps none stands (o, s, was, is, inr net) = inr (from.reads ∙ none, subst (λ (x : Standing). (x.net ≡ None) ⊎ (x.net ≡ Some (first_net links))) is net)
+    perhaps none stands (o, s, was, is, inr (inl closing)) = inr (from.reads ∙ none, inl (subst (λ (x : Standing). x.net ≡ None) is closing.net))
+    perhaps none stands (o, s, was, is, inr (inr storing)) = inr (from.reads ∙ none, subst (λ (x : Standing). (x.net ≡ None) ⊎ (x.net ≡ Some (first_net links))) is storing.net)
 
     leaves : (result : Result ℕ Cause) → Makes r.host_tells links r.host r.host_after result → MakeLeaves (first_net links) entry left (answer_of links result)
     leaves (Ok count) m = λ stands there. like (Only (restored_to (first_net links))) stands (from.made t (m.answer.2 t) stands there)
@@ -243,7 +242,7 @@ module _ (r : Run) (links : List Link) (t : r.host_tells) where
 
 module _ (r : Run) (links : List Link) where
   comes : (result : Result ℕ Cause) → MayWant r → Makes r.host_tells links r.host r.host_after result → Comes r (Ok (making links)) (answer_of links result)
-  comes (Ok count) want m = λ t. tt
+  comes (Ok count) want m = λ t. (ap (λ (n : Option NetData). (make_on links (reads r) n).answer) (m.answer.1 t), m.answer.2 t)
   comes (Err Exists) want m = (λ t. exists_answer links (reads r) r.host.state.net (m.answer t), λ t. ap standing (m.stays t (m.answer t)).state)
   comes (Err (HostFault side.NotBegun)) want m = (m.answer, tt)
   comes (Err OutOfMemory) want m = want
@@ -266,8 +265,10 @@ module _ (r : Run) (links : List Link) where
         answer = answer_of links result;
         may = may result m;
         comes = comes result want m;
+        tried = tt;
         told = ran.told;
         goes_on = ran.goes_on;
+        exactly = λ honest. tt;
         expects = λ honest. expects r links (ran.goes_on.tells honest) result want m;
         leaves = λ honest. leaves r links (ran.goes_on.tells honest) (entry r) (left_at_exit r) (there r links (ran.goes_on.tells honest) result m) result m;
         reads_as = λ honest. leaves r links (ran.goes_on.tells honest) (at (reads r)) (Only (standing r.host_after.state)) (read r links (ran.goes_on.tells honest) result m) result m;

@@ -1,5 +1,5 @@
 -- What the answer of the merge says in the words of the command machine.
-use Rattle.std.proofs.Common.{◌≡◌, ◌∙◌, sym, ap, subst, Option, None, Some}
+use Rattle.std.proofs.Common.{◌≡◌, ◌∙◌, sym, ap, subst, None, Some}
 use Rattle.std.specs.Prelude.{Result, Ok, Err, IfOk}
 use Rattle.net_model.specs.NetData.{NetData, ordered}
 use Rattle.document_model.specs.declared.Doc.{Doc}

@@ -6,8 +6,8 @@ use Rattle.document_model.specs.declared.Doc.{Doc}
 use Rattle.engine_model.specs.declared.ApplyOpts.{ApplyOpts}
 use Rattle.command_words.specs.Words.{command_of}
 use Rattle.command_words.specs.declared.Command.{Command}
-use Rattle.command_words.specs.declared.Command.TheVariants.{Show, Plan, Apply, Commit, Rollback, Recover, Init, Script, Generate}
-use Rattle.top_model.specs.Orders.{Inputs, Order, showing, planning, applying, committing, rolling_back, recovering, making, generating, and_then, input, document, hardware_list, workload, generated_devices, generated_first, generated_second, generated, opts, order_named, order_of, Text}
+use Rattle.command_words.specs.declared.Command.TheVariants.{Show, Plan, Apply, Commit, Rollback, Recover, Check, Init, Script, Generate}
+use Rattle.top_model.specs.Orders.{Inputs, Order, planning, applying, committing, making, generating, and_then, input, document, hardware_list, workload, generated_devices, generated_first, generated_second, generated, opts, order_named, order_of, Text}
 use Rattle.order_reading.specs.declared.order.Order.{Order as Asked}
 use Rattle.order_reading.specs.declared.order.Order.TheVariants as asked_as
 use Rattle.order_reading.specs.Asked.{asked, file_read}
@@ -47,6 +47,7 @@ commit_named in_script inputs (Some (Apply file no_commit no_verify timeout)) e 
 commit_named in_script inputs (Some Commit) e = refl
 commit_named in_script inputs (Some Rollback) e = cc
 commit_named in_script inputs (Some Recover) e = cc
+commit_named in_script inputs (Some Check) e = cc
 commit_named in_script inputs (Some (Init file)) e = absurd (no_init (and_then (input in_script inputs file) hardware_list) e)
 commit_named in_script inputs (Some (Script file)) e = cc
 commit_named in_script inputs (Some (Generate count seed)) e = absurd (no_generate count seed e)

@@ -1,14 +1,15 @@
 -- All that is said of a recovery, from what the engine promises of it.
-use Rattle.std.proofs.Common.{◌≡◌, refl, ap}
-use Rattle.std.specs.Prelude.{Result, Ok, Err, IsErrOf}
+use Rattle.std.proofs.Common.{◌≡◌, inr, refl, ap}
+use Rattle.std.specs.Prelude.{ℕ, Result, Ok, Err, IsErrOf}
 use Rattle.checkpoint_cell.specs.Settled.{Standing, standing}
 use Rattle.engine_model.specs.Machine.{recover}
 use Rattle.engine_model.specs.Sound.{Sound}
 use Rattle.engine_model.specs.Stations.{Stands, Entry, Only, Kept, at}
 use Rattle.engine_model.specs.Exit.{BackExit}
-use Rattle.engine_model.specs.Faults.{BackAnswers, BackSays, HasTaken}
+use Rattle.engine_model.specs.Faults.{BackAnswers, BackExact, BackSays, HasTaken}
 use Rattle.engine_model.specs.declared.Left.TheVariants as sides
 use Rattle.engine_model.specs.declared.Recovered.{Recovered}
+use Rattle.engine_model.specs.declared.Recovered.TheVariants.{Nothing, Waiting, Restored}
 use Rattle.engine_model.specs.declared.BackFault.{BackFault}
 use Rattle.engine_model.specs.declared.BackFault.TheVariants.{NoCheckpoint, HostFault, KernelRefused, Damaged, HardwareDiffers, OutOfMemory}
 use Rattle.top_model.specs.Said.{said_recovered}
@@ -16,7 +17,7 @@ use Rattle.top_model.specs.Orders.{Inputs, recovering, order_of}
 use Rattle.top_model.specs.Machine.{told, back_cause}
 use Rattle.top_model.specs.Runs.{Run, MayRead, entry, reads, left_at_exit}
 use Rattle.top_model.specs.Told.{Answer, Told}
-use Rattle.top_model.specs.Causes.{MayWant, MayAnswer, Comes, Expects}
+use Rattle.top_model.specs.Causes.{MayWant, MayAnswer, Comes, Expects, ExactlyOf}
 use Rattle.top_model.specs.Exits.{BackLeaves}
 use Rattle.top_model.specs.Answered.{GoesOn, Answered}
 use Rattle.top_model.proofs.lemmas.Wanting.{may_want_recovering}
@@ -42,6 +43,23 @@ module _ (r : Run) where
   abbrev Answers : Result Recovered BackFault → Type 0
   Answers result = BackAnswers (HasTaken r.now (reads r).cell) (recover r.now (reads r)) r.host r.host_after result
 
+  -- nothing was to be taken back, or it waits, by the machine; or something was
+  abbrev Done : Result Recovered BackFault → Type 0
+  Done (Ok Nothing) = (recover r.now (reads r)).answer ≡ Ok Nothing
+  Done (Ok (Waiting deadline)) = (recover r.now (reads r)).answer ≡ Ok (Waiting deadline)
+  Done (Ok Restored) = HasTaken r.now (reads r).cell
+  Done (Err fault) = Unit {0}
+
+  abbrev given : Recovered → Result Recovered BackFault
+  given recovered = Ok recovered
+
+  pub done_as : (recovered : Recovered) → (r.host_tells → given recovered ≡ given Nothing → (recover r.now (reads r)).answer ≡ Ok Nothing)
+      → (r.host_tells → (deadline : ℕ) → given recovered ≡ given (Waiting deadline) → (recover r.now (reads r)).answer ≡ Ok (Waiting deadline))
+      → (r.host_tells → given recovered ≡ given Restored → HasTaken r.now (reads r).cell) → r.host_tells → Done (Ok recovered)
+  done_as Nothing nothing waiting restored = λ t. nothing t refl
+  done_as (Waiting deadline) nothing waiting restored = λ t. waiting t deadline refl
+  done_as Restored nothing waiting restored = λ t. restored t refl
+
   may : (result : Result Recovered BackFault) → Says result → (IsErrOf result NoCheckpoint → ⊥) → MayAnswer (Ok recovering) (answer_of result)
   may (Ok x) says never = tt
   may (Err NoCheckpoint) says never = absurd (never refl)
@@ -51,14 +69,25 @@ module _ (r : Run) where
   may (Err (HardwareDiffers names)) says never = tt
   may (Err OutOfMemory) says never = tt
 
-  comes : (result : Result Recovered BackFault) → Says result → (IsErrOf result OutOfMemory → MayWant r) → Comes r (Ok recovering) (answer_of result)
-  comes (Ok x) says wants = λ t. tt
-  comes (Err NoCheckpoint) says wants = λ t. ap answer_of (says t)
-  comes (Err (HostFault side)) says wants = (says.0, (says.1, says.2))
-  comes (Err (KernelRefused k n side)) says wants = says
-  comes (Err (Damaged area)) says wants = says
-  comes (Err (HardwareDiffers names)) says wants = says
-  comes (Err OutOfMemory) says wants = wants refl
+  comes : (result : Result Recovered BackFault) → Says result → (r.host_tells → Done result) → (IsErrOf result OutOfMemory → MayWant r) → Comes r (Ok recovering) (answer_of result)
+  comes (Ok Nothing) says done wants = (says, λ t. ap answer_of (done t))
+  comes (Ok (Waiting deadline)) says done wants = (says, λ t. ap answer_of (done t))
+  comes (Ok Restored) says done wants = (says, done)
+  comes (Err NoCheckpoint) says done wants = λ t. ap answer_of (says t)
+  comes (Err (HostFault side)) says done wants = (says.0, (says.1, says.2))
+  comes (Err (KernelRefused k n side)) says done wants = (says.0, says.1)
+  comes (Err (Damaged area)) says done wants = says
+  comes (Err (HardwareDiffers names)) says done wants = says
+  comes (Err OutOfMemory) says done wants = wants refl
+
+  exactly : (result : Result Recovered BackFault) → Says result → BackExact (recover r.now (reads r)).answer result → (IsErrOf result OutOfMemory → MayWant r) → ExactlyOf r (Ok recovering) (answer_of result)
+  exactly (Ok x) says is wants = ap answer_of is
+  exactly (Err NoCheckpoint) says is wants = ap answer_of is
+  exactly (Err (HostFault side)) says is wants = says.0
+  exactly (Err (KernelRefused k n side)) says is wants = is
+  exactly (Err (Damaged area)) says is wants = inr (ap answer_of is)
+  exactly (Err (HardwareDiffers names)) says is wants = inr (ap answer_of is)
+  exactly (Err OutOfMemory) says is wants = wants refl
 
   expects : (result : Result Recovered BackFault) → Answers result → (IsErrOf result OutOfMemory → MayWant r) → Expects r (Ok recovering) (answer_of result)
   expects (Ok x) is wants = record { answer = ap answer_of is.answer; after = is.after }
@@ -69,7 +98,8 @@ module _ (r : Run) where
   expects (Err (HardwareDiffers names)) is wants = record { answer = ap answer_of is.answer; after = is.after }
   expects (Err OutOfMemory) is wants = wants refl
 
-  module _ (inputs : Inputs) (may_read : MayRead r inputs) (is : order_of r.in_script inputs r.words ≡ Ok recovering) (result : Result Recovered BackFault) (says : Says result)
+  module _ (inputs : Inputs) (may_read : MayRead r inputs) (is : order_of r.in_script inputs r.words ≡ Ok recovering) (result : Result Recovered BackFault) (says : Says result) (done : r.host_tells → Done result)
+      (exact : r.honest → BackExact (recover r.now (reads r)).answer result)
       (answers : r.honest → Sound r.host → Answers result)
       (exits : r.honest → Sound r.host → BackExit (recover r.now (reads r)).after (entry r) (left_at_exit r) result)
       (read_exits : r.honest → Sound r.host → BackExit (recover r.now (reads r)).after (at (reads r)) (Only (standing r.host_after.state)) result)
@@ -84,7 +114,9 @@ module _ (r : Run) where
       gives = (inputs, may_read, is);
       answer = answer_of result;
       may = may result says never;
-      comes = comes result says wants;
+      comes = comes result says done wants;
+      tried = tt;
+      exactly = λ honest. exactly result says (exact honest) wants;
       told = told;
       goes_on = goes_on;
       expects = λ a. expects result (answers a.honest a.sound) wants;

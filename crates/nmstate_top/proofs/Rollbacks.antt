@@ -1,12 +1,12 @@
 -- All that is said of a rollback, from what the engine promises of it.
-use Rattle.std.proofs.Common.{◌≡◌, refl, ap}
+use Rattle.std.proofs.Common.{◌≡◌, inr, refl, ap}
 use Rattle.std.specs.Prelude.{⊤, Result, Ok, Err, IsErrOf}
 use Rattle.checkpoint_cell.specs.Settled.{Standing, standing}
 use Rattle.engine_model.specs.Machine.{rollback}
 use Rattle.engine_model.specs.Sound.{Sound}
 use Rattle.engine_model.specs.Stations.{Stands, Entry, Only, Kept, at}
 use Rattle.engine_model.specs.Exit.{BackExit}
-use Rattle.engine_model.specs.Faults.{BackAnswers, BackSays, HasSet}
+use Rattle.engine_model.specs.Faults.{BackAnswers, BackExact, BackSays, HasSet}
 use Rattle.engine_model.specs.declared.Left.TheVariants as sides
 use Rattle.engine_model.specs.declared.BackFault.{BackFault}
 use Rattle.engine_model.specs.declared.BackFault.TheVariants.{NoCheckpoint, HostFault, KernelRefused, Damaged, HardwareDiffers, OutOfMemory}
@@ -15,7 +15,7 @@ use Rattle.top_model.specs.Orders.{Inputs, rolling_back, order_of}
 use Rattle.top_model.specs.Machine.{told, back_cause}
 use Rattle.top_model.specs.Runs.{Run, MayRead, entry, reads, left_at_exit}
 use Rattle.top_model.specs.Told.{Answer, Told}
-use Rattle.top_model.specs.Causes.{MayWant, MayAnswer, Comes, Expects}
+use Rattle.top_model.specs.Causes.{MayWant, MayAnswer, Comes, Expects, ExactlyOf}
 use Rattle.top_model.specs.Exits.{BackLeaves}
 use Rattle.top_model.specs.Answered.{GoesOn, Answered}
 use Rattle.top_model.proofs.lemmas.Wanting.{may_want_rolling_back}
@@ -41,6 +41,11 @@ module _ (r : Run) where
   abbrev Answers : Result ⊤ BackFault → Type 0
   Answers result = BackAnswers (HasSet (reads r).cell) (rollback (reads r)) r.host r.host_after result
 
+  -- a checkpoint stood
+  abbrev Done : Result ⊤ BackFault → Type 0
+  Done (Ok x) = HasSet (reads r).cell
+  Done (Err fault) = Unit {0}
+
   may : (result : Result ⊤ BackFault) → Says result → MayAnswer (Ok rolling_back) (answer_of result)
   may (Ok x) says = tt
   may (Err NoCheckpoint) says = tt
@@ -50,14 +55,23 @@ module _ (r : Run) where
   may (Err (HardwareDiffers names)) says = tt
   may (Err OutOfMemory) says = tt
 
-  comes : (result : Result ⊤ BackFault) → Says result → (IsErrOf result OutOfMemory → MayWant r) → Comes r (Ok rolling_back) (answer_of result)
-  comes (Ok x) says wants = λ t. tt
-  comes (Err NoCheckpoint) says wants = λ t. ap answer_of (says t)
-  comes (Err (HostFault side)) says wants = (says.0, (says.1, says.2))
-  comes (Err (KernelRefused k n side)) says wants = says
-  comes (Err (Damaged area)) says wants = says
-  comes (Err (HardwareDiffers names)) says wants = says
-  comes (Err OutOfMemory) says wants = wants refl
+  comes : (result : Result ⊤ BackFault) → Says result → (r.host_tells → Done result) → (IsErrOf result OutOfMemory → MayWant r) → Comes r (Ok rolling_back) (answer_of result)
+  comes (Ok x) says done wants = (says, done)
+  comes (Err NoCheckpoint) says done wants = λ t. ap answer_of (says t)
+  comes (Err (HostFault side)) says done wants = (says.0, (says.1, says.2))
+  comes (Err (KernelRefused k n side)) says done wants = (says.0, says.1)
+  comes (Err (Damaged area)) says done wants = says
+  comes (Err (HardwareDiffers names)) says done wants = says
+  comes (Err OutOfMemory) says done wants = wants refl
+
+  exactly : (result : Result ⊤ BackFault) → Says result → BackExact (rollback (reads r)).answer result → (IsErrOf result OutOfMemory → MayWant r) → ExactlyOf r (Ok rolling_back) (answer_of result)
+  exactly (Ok x) says is wants = ap answer_of is
+  exactly (Err NoCheckpoint) says is wants = ap answer_of is
+  exactly (Err (HostFault side)) says is wants = says.0
+  exactly (Err (KernelRefused k n side)) says is wants = is
+  exactly (Err (Damaged area)) says is wants = inr (ap answer_of is)
+  exactly (Err (HardwareDiffers names)) says is wants = inr (ap answer_of is)
+  exactly (Err OutOfMemory) says is wants = wants refl
 
   expects : (result : Result ⊤ BackFault) → Answers result → (IsErrOf result OutOfMemory → MayWant r) → Expects r (Ok rolling_back) (answer_of result)
   expects (Ok x) is wants = record { answer = ap answer_of is.answer; after = is.after }
@@ -68,7 +82,8 @@ module _ (r : Run) where
   expects (Err (HardwareDiffers names)) is wants = record { answer = ap answer_of is.answer; after = is.after }
   expects (Err OutOfMemory) is wants = wants refl
 
-  module _ (inputs : Inputs) (may_read : MayRead r inputs) (is : order_of r.in_script inputs r.words ≡ Ok rolling_back) (result : Result ⊤ BackFault) (says : Says result)
+  module _ (inputs : Inputs) (may_read : MayRead r inputs) (is : order_of r.in_script inputs r.words ≡ Ok rolling_back) (result : Result ⊤ BackFault) (says : Says result) (done : r.host_tells → Done result)
+      (exact : r.honest → BackExact (rollback (reads r)).answer result)
       (answers : r.honest → Sound r.host → Answers result)
       (exits : r.honest → Sound r.host → BackExit (rollback (reads r)).after (entry r) (left_at_exit r) result)
       (read_exits : r.honest → Sound r.host → BackExit (rollback (reads r)).after (at (reads r)) (Only (standing r.host_after.state)) result)
@@ -83,7 +98,9 @@ module _ (r : Run) where
       gives = (inputs, may_read, is);
       answer = answer_of result;
       may = may result says;
-      comes = comes result says wants;
+      comes = comes result says done wants;
+      tried = tt;
+      exactly = λ honest. exactly result says (exact honest) wants;
       told = told;
       goes_on = goes_on;
       expects = λ a. expects result (answers a.honest a.sound) wants;

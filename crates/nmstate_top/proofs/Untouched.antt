@@ -1,26 +1,26 @@
 -- What is said of a command that ended before any call on the host.
-use Rattle.std.proofs.Common.{◌≡◌, ◌∙◌, ◌⊎◌, inl, inr, refl, sym, ap, subst, Bool, Option, Some, None}
+use Rattle.std.proofs.Common.{◌≡◌, ◌∙◌, inl, inr, refl, sym, ap, Bool, Option, Some, None}
 use Rattle.std.specs.Prelude.{◌≢◌, ℕ, true, false, List, IsSome, Result, Ok, Err}
 use Rattle.net_model.specs.NetData.{NetData}
 use Rattle.net_model.specs.declared.Link.{Link}
 use Rattle.document_model.specs.declared.Doc.{Doc}
-use Rattle.host_core.specs.HostView.{State, HostView, HasNet, IsLawfulHost}
+use Rattle.host_core.specs.HostView.{IsLawfulHost}
 use Rattle.host_core.proofs.lemmas.Moments.{stays}
-use Rattle.checkpoint_cell.specs.Cell.{Checkpoint, cell_of, applying as applying_cell}
+use Rattle.checkpoint_cell.specs.Cell.{Checkpoint, applying as applying_cell}
 use Rattle.checkpoint_cell.specs.Settled.{Standing, standing, restored_to}
-use Rattle.engine_model.specs.Sound.{Sound}
 use Rattle.engine_model.specs.Stations.{Stands, Entry, Near, Within, Before, Only, at}
 use Rattle.engine_model.specs.declared.ApplyOpts.{ApplyOpts}
 use Rattle.engine_model.proofs.lemmas.Leading.{kept_stays, near_wider}
 use Rattle.command_words.specs.declared.Command.{Command}
-use Rattle.command_words.specs.declared.Command.TheVariants.{Show, Plan, Apply, Commit, Rollback, Recover, Init, Script, Generate}
+use Rattle.command_words.specs.declared.Command.TheVariants.{Show, Plan, Apply, Commit, Rollback, Recover, Check, Init, Script, Generate}
 use Rattle.order_reading.specs.Asked.{file_read}
 use Rattle.top_model.specs.Said.{Said}
-use Rattle.top_model.specs.Orders.{Inputs, Order, showing, planning, applying, committing, rolling_back, recovering, making, generating, and_then, input, document, hardware_list, opts, order_named, order_of}
+use Rattle.top_model.specs.Orders.{Inputs, Order, showing, planning, applying, committing, rolling_back, recovering, checking, making, generating, and_then, input, document, hardware_list, opts, order_named}
 use Rattle.top_model.specs.Runs.{Run, Gives, Alone, SourceRose, HostRose, HostRoseTwice, reads, entry, left_at_exit}
 use Rattle.top_model.specs.Told.{Answer, Told}
-use Rattle.top_model.specs.Causes.{MayWant, Refuses, MayAnswer, Comes, Expects}
-use Rattle.top_model.specs.Exits.{AtExit, Leaves, ReadsAs, KeptBy, Reaches}
+use Rattle.top_model.specs.Causes.{MayWant, Refuses, MayAnswer, Comes, Expects, ExactlyOf}
+use Rattle.top_model.specs.Tried.{Tried}
+use Rattle.top_model.specs.Exits.{AtExit, KeptBy, Reaches}
 use Rattle.top_model.specs.Undisturbed.{Spares, LeavesAlone}
 use Rattle.top_model.specs.Answered.{GoesOn, Rests, Answered}
 use Rattle.top_model.specs.declared.report.Cause.{Cause}
@@ -39,6 +39,7 @@ ReadsInput (Ok (applying doc how)) = Unit {0}
 ReadsInput (Ok committing) = ⊥
 ReadsInput (Ok rolling_back) = ⊥
 ReadsInput (Ok recovering) = ⊥
+ReadsInput (Ok checking) = ⊥
 ReadsInput (Ok (making links)) = Unit {0}
 ReadsInput (Ok (generating devices first second)) = ⊥
 ReadsInput (Err refusal) = Unit {0}
@@ -70,6 +71,7 @@ reads_input in_script inputs (Some (Apply name no_commit no_verify timeout)) fil
 reads_input in_script inputs (Some Commit) file = absurd (never file)
 reads_input in_script inputs (Some Rollback) file = absurd (never file)
 reads_input in_script inputs (Some Recover) file = absurd (never file)
+reads_input in_script inputs (Some Check) file = absurd (never file)
 reads_input in_script inputs (Some (Init name)) file = makes (and_then (input in_script inputs name) hardware_list)
 reads_input in_script inputs (Some (Script name)) file = tt
 reads_input in_script inputs (Some (Generate count seed)) file = absurd (never file)
@@ -91,6 +93,7 @@ module _ (now : ℕ) (entry : Entry) (left : Stands) (within : Within left (Befo
   exit_memory (Ok committing) = within
   exit_memory (Ok rolling_back) = more _ (λ s is. inl is)
   exit_memory (Ok recovering) = more _ (λ s is. inl is)
+  exit_memory (Ok checking) = within
   exit_memory (Ok (making links)) = more _ (λ s is. inl is)
   exit_memory (Ok (generating devices first second)) = within
   exit_memory (Err refusal) = within
@@ -102,6 +105,7 @@ module _ (now : ℕ) (entry : Entry) (left : Stands) (within : Within left (Befo
   exit_unread (Ok committing) file = absurd file
   exit_unread (Ok rolling_back) file = absurd file
   exit_unread (Ok recovering) file = absurd file
+  exit_unread (Ok checking) file = absurd file
   exit_unread (Ok (making links)) file = within
   exit_unread (Ok (generating devices first second)) file = absurd file
   exit_unread (Err refusal) file = within
@@ -119,6 +123,7 @@ kept r (Ok (applying doc how)) c rests = kept_stays (Reaches r.now (entry r) (Ok
 kept r (Ok committing) c rests = kept_stays (Reaches r.now (entry r) (Ok committing)) r.host r.host rests.sound (stays r.host.stops)
 kept r (Ok rolling_back) c rests = kept_stays (Reaches r.now (entry r) (Ok rolling_back)) r.host r.host rests.sound (stays r.host.stops)
 kept r (Ok recovering) c rests = kept_stays (Reaches r.now (entry r) (Ok recovering)) r.host r.host rests.sound (stays r.host.stops)
+kept r (Ok checking) c rests = kept_stays (Reaches r.now (entry r) (Ok checking)) r.host r.host rests.sound (stays r.host.stops)
 kept r (Ok (generating devices first second)) c rests = kept_stays (Reaches r.now (entry r) (Ok (generating devices first second))) r.host r.host rests.sound (stays r.host.stops)
 kept r (Err refusal) c rests = kept_stays (Reaches r.now (entry r) (Err refusal)) r.host r.host rests.sound (stays r.host.stops)
 
@@ -144,6 +149,7 @@ spares r (Ok (planning doc)) answer lawful tells rests = tt
 spares r (Ok committing) answer lawful tells rests = tt
 spares r (Ok rolling_back) answer lawful tells rests = tt
 spares r (Ok recovering) answer lawful tells rests = tt
+spares r (Ok checking) answer lawful tells rests = tt
 spares r (Ok (making links)) answer lawful tells rests = tt
 spares r (Ok (generating devices first second)) answer lawful tells rests = tt
 spares r (Err refusal) answer lawful tells rests = tt
@@ -161,6 +167,7 @@ rests_still r (Ok (applying doc how)) rests = alone r rests
 rests_still r (Ok committing) rests = alone r rests
 rests_still r (Ok rolling_back) rests = alone r rests
 rests_still r (Ok recovering) rests = alone r rests
+rests_still r (Ok checking) rests = alone r rests
 rests_still r (Ok (generating devices first second)) rests = alone r rests
 rests_still r (Err refusal) rests = alone r rests
 
@@ -173,6 +180,7 @@ may_memory (Ok (applying doc how)) = tt
 may_memory (Ok committing) = tt
 may_memory (Ok rolling_back) = tt
 may_memory (Ok recovering) = tt
+may_memory (Ok checking) = tt
 may_memory (Ok (making links)) = tt
 may_memory (Ok (generating devices first second)) = tt
 may_memory (Err refusal) = tt
@@ -184,6 +192,7 @@ may_unread (Ok (applying doc how)) file = tt
 may_unread (Ok committing) file = absurd file
 may_unread (Ok rolling_back) file = absurd file
 may_unread (Ok recovering) file = absurd file
+may_unread (Ok checking) file = absurd file
 may_unread (Ok (making links)) file = tt
 may_unread (Ok (generating devices first second)) file = absurd file
 may_unread (Err refusal) file = tt
@@ -199,6 +208,55 @@ comes_unread r (Err refusal) untouched rose other = (untouched, (rose, λ is. ot
     refuse : Cause → Result Order Cause
     refuse c = Err c
 
+-- nothing was tried
+tried_memory : (r : Run) (order : Result Order Cause) → Tried (still r) order (Err OutOfMemory)
+tried_memory r (Ok (showing only json)) = tt
+tried_memory r (Ok (planning doc)) = tt
+tried_memory r (Ok (applying doc how)) = tt
+tried_memory r (Ok committing) = tt
+tried_memory r (Ok rolling_back) = tt
+tried_memory r (Ok recovering) = tt
+tried_memory r (Ok checking) = tt
+tried_memory r (Ok (making links)) = tt
+tried_memory r (Ok (generating devices first second)) = tt
+tried_memory r (Err refusal) = tt
+
+tried_unread : (r : Run) (order : Result Order Cause) → Tried (still r) order (Err ReadFault)
+tried_unread r (Ok (showing only json)) = tt
+tried_unread r (Ok (planning doc)) = tt
+tried_unread r (Ok (applying doc how)) = tt
+tried_unread r (Ok committing) = tt
+tried_unread r (Ok rolling_back) = tt
+tried_unread r (Ok recovering) = tt
+tried_unread r (Ok checking) = tt
+tried_unread r (Ok (making links)) = tt
+tried_unread r (Ok (generating devices first second)) = tt
+tried_unread r (Err refusal) = tt
+
+exactly_memory : (r : Run) (order : Result Order Cause) → MayWant r → ExactlyOf (still r) order (Err OutOfMemory)
+exactly_memory r (Ok (showing only json)) wants = record { commit = wants.commit; rollback = wants.rollback; recover = wants.recover }
+exactly_memory r (Ok (planning doc)) wants = record { commit = wants.commit; rollback = wants.rollback; recover = wants.recover }
+exactly_memory r (Ok (applying doc how)) wants = record { commit = wants.commit; rollback = wants.rollback; recover = wants.recover }
+exactly_memory r (Ok committing) wants = record { commit = wants.commit; rollback = wants.rollback; recover = wants.recover }
+exactly_memory r (Ok rolling_back) wants = record { commit = wants.commit; rollback = wants.rollback; recover = wants.recover }
+exactly_memory r (Ok recovering) wants = record { commit = wants.commit; rollback = wants.rollback; recover = wants.recover }
+exactly_memory r (Ok checking) wants = record { commit = wants.commit; rollback = wants.rollback; recover = wants.recover }
+exactly_memory r (Ok (making links)) wants = tt
+exactly_memory r (Ok (generating devices first second)) wants = tt
+exactly_memory r (Err refusal) wants = tt
+
+exactly_unread : (r : Run) (order : Result Order Cause) → SourceRose r → ExactlyOf (still r) order (Err ReadFault)
+exactly_unread r (Ok (showing only json)) rose = rose
+exactly_unread r (Ok (planning doc)) rose = rose
+exactly_unread r (Ok (applying doc how)) rose = rose
+exactly_unread r (Ok committing) rose = rose
+exactly_unread r (Ok rolling_back) rose = rose
+exactly_unread r (Ok recovering) rose = rose
+exactly_unread r (Ok checking) rose = rose
+exactly_unread r (Ok (making links)) rose = tt
+exactly_unread r (Ok (generating devices first second)) rose = tt
+exactly_unread r (Err refusal) rose = tt
+
 module _ (r : Run) (untouched : r.untouched) (goes_on : GoesOn (still r)) where
   -- memory ran out
   pub out_of_memory : (order : Result Order Cause) → Gives r order → MayWant r → Told (still r) order (Err OutOfMemory) → Answered (still r)
@@ -208,8 +266,10 @@ module _ (r : Run) (untouched : r.untouched) (goes_on : GoesOn (still r)) where
     answer = Err OutOfMemory;
     may = may_memory order;
     comes = comes_memory r order untouched wants;
+    tried = tried_memory r order;
     told = told;
     goes_on = goes_on;
+    exactly = λ honest. exactly_memory r order wants;
     expects = λ rests. record { commit = wants.commit; rollback = wants.rollback; recover = wants.recover };
     leaves = λ rests. exit_memory r.now (entry r) (left_at_exit (still r)) (λ s is. near_same (Before (entry r)) s is) (HostRose (still r)) (HostRoseTwice (still r)) order;
     reads_as = λ rests. exit_memory r.now (at (reads r)) (Only (standing r.host.state)) (λ s is. near_same (Before (at (reads r))) s is) (HostRose (still r)) (HostRoseTwice (still r)) order;
@@ -225,8 +285,10 @@ module _ (r : Run) (untouched : r.untouched) (goes_on : GoesOn (still r)) where
     answer = Err ReadFault;
     may = may_unread order file;
     comes = comes_unread r order untouched rose other;
+    tried = tried_unread r order;
     told = told;
     goes_on = goes_on;
+    exactly = λ honest. exactly_unread r order rose;
     expects = λ rests. rose;
     leaves = λ rests. exit_unread r.now (entry r) (left_at_exit (still r)) (λ s is. near_same (Before (entry r)) s is) (HostRose (still r)) (HostRoseTwice (still r)) order file;
     reads_as = λ rests. exit_unread r.now (at (reads r)) (Only (standing r.host.state)) (λ s is. near_same (Before (at (reads r))) s is) (HostRose (still r)) (HostRoseTwice (still r)) order file;
@@ -242,8 +304,10 @@ module _ (r : Run) (untouched : r.untouched) (goes_on : GoesOn (still r)) where
     answer = Err c;
     may = tt;
     comes = (untouched, refuses);
+    tried = tt;
     told = told;
     goes_on = goes_on;
+    exactly = λ honest. tt;
     expects = λ rests. expects;
     leaves = λ rests s is. near_same (Before (entry r)) s is;
     reads_as = λ rests s is. near_same (Before (at (reads r))) s is;

@@ -25,7 +25,7 @@ pub record Unmoved (old new : HostView) : Type 0 where
 
 -- the number of its links where there was no network and this one is there, or why it isn't
 abbrev pub IsMakingOf : Type 0 → List Link → HostView → HostView → Result ℕ Cause → Type 0
-IsMakingOf tells links old new (Ok count) = (count ≡ length links) × (tells → old.state.net ≡ None) × (tells → IsMade (first_net links) new)
+IsMakingOf tells links old new (Ok count) = (count ≡ length links) × (tells → old.state.net ≡ None) × (tells → IsMade (first_net links) old.state new)
 IsMakingOf tells links old new (Err Exists) = tells → IsSome old.state.net
 IsMakingOf tells links old new (Err (HostFault NotBegun)) = Rose old.faults new.faults
 IsMakingOf tells links old new (Err OutOfMemory) = tells → Unmoved old new

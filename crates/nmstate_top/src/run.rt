@@ -1,5 +1,5 @@
 //! One command, at the prompt or as a step of a script.
-ghost use Rattle.std.specs.Prelude.{◌≡◌, true, false, None, map, string_bytes};
+ghost use Rattle.std.specs.Prelude.{◌≡◌, ℕ, List, Option, Some, None, true, false, map, string_bytes};
 ghost use Rattle.command_words.specs.Words.{command_of};
 ghost use Rattle.order_reading.specs.Asked.{asked, has_right_document};
 ghost use Rattle.top_model.specs.Answered.{Answered};
@@ -7,13 +7,16 @@ ghost use Rattle.top_model.specs.Headline.{Headline};
 ghost use Rattle.top_model.specs.Moments.{AtMoment};
 ghost use Rattle.top_model.specs.Promises.{Complete, DoneOnly, RefusedExactly, CommitTakesNone, StandsApart, Statuses, Texts};
 ghost use Rattle.top_model.specs.Runs.{run_of};
-ghost use Rattle.top_model.specs.Scripts.{IsScript, file_of};
+ghost use Rattle.top_model.specs.Scripts.{IsScript, ScriptAnswered, file_of};
+ghost use Rattle.top_model.specs.StepsRun.{world};
+ghost use Rattle.top_model.specs.ScriptRuns.{RanFrom};
 ghost use Rattle.top_model.specs.Undisturbed.{Undisturbed};
 ghost use Rattle.nmstate_top.specs.Carried.{Carried};
 ghost use Rattle.nmstate_top.specs.First.{has_hardware};
 ghost use Rattle.nmstate_top.specs.Worked.{works_apart};
 
 use crate::apply::apply_run;
+use crate::check::check_run;
 use crate::commit::commit_run;
 use crate::generate::generate_run;
 use crate::init::init_run;
@@ -52,6 +55,7 @@ fn run_order<H: Host, S: Source, W: Sink>(
         Order::Commit => commit_run::<H, S, W>(host, out, err, now),
         Order::Rollback => rollback_run::<H, S, W>(alloc, host, out, err),
         Order::Recover => recover_run::<H, S, W>(alloc, host, out, err, now),
+        Order::Check => check_run::<H, S, W>(alloc, host, out, err),
         Order::Init { links } => init_run::<H, S, W>(alloc, links, host, out, err),
         Order::Generate {
             devices,
@@ -128,7 +132,11 @@ fn run_named<H: Host, S: Source, W: Sink>(
         → Answered (run_of H.Host S.Source W.Sink words.now.items false now host.old host.new src.old src.new out.old out.new err.old err.new result) }
     ensures apart { file_of (command_of (map string_bytes words.now.items)) ≡ None
         → StandsApart (run_of H.Host S.Source W.Sink words.now.items false now host.old host.new src.old src.new out.old out.new err.old err.new result) }
-    ensures script { IsScript (run_of H.Host S.Source W.Sink words.now.items false 0 host.old host.new src.old src.new out.old out.new err.old err.new result) }
+    ensures script { IsScript (run_of H.Host S.Source W.Sink words.now.items false 0 host.old host.new src.old src.new out.old out.new err.old err.new result)
+        (RanFrom H.Host S.Source W.Sink (map string_bytes words.now.items) (world host.old src.old out.old err.old) (world host.new src.new out.new err.new) result) }
+    ensures ran { (file : Option (List ℕ)) → file_of (command_of (map string_bytes words.now.items)) ≡ Some file
+        → ScriptAnswered (run_of H.Host S.Source W.Sink words.now.items false 0 host.old host.new src.old src.new out.old out.new err.old err.new result)
+        (RanFrom H.Host S.Source W.Sink (map string_bytes words.now.items) (world host.old src.old out.old err.old) (world host.new src.new out.new err.new) result) }
 {
     match script {
         Some(file) => run_file(alloc, file, host, src, out, err),
@@ -150,7 +158,11 @@ fn run_words<H: Host, S: Source, W: Sink>(
         → Answered (run_of H.Host S.Source W.Sink words.now.items false now host.old host.new src.old src.new out.old out.new err.old err.new result) }
     ensures apart { file_of (command_of (map string_bytes words.now.items)) ≡ None
         → StandsApart (run_of H.Host S.Source W.Sink words.now.items false now host.old host.new src.old src.new out.old out.new err.old err.new result) }
-    ensures script { IsScript (run_of H.Host S.Source W.Sink words.now.items false 0 host.old host.new src.old src.new out.old out.new err.old err.new result) }
+    ensures script { IsScript (run_of H.Host S.Source W.Sink words.now.items false 0 host.old host.new src.old src.new out.old out.new err.old err.new result)
+        (RanFrom H.Host S.Source W.Sink (map string_bytes words.now.items) (world host.old src.old out.old err.old) (world host.new src.new out.new err.new) result) }
+    ensures ran { (file : Option (List ℕ)) → file_of (command_of (map string_bytes words.now.items)) ≡ Some file
+        → ScriptAnswered (run_of H.Host S.Source W.Sink words.now.items false 0 host.old host.new src.old src.new out.old out.new err.old err.new result)
+        (RanFrom H.Host S.Source W.Sink (map string_bytes words.now.items) (world host.old src.old out.old err.old) (world host.new src.new out.new err.new) result) }
 {
     match script_file(alloc, words.as_slice()) {
         Ok(script) => run_named(alloc, &script, words, host, src, out, err, now),
@@ -185,8 +197,13 @@ pub fn run_command<H: Host, S: Source, W: Sink, C: Clock>(
     ensures undisturbed { AtMoment C.Clock clock.old clock.new words.now.items (λ now. Undisturbed (run_of H.Host S.Source W.Sink words.now.items false now host.old host.new src.old src.new out.old out.new err.old err.new result)) }
     // A workload has a host of its own.
     ensures apart { AtMoment C.Clock clock.old clock.new words.now.items (λ now. StandsApart (run_of H.Host S.Source W.Sink words.now.items false now host.old host.new src.old src.new out.old out.new err.old err.new result)) }
-    // A script reads all its lines, and is then the fold of its steps.
-    ensures script { IsScript (run_of H.Host S.Source W.Sink words.now.items false 0 host.old host.new src.old src.new out.old out.new err.old err.new result) }
+    // A script reads all its lines, and is then the fold of its steps; what its steps may leave, whatever fails in them.
+    ensures script { IsScript (run_of H.Host S.Source W.Sink words.now.items false 0 host.old host.new src.old src.new out.old out.new err.old err.new result)
+        (RanFrom H.Host S.Source W.Sink (map string_bytes words.now.items) (world host.old src.old out.old err.old) (world host.new src.new out.new err.new) result) }
+    // The words of a script read its FILE and run its steps, also where the source doesn't tell what it holds.
+    ensures ran { (file : Option (List ℕ)) → file_of (command_of (map string_bytes words.now.items)) ≡ Some file
+        → ScriptAnswered (run_of H.Host S.Source W.Sink words.now.items false 0 host.old host.new src.old src.new out.old out.new err.old err.new result)
+        (RanFrom H.Host S.Source W.Sink (map string_bytes words.now.items) (world host.old src.old out.old err.old) (world host.new src.new out.new err.new) result) }
 {
     let now = clock.now();
     run_words(alloc, words, host, src, out, err, now)

@@ -5,6 +5,8 @@ ghost use Rattle.command_words.specs.Words.{command_of};
 ghost use Rattle.top_model.specs.Lines.{timed_of};
 ghost use Rattle.top_model.specs.Runs.{run_of};
 ghost use Rattle.top_model.specs.Scripts.{Folded, EndsSteps, ScriptAnswered, file_of};
+ghost use Rattle.top_model.specs.StepsRun.{world};
+ghost use Rattle.top_model.specs.ScriptRuns.{ScriptRun, RanFrom};
 
 use crate::run::run_one;
 use answer_text::{tell_refused, write_status};
@@ -34,6 +36,9 @@ pub fn run_script<H: Host, S: Source, W: Sink>(
 ) -> Report
     ensures folded { Folded (map timed_of steps.now.items) (run_of H.Host S.Source W.Sink [] true 0 host.old host.new src.old src.new out.old out.new err.old err.new result) }
     ensures ends { EndsSteps result.cause }
+    // Each step is answered as a command of its own; what all of them may leave, whatever fails in them and wherever they
+    // are stopped, and how many of them faults can spoil.
+    ensures steps { ScriptRun H.Host S.Source W.Sink (map timed_of steps.now.items) (world host.old src.old out.old err.old) (world host.new src.new out.new err.new) result }
 {
     for step in steps {
         let report = run_one(alloc, &step.words, true, host, src, out, err, step.at);
@@ -67,7 +72,8 @@ pub(crate) fn run_file<H: Host, S: Source, W: Sink>(
     err: &mut W,
 ) -> Report
     ensures { (words : List (String Global)) → file_of (command_of (map string_bytes words)) ≡ Some file.now
-        → ScriptAnswered (run_of H.Host S.Source W.Sink words false 0 host.old host.new src.old src.new out.old out.new err.old err.new result) }
+        → ScriptAnswered (run_of H.Host S.Source W.Sink words false 0 host.old host.new src.old src.new out.old out.new err.old err.new result)
+        (RanFrom H.Host S.Source W.Sink (map string_bytes words) (world host.old src.old out.old err.old) (world host.new src.new out.new err.new) result) }
 {
     match read_script(alloc, file, src) {
         Ok(steps) => run_script(alloc, &steps, host, src, out, err),

@@ -5,13 +5,14 @@ use Rattle.document_model.specs.declared.Doc.{Doc}
 use Rattle.host_core.specs.Streams.{SourceView}
 use Rattle.command_words.specs.declared.Command.{Command}
 use Rattle.command_words.specs.declared.Command.TheVariants as command
-use Rattle.top_model.specs.Orders.{Text, showing, planning, applying, committing, rolling_back, recovering, making, generating}
+use Rattle.top_model.specs.Orders.{Text, showing, planning, applying, committing, rolling_back, recovering, checking, making, generating}
 use Rattle.top_model.specs.Orders as model
 use Rattle.top_model.specs.Lines.{Timed, timed_of}
 use Rattle.top_model.specs.declared.Step.{Step}
 use Rattle.top_model.specs.declared.Cause.{Cause}
 use Rattle.order_reading.specs.declared.order.Order.{Order}
-use Rattle.order_reading.specs.declared.order.Order.TheVariants.{Show, Plan, Apply, Commit, Rollback, Recover, Init, Generate}
+use Rattle.order_reading.specs.declared.order.Order.TheVariants.{Show, Plan, Apply, Commit, Rollback, Recover, Check, Init, Generate}
+pub use Rattle.top_model.specs.Taking.{read_there, file_read}
 use Rattle.order_reading.specs.Reading.{Takes}
 
 -- the order as the definitions have it
@@ -22,6 +23,7 @@ asked (Apply doc opts) = applying doc opts
 asked Commit = committing
 asked Rollback = rolling_back
 asked Recover = recovering
+asked Check = checking
 asked (Init links) = making links
 asked (Generate devices first second) = generating devices first second
 
@@ -33,17 +35,6 @@ has_right_document (Generate devices first second) = is_document first && has_sh
 has_right_document _ = true
 
 -- ---- the FILE of a command
-
--- the FILE that a command reads there; within a script nothing is read for a FILE that is missing, nor for `script`
-abbrev pub read_there : Bool → Option Text → Option (Option Text)
-read_there true None = None
-read_there in_script file = Some file
-
-abbrev pub file_read : Bool → Option Command → Option (Option Text)
-file_read in_script (Some (command.Plan file)) = read_there in_script file
-file_read in_script (Some (command.Apply file no_commit no_verify timeout)) = read_there in_script file
-file_read in_script (Some (command.Init file)) = read_there in_script file
-file_read in_script _ = None
 
 -- nothing but that FILE is read, and of it no more than the limit of a document and one byte
 abbrev pub TakesFile : {A : Type 0} → Type 0 → Type 0 → SourceView → SourceView → Option (Option Text) → Result A Cause → Type 0

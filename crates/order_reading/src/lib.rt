@@ -18,6 +18,3 @@ mod script;
 
 pub use order::{Order, read_order};
 pub use script::{read_script, script_file, steps_of};
-
-#[cfg(test)]
-mod tests;

@@ -1,5 +1,6 @@
 pub mod Reports
 pub mod Settles
+pub mod Settling
 pub mod Leaving
 pub mod Promised
 pub mod Written
@@ -13,3 +14,11 @@ pub mod Chaining
 pub mod Placed
 pub mod Scripted
 pub mod Wanting
+pub mod Firm
+pub mod Reaching
+pub mod Walking
+pub mod Halving
+pub mod Spoiling
+pub mod Explaining
+pub mod ScriptRan
+pub mod Taken

@@ -1,20 +1,22 @@
 -- When each answer comes.
-use Rattle.std.specs.Prelude.{◌≡◌, ◌≢◌, ℕ, List, Bool, false, Option, Some, None, Result, Ok, Err}
+use Rattle.std.specs.Prelude.{◌≡◌, ◌≢◌, ◌⊎◌, ℕ, List, [], Bool, false, Option, Some, None, Result, Ok, Err}
 use Rattle.net_model.specs.NetData.{NetData}
 use Rattle.document_model.specs.declared.Refused.{Refused}
-use Rattle.host_core.specs.HostView.{WasRefused}
+use Rattle.host_core.specs.HostView.{HasNet, IsMade, WasRefused, NoneRefused}
 use Rattle.engine_model.specs.Merge.{merge}
 use Rattle.document_model.specs.declared.Doc.{Doc}
 use Rattle.checkpoint_cell.specs.Cell.{saved_net}
+use Rattle.checkpoint_cell.specs.Settled.{settled}
 use Rattle.engine_model.specs.Machine.{asked}
+use Rattle.engine_model.specs.Sound.{Sound}
 use Rattle.engine_model.specs.Faults.{IsOutcome, LeftSays, HasSet, HasTaken, Verified, HadDamaged, Differs}
 use Rattle.engine_model.specs.declared.Left.{Left}
-use Rattle.engine_model.specs.declared.Left.TheVariants.{NotBegun, RolledBack}
+use Rattle.engine_model.specs.declared.Left.TheVariants.{NotBegun, RolledBack, Pending as Unknown}
 use Rattle.command_words.specs.Words.{lone}
 use Rattle.command_words.specs.declared.Command.TheVariants.{Commit, Rollback, Recover}
-use Rattle.top_model.specs.Said.{Said, printed, planned, committed}
-use Rattle.top_model.specs.Orders.{Order, showing, planning, applying, committing, rolling_back, recovering, making, generating}
-use Rattle.top_model.specs.Machine.{machine_of}
+use Rattle.top_model.specs.Said.{Said, printed, planned, committed, restored}
+use Rattle.top_model.specs.Orders.{Order, showing, planning, applying, committing, rolling_back, recovering, checking, making, generating}
+use Rattle.top_model.specs.Machine.{first_net, machine_of}
 use Rattle.top_model.specs.Runs.{Run, reads, reads_after, HostRose, SourceRose}
 use Rattle.top_model.specs.Told.{Answer}
 use Rattle.top_model.specs.declared.report.Cause.{Cause}
@@ -42,6 +44,37 @@ Expects r order (Err (KernelRefused k n left)) = ⊥
 Expects r order (Err (NotVerified found left)) = ⊥
 Expects r order (Err OutOfMemory) = MayWant r
 Expects r order answer = IsOutcome (machine_of r.now order (reads r)) r.host_after answer
+
+-- ---- on an honest host, sound or not
+
+-- a commit that is in doubt is the machine's; an apply makes a change, and each pair that is left has its network
+abbrev pub InDoubtAs : Run → Order → Type 0
+InDoubtAs r (applying doc opts) = (said : Said) × (expected r (Ok (applying doc opts)) ≡ Ok said) × HasNet (machine_of r.now (Ok (applying doc opts)) (reads r)).after.net r.host_after
+InDoubtAs r order = expected r (Ok order) ≡ Ok committed
+
+-- the putting of an apply's checkpoint may fail half way, so that none stands behind its open gate
+abbrev pub MayPutHalf : Run → Order → Type 0
+MayPutHalf r (applying doc opts) = HostRose r
+MayPutHalf r order = ⊥
+
+-- A fault brings the fault answers, and out of memory comes of its own; every other answer is the machine's. A first network's
+-- making is the machine's on each honest host already.
+abbrev pub Exactly : Run → Order → Answer → Type 0
+Exactly r (generating devices first second) answer = Unit {0}
+Exactly r (making links) answer = Unit {0}
+Exactly r order (Err ReadFault) = SourceRose r
+Exactly r order (Err (HostFault left)) = HostRose r
+Exactly r order (Err InDoubt) = HostRose r × InDoubtAs r order
+Exactly r order (Err (KernelRefused k n left)) = ⊥
+Exactly r order (Err (NotVerified found left)) = ⊥
+Exactly r order (Err (Damaged area)) = MayPutHalf r order ⊎ (expected r (Ok order) ≡ Err (Damaged area))
+Exactly r order (Err (HardwareDiffers names)) = MayPutHalf r order ⊎ (expected r (Ok order) ≡ Err (HardwareDiffers names))
+Exactly r order (Err OutOfMemory) = MayWant r
+Exactly r order answer = expected r (Ok order) ≡ answer
+
+abbrev pub ExactlyOf : Run → Result Order Cause → Answer → Type 0
+ExactlyOf r (Ok order) answer = Exactly r order answer
+ExactlyOf r (Err refusal) answer = Unit {0}
 
 -- ---- on every host
 
@@ -101,6 +134,11 @@ IsLeft r (making links) NotBegun = Unit {0}
 IsLeft r (applying doc opts) left = LeftSays r.host_tells r.host r.host_after left
 IsLeft r order left = LeftSays r.host_tells r.host r.host_after left × (left ≢ RolledBack)
 
+-- of a call that was refused: one was made, and what is taken back isn't told as rolled back
+abbrev pub IsLeftRefused : Run → Order → Left → Type 0
+IsLeftRefused r (applying doc opts) left = LeftSays r.host_tells r.host r.host_after left × (left ≢ NotBegun)
+IsLeftRefused r order left = left ≡ Unknown
+
 -- ---- which answers each order has beside what it says
 
 abbrev pub OfShow : Cause → Type 0
@@ -148,6 +186,13 @@ abbrev pub OfRollback : Cause → Type 0
 OfRollback NoCheckpoint = Unit {0}
 OfRollback cause = OfRecover cause
 
+abbrev pub OfCheck : Cause → Type 0
+OfCheck (HostFault NotBegun) = Unit {0}
+OfCheck (Damaged area) = Unit {0}
+OfCheck (HardwareDiffers names) = Unit {0}
+OfCheck OutOfMemory = Unit {0}
+OfCheck cause = ⊥
+
 abbrev pub OfInit : Cause → Type 0
 OfInit ReadFault = Unit {0}
 OfInit Exists = Unit {0}
@@ -169,6 +214,7 @@ MayAnswer (Ok (applying doc opts)) (Err cause) = OfApply cause
 MayAnswer (Ok committing) (Err cause) = OfCommit cause
 MayAnswer (Ok rolling_back) (Err cause) = OfRollback cause
 MayAnswer (Ok recovering) (Err cause) = OfRecover cause
+MayAnswer (Ok checking) (Err cause) = OfCheck cause
 MayAnswer (Ok (making links)) (Err cause) = OfInit cause
 MayAnswer (Ok (generating devices first second)) (Err cause) = OfGenerate cause
 MayAnswer (Err refusal) (Err cause) = Unit {0}
@@ -193,14 +239,35 @@ pub record Plans (r : Run) (doc : Doc) (said : Said) : Type 0 where
   pub merges : merge from doc ≡ Ok to
   pub is_said : said ≡ planned from to
 
--- what is done; a commit is the machine's, and so is a workload, on every host; an apply that verifies dumped the merge of the
--- network that was saved
+-- what a check says is the machine's of the checkpoint as it reads and of the network that was dumped
+abbrev pub Checks : Run → Said → Type 0
+Checks r said = r.host_tells → (machine_of r.now (Ok checking) (record { net = r.host_after.fresh; cell = (reads r).cell })).answer ≡ Ok said
+
+-- what a check is run for: where the checkpoint area isn't empty, each stop leaves what can be recovered from
+abbrev pub SaysSound : Run → Type 0
+SaysSound r = r.host_after.state.cell ≢ [] → Sound r.host_after
+
+-- nothing was to be taken back, or it waits, by the machine; or something was
+abbrev pub IsRecovered : Run → Said → Type 0
+IsRecovered r restored = HasTaken r.now (reads r).cell
+IsRecovered r said = expected r (Ok recovering) ≡ Ok said
+
+-- the kernel refused no call
+abbrev pub NoCallRefused : Run → Type 0
+NoCallRefused r = NoneRefused r.host.kernel r.host_after.kernel
+
+-- what is done; where kernel calls are made none was refused; a commit is the machine's, and so is a workload, on every host; an
+-- apply that verifies dumped the merge of the network that was saved
 abbrev pub IsDoneAs : Run → Order → Said → Type 0
 IsDoneAs r (showing only json) said = Prints r only json said
 IsDoneAs r (planning doc) said = Plans r doc said
 IsDoneAs r committing said = r.host_tells → expected r (Ok committing) ≡ Ok said
+IsDoneAs r checking said = Checks r said × (r.honest → SaysSound r)
 IsDoneAs r (generating devices first second) said = expected r (Ok (generating devices first second)) ≡ Ok said
-IsDoneAs r order said = r.host_tells → IsVerified r (Ok order)
+IsDoneAs r rolling_back said = NoCallRefused r × (r.host_tells → HasSet (reads r).cell)
+IsDoneAs r recovering said = NoCallRefused r × (r.host_tells → IsRecovered r said)
+IsDoneAs r (making links) said = r.host_tells → (expected r (Ok (making links)) ≡ Ok said) × IsMade (first_net links) r.host.state r.host_after
+IsDoneAs r (applying doc opts) said = NoCallRefused r × (r.host_tells → IsVerified r (Ok (applying doc opts)))
 
 -- the host reads as before
 abbrev pub StaysRead : Run → Type 0
@@ -208,7 +275,13 @@ StaysRead r = r.host_tells → reads_after r ≡ reads r
 
 abbrev pub LooksOnly : Run → Order → Type 0
 LooksOnly r (planning doc) = StaysRead r
+LooksOnly r (applying doc opts) = r.honest → settled r.now (reads r) ≡ Some (reads_after r)
 LooksOnly r order = Unit {0}
+
+-- a network is compared only where an apply is to verify
+abbrev pub IsCompared : Order → Type 0
+IsCompared (applying doc opts) = opts.no_verify ≡ false
+IsCompared order = ⊥
 
 -- a rule is broken on the network that was dumped last, or in a workload on one that its host had
 abbrev pub BrokeRule : Run → Order → Refused → Type 0
@@ -220,15 +293,15 @@ abbrev pub Ends : Run → Order → Answer → Type 0
 Ends r order (Ok said) = IsDoneAs r order said
 Ends r order (Err ReadFault) = SourceRose r × r.untouched
 Ends r order (Err Exists) = RefusedAs r (Ok order) Exists × StaysRead r
-Ends r order (Err (Pending deadline)) = RefusedAs r (Ok order) (Pending deadline)
+Ends r order (Err (Pending deadline)) = RefusedAs r (Ok order) (Pending deadline) × StaysRead r
 Ends r order (Err NoCheckpoint) = RefusedAs r (Ok order) NoCheckpoint
 Ends r order (Err (Unfinished since deadline)) = RefusedAs r (Ok order) (Unfinished since deadline)
 Ends r order (Err (Expired since deadline)) = RefusedAs r (Ok order) (Expired since deadline)
 Ends r order (Err (MergeRefused refused)) = BrokeRule r order refused
 Ends r order (Err (HostFault left)) = HostRose r × IsLeft r order left
 Ends r order (Err InDoubt) = HostRose r × (r.host_tells → IsDoubted r (Ok order))
-Ends r order (Err (KernelRefused k n left)) = WasRefused k n r.host.kernel r.host_after.kernel
-Ends r order (Err (NotVerified found left)) = (left ≡ RolledBack) × (r.host_tells → IsOther r (Ok order) found)
+Ends r order (Err (KernelRefused k n left)) = WasRefused k n r.host.kernel r.host_after.kernel × IsLeftRefused r order left
+Ends r order (Err (NotVerified found left)) = (left ≡ RolledBack) × IsCompared order × LeftSays r.host_tells r.host r.host_after RolledBack × (r.host_tells → IsOther r (Ok order) found)
 Ends r order (Err (Damaged area)) = r.host_tells → HadDamaged area r.host r.host_after
 Ends r order (Err (HardwareDiffers names)) = r.host_tells → Differs names r.host_after
 Ends r order (Err OutOfMemory) = MayWant r

@@ -13,7 +13,7 @@ use Rattle.checkpoint_cell.specs.Settled.{Standing, standing, settled, restored_
 use Rattle.engine_model.specs.Merge.{merge}
 use Rattle.engine_model.specs.Machine.{asked, changed, committed, deadline_of}
 use Rattle.engine_model.specs.Sound.{Sound}
-use Rattle.engine_model.specs.Stations.{Near, Within, Only, Before, Settled, Either}
+use Rattle.engine_model.specs.Stations.{Near, Within, Only, Before, Either}
 use Rattle.engine_model.specs.declared.ApplyOpts.{ApplyOpts}
 use Rattle.engine_model.specs.declared.Left.{Left}
 use Rattle.top_model.specs.Said.{committed as said_committed}

@@ -8,6 +8,8 @@ pub mod Telling
 pub mod Causes
 pub mod Exits
 pub mod Undisturbed
+pub mod Taking
+pub mod Tried
 pub mod Answered
 pub mod Headline
 pub mod Promises
@@ -15,3 +17,7 @@ pub mod Lines
 pub mod Scripts
 pub mod StepsDone
 pub mod Moments
+pub mod StepsRun
+pub mod WholeRuns
+pub mod ScriptFaults
+pub mod ScriptRuns

@@ -44,8 +44,9 @@ pub record SoFar (done : List Timed) (r : Run) : Type 0 where
   pub inputs : r.source_tells → r.source_after.inputs ≡ r.source.inputs
   pub fold : Alone r → r.source_tells → Quiet r → (SinkRose r → ⊥) → IsSoFar done r
 
--- the status line was written, or a sink failed
+-- the status line was written and no count rose, or a sink failed
 pub record StatusWritten (tells : Type 0) (status : ℕ) (old new : SinkView) (done : Bool) : Type 0 where
   pub all : done ≡ true → tells → Appends (line (codes "= " ++ decimal status)) old new
   pub later : old.faults ≤ new.faults
+  pub steady : done ≡ true → new.faults ≡ old.faults
   pub failed : done ≡ false → Rose old.faults new.faults

@@ -16,7 +16,7 @@ use Rattle.top_model.specs.declared.report.DocFault.TheVariants.{Json, Yaml, Sch
 use Rattle.engine_model.specs.declared.Left.{Left}
 use Rattle.engine_model.specs.declared.Left.TheVariants as left
 use Rattle.top_model.specs.Orders.{Text}
-use Rattle.top_model.specs.Said.{line}
+use Rattle.top_model.specs.Said.{line, times}
 use Rattle.top_model.specs.declared.report.Cause.{Cause}
 use Rattle.top_model.specs.declared.report.Cause.TheVariants.{Done, DocRefused, MergeRefused, Usage, BadLine, Pending, NoCheckpoint, Unfinished, Expired, Exists, NoSuchName, ReadFault, WriteFault, HostFault, InDoubt, KernelRefused, NotVerified, Damaged, HardwareDiffers, OutOfMemory}
 
@@ -89,7 +89,7 @@ document_words (Schema fault) = schema_words fault
 -- ---- the words of the merge's rules
 
 abbrev pub rule_names : List Text
-rule_names = codes "DuplicateName" ∷ codes "NoType" ∷ codes "NoDevice" ∷ codes "PhysicalKind" ∷ codes "MissingDetail" ∷ codes "PortMissing" ∷ codes "PortTwice" ∷ codes "PortConflict" ∷ codes "PortKind" ∷ codes "BadBase" ∷ codes "Cycle" ∷ codes "VlanTwin" ∷ codes "BaseDown" ∷ codes "VlanMtu" ∷ codes "BondOptions" ∷ codes "PortAddress" ∷ codes "AddressTwice" ∷ codes "RouteDevice" ∷ codes "RouteGateway" ∷ codes "RouteTwin" ∷ codes "Limit" ∷ []
+rule_names = codes "DuplicateName" ∷ codes "NoType" ∷ codes "NoDevice" ∷ codes "PhysicalKind" ∷ codes "MissingDetail" ∷ codes "PortMissing" ∷ codes "PortTwice" ∷ codes "PortConflict" ∷ codes "PortKind" ∷ codes "BadBase" ∷ codes "Cycle" ∷ codes "VlanTwin" ∷ codes "BaseDown" ∷ codes "VlanMtu" ∷ codes "BondOptions" ∷ codes "PortAddress" ∷ codes "AddressTwice" ∷ codes "RouteDevice" ∷ codes "RouteGateway" ∷ codes "RouteTwin" ∷ codes "Limit" ∷ codes "PeerBroken" ∷ []
 
 abbrev pub rule_name : ℕ → Text
 rule_name rule = unwrap_or (slice_get rule_names (rule - 1)) []
@@ -118,9 +118,6 @@ abbrev pub spaced : List Text → Text
 spaced [] = []
 spaced (word ∷ []) = word
 spaced (word ∷ next ∷ words) = word ++ codes " " ++ spaced (next ∷ words)
-
-abbrev pub times : ℕ → ℕ → Text
-times since deadline = codes "made " ++ decimal since ++ codes ", deadline " ++ decimal deadline
 
 abbrev pub area_words : ℕ → Text
 area_words area = if area == 0 then codes "kernel area damaged" else codes "checkpoint damaged"

@@ -10,7 +10,7 @@ use tree_schema::SchemaFault;
 use yaml_read::YamlFault;
 
 /// Why an input is no document, or no hardware list. Out of memory is a cause of its own.
-#[derive(Debug, PartialEq, Eq, Drop)]
+#[derive(PartialEq, Eq, Drop)]
 pub enum DocFault {
     Json(JsonFault),
     Yaml(YamlFault),

@@ -19,7 +19,7 @@ use Rattle.top_model.specs.Texts.{error_line}
 use Rattle.top_model.specs.Runs.{Run, Gives, entry, reads, left_at_exit}
 use Rattle.top_model.specs.Told.{Answer, Told, ErrText}
 use Rattle.top_model.specs.Telling.{Tells}
-use Rattle.top_model.specs.Causes.{MayAnswer, Comes, Expects}
+use Rattle.top_model.specs.Causes.{MayAnswer, Comes, Expects, ExactlyOf}
 use Rattle.top_model.specs.Exits.{CommitLeaves}
 use Rattle.top_model.specs.Answered.{GoesOn, Answered}
 use Rattle.top_model.specs.declared.report.Cause.TheVariants.{Done}
@@ -67,6 +67,14 @@ module _ (r : Run) (is : command_of r.words ≡ Some Commit) (tells_if : r.hones
   expects (Err HostFault) a t = a.0
   expects (Err InDoubt) a t = a.0
 
+  exactly : (result : Result ⊤ CommitFault) → CommitAnswers r.host_tells r.now r.host r.host_after result → r.host_tells → ExactlyOf r (Ok committing) (answer_of result)
+  exactly (Ok x) a t = ap answer_of (a t).answer
+  exactly (Err NoCheckpoint) a t = ap answer_of (a t).answer
+  exactly (Err (Unfinished since deadline)) a t = ap answer_of (a t).answer
+  exactly (Err (Expired since deadline)) a t = ap answer_of (a t).answer
+  exactly (Err HostFault) a t = a.0
+  exactly (Err InDoubt) a t = (a.0, ap answer_of (a.1 t))
+
   leaves : (entry : Entry) (left : Stands) (result : Result ⊤ CommitFault) → CommitExit r.now entry left result → CommitLeaves r.now entry left (answer_of result)
   leaves entry left (Ok x) exit = exit
   leaves entry left (Err NoCheckpoint) exit = exit
@@ -86,7 +94,9 @@ module _ (r : Run) (is : command_of r.words ≡ Some Commit) (tells_if : r.hones
       answer = answer_of result;
       may = may result;
       comes = comes result answers;
+      tried = tt;
       told = told;
+      exactly = λ honest. exactly result answers (tells_if honest);
       expects = λ a. expects result answers (tells_if a.honest);
       leaves = λ a. leaves (entry r) (left_at_exit r) result (exits (tells_if a.honest) a.sound);
       reads_as = λ a. leaves (at (reads r)) (Only (standing r.host_after.state)) result (read_exits (tells_if a.honest) a.sound);

@@ -21,13 +21,12 @@ use Rattle.top_model.specs.Said.{Said, rolled_back, said_applied, said_recovered
 use Rattle.top_model.specs.Orders.{Order, applying, rolling_back, recovering}
 use Rattle.top_model.specs.Machine.{told, apply_cause, back_cause, machine_of}
 use Rattle.top_model.specs.Texts.{status_of}
-use Rattle.top_model.specs.Runs.{Run, Asks, Alone, Quiet, Acknowledged, HostRose, HostRoseTwice, SourceRose, SinkRose, reads, entry, left_at_exit}
+use Rattle.top_model.specs.Runs.{Run, Asks, Alone, Quiet, HostRose, HostRoseTwice, SourceRose, reads, entry, left_at_exit}
 use Rattle.top_model.specs.Told.{Answer, cause_of}
 use Rattle.top_model.specs.Causes.{expected, Expects}
 use Rattle.top_model.specs.Exits.{ApplyLeaves, BackLeaves, Leaves, KeptBy}
 use Rattle.top_model.specs.Answered.{Answered}
 use Rattle.top_model.specs.Headline.{IsApply, after, IsHindered, Leaves as Leaving, RanOut, RefusedByRule, Reached, Accepted, Failed, Expired, Stopped, Merged, OfApply, Headline}
-use Rattle.top_model.specs.declared.report.Report.{Report}
 use Rattle.top_model.specs.declared.report.Cause.{Cause}
 use Rattle.top_model.specs.declared.report.Cause.TheVariants.{Done, MergeRefused, Pending, ReadFault, WriteFault, HostFault, InDoubt, KernelRefused, NotVerified, Damaged, OutOfMemory}
 use Rattle.top_model.proofs.lemmas.Leaving.{wider, on_the_way}

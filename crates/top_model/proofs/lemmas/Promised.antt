@@ -20,7 +20,7 @@ use Rattle.top_model.specs.Told.{Answer, Told}
 use Rattle.top_model.specs.Causes.{expected, Comes, Expects}
 use Rattle.top_model.specs.Exits.{Leaves, KeptBy}
 use Rattle.top_model.specs.Answered.{Rests, Answered}
-use Rattle.top_model.specs.Promises.{IsMachine, Complete, IsDone, DoneOnly}
+use Rattle.top_model.specs.Promises.{IsMachine, Complete, DoneOnly}
 use Rattle.top_model.specs.Headline.{Leaves as Leaving, WaitsStill, Committed}
 use Rattle.top_model.specs.declared.report.Cause.{Cause}
 use Rattle.top_model.specs.declared.report.Cause.TheVariants.{ReadFault, HostFault, InDoubt, KernelRefused, NotVerified, OutOfMemory}

@@ -2,10 +2,9 @@
 use Rattle.std.proofs.Common.{◌≡◌, ◌∙◌, ◌⊎◌, inl, inr, refl, sym, ap, subst, ℕ, ◌≤◌, Bool, false, List, Option, Some, None}
 use Rattle.std.specs.Prelude.{option_map, Result, Ok, Err}
 use Rattle.host_core.specs.Streams.{SourceView}
-use Rattle.checkpoint_cell.specs.Settled.{Standing}
 use Rattle.engine_model.specs.Stations.{Only, at}
 use Rattle.command_words.specs.Words.{command_of}
-use Rattle.top_model.specs.Orders.{Text, Inputs, Order, and_then, input}
+use Rattle.top_model.specs.Orders.{Text, Inputs, and_then, input}
 use Rattle.top_model.specs.Lines.{Timed, steps_of}
 use Rattle.top_model.specs.Runs.{Run, reads, HostRose, HostRoseTwice, reads_after}
 use Rattle.top_model.specs.Told.{Told}
@@ -18,17 +17,17 @@ use Rattle.top_model.proofs.lemmas.Settles.{same_some}
 use Rattle.top_model.proofs.lemmas.Chaining.{rose_after}
 
 -- all lines are read before a step is run, whatever else is said of the run
-pub is_script : (r : Run) → ScriptAnswered r → IsScript r
-is_script r a script asks =
+pub is_script : (r : Run) (runs : List Timed → Type 0) → ScriptAnswered r runs → IsScript r runs
+is_script r runs a script asks =
     let same : a.script ≡ script = same_some a.script script (sym a.gives.2 ∙ asks a.gives.0 a.gives.1) in
-    subst (λ s. IsUnrun r s ⊎ IsRun r s) same a.comes
+    subst (λ s. IsUnrun r s ⊎ IsRun r runs s) same a.comes
 
 some_none : {X : Type 0} (x : X) → Some x ≡ None → ⊥
 some_none x e = cc
 
 -- another command has no script
-pub no_script : (r : Run) → file_of (command_of r.words) ≡ None → IsScript r
-no_script r none script asks = absurd (some_none script (sym (asks r.source.inputs (λ t. refl))
+pub no_script : (r : Run) (runs : List Timed → Type 0) → file_of (command_of r.words) ≡ None → IsScript r runs
+no_script r runs none script asks = absurd (some_none script (sym (asks r.source.inputs (λ t. refl))
     ∙ ap (λ (file : Option (Option Text)). option_map (λ f. and_then (input false r.source.inputs f) (λ bytes. as_steps (steps_of bytes))) file) none))
 
 keeps_memory : (r : Run) (script : Result (List Timed) Cause) → MayWant r → KeepsFrom r script OutOfMemory
@@ -36,8 +35,8 @@ keeps_memory r (Ok steps) may = tt
 keeps_memory r (Err refusal) may = may
 
 -- memory ran out before the words were known
-pub ran_out : (r : Run) → MayWant r → r.untouched → Told r (Err OutOfMemory) (Err OutOfMemory) → IsScript r
-ran_out r may untouched told script asks = inl (record { cause = OutOfMemory; keeps = keeps_memory r script may; untouched = untouched; told = told })
+pub ran_out : (r : Run) (runs : List Timed → Type 0) → MayWant r → r.untouched → Told r (Err OutOfMemory) (Err OutOfMemory) → IsScript r runs
+ran_out r runs may untouched told script asks = inl (record { cause = OutOfMemory; keeps = keeps_memory r script may; untouched = untouched; told = told })
 
 -- ---- the steps are run after the lines were read
 

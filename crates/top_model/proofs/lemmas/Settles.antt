@@ -1,6 +1,6 @@
 -- What the machine's apply, recovery and rollback make of what stands, where a recovery can lead back from it.
 use Rattle.std.proofs.Common.{◌≡◌, ◌∙◌, refl, sym, ap, subst, ℕ, Bool, true, false, Option, Some, None}
-use Rattle.std.specs.Prelude.{⊤, Ok, option_map, if◌then◌else◌}
+use Rattle.std.specs.Prelude.{Ok, option_map, if◌then◌else◌}
 use Rattle.net_model.specs.NetData.{NetData}
 use Rattle.host_core.specs.HostView.{State}
 use Rattle.checkpoint_cell.specs.Cell.{Checkpoint}

@@ -1,13 +1,12 @@
 -- What an apply leaves alone, by its report.
-use Rattle.std.proofs.Common.{◌≡◌, ◌∙◌, ◌⊎◌, inl, inr, ap, subst}
-use Rattle.std.specs.Prelude.{Result, Ok, Err}
+use Rattle.std.proofs.Common.{◌∙◌, inl, inr, ap, subst}
+use Rattle.std.specs.Prelude.{Result, Ok}
 use Rattle.top_model.specs.Orders.{Order, applying}
 use Rattle.top_model.specs.Runs.{Run}
 use Rattle.top_model.specs.Told.{cause_of}
 use Rattle.top_model.specs.Answered.{Answered}
 use Rattle.top_model.specs.Undisturbed.{Spares, Undisturbed}
 use Rattle.top_model.specs.declared.report.Cause.{Cause}
-use Rattle.top_model.specs.declared.report.Cause.TheVariants.{OutOfMemory}
 use Rattle.top_model.proofs.lemmas.Reports.{order_is, rests, told_or_cut}
 
 -- an apply that met no fault leaves alone what its change doesn't touch

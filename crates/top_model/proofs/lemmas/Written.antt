@@ -1,5 +1,5 @@
 -- What is written, from what is said of a run.
-use Rattle.std.proofs.Common.{◌≡◌, ◌∙◌, ◌⊎◌, inl, inr, refl, sym, ap, subst, ℕ, []}
+use Rattle.std.proofs.Common.{◌≡◌, ◌∙◌, inl, inr, refl, sym, ap, subst, ℕ, []}
 use Rattle.std.specs.Prelude.{◌≢◌, Result, Ok, Err}
 use Rattle.top_model.specs.Said.{Said, Says}
 use Rattle.top_model.specs.Orders.{Text, Order}
@@ -8,7 +8,7 @@ use Rattle.top_model.specs.Runs.{Run, Asks, SinkRose}
 use Rattle.top_model.specs.Told.{Answer, cause_of, OutText, ErrText, Told}
 use Rattle.top_model.specs.Causes.{expected, Comes, Expects}
 use Rattle.top_model.specs.Answered.{Rests, Answered}
-use Rattle.top_model.specs.Promises.{IsWritten, IsCutOff, WritesAll, WritesSome, WriteFaults, Texts}
+use Rattle.top_model.specs.Promises.{IsWritten, IsCutOff, WriteFaults, Texts}
 use Rattle.top_model.specs.declared.report.Report.{Report}
 use Rattle.top_model.specs.declared.report.Cause.{Cause}
 use Rattle.top_model.specs.declared.report.Cause.TheVariants.{Done, WriteFault}

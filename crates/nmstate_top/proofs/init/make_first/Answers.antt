@@ -1,7 +1,6 @@
 use Rattle.std.proofs.Common.{sym, subst}
-use Rattle.net_model.specs.NetData.{NetData}
 use Rattle.host_core.specs.HostView.{IsFirst}
-use Rattle.nmstate_top.proofs.Makes.{first_is, unmade}
+use Rattle.nmstate_top.proofs.Makes.{first_is}
 use Rattle.nmstate_top.proofs.init.make_first.Goals as goal
 
 pub make-requires : goal.make-requires

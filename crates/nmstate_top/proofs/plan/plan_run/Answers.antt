@@ -1,10 +1,11 @@
-use Rattle.std.proofs.Common.{◌≡◌, ◌∙◌, inl, refl, ap, List, [], ◌++◌, ℕ}
+use Rattle.std.proofs.Common.{◌≡◌, ◌∙◌, inl, refl, ap, List, []}
 use Rattle.std.specs.Prelude.{Ok, Err}
 use Rattle.base_model.specs.declared.Path.{Path}
 use Rattle.engine_model.specs.Merge.{merge}
 use Rattle.top_model.specs.Machine.{plan_to}
 use Rattle.top_model.specs.Orders.{planning}
 use Rattle.top_model.specs.Texts.{note_lines}
+use Rattle.top_model.proofs.lemmas.Taken.{takes_only}
 use Rattle.top_model.specs.Runs.{run_of}
 use Rattle.top_model.specs.declared.report.Cause.TheVariants.{OutOfMemory}
 use Rattle.answer_text.proofs.lemmas.Told.{told_refused}
@@ -23,7 +24,7 @@ returns-in-Err g c = λ now words in_script src src_after asked.
       may_read = asked.may_read;
       is = asked.is;
       told = told_refused r (Ok (planning c.args.doc.now)) OutOfMemory [] (inl refl) c.tell_refused.ensures.told;
-      goes_on = record { host = still.later; source = asked.later; out = c.tell_refused.ensures.out; err = c.tell_refused.ensures.err; inputs = asked.same; lawful = g.met.H.Host.lawful c.args.host.now; tells = g.met.H.Host.honest_tells };
+      goes_on = record { host = still.later; source = asked.later; out = c.tell_refused.ensures.out; err = c.tell_refused.ensures.err; inputs = asked.same; takes = takes_only r _ asked.takes; lawful = g.met.H.Host.lawful c.args.host.now; tells = g.met.H.Host.honest_tells };
     })
 
 pub returns-in-Ok-planned : goal.returns-in-Ok-planned
@@ -35,7 +36,7 @@ returns-in-Ok-planned g c = λ now words in_script src src_after asked.
       may_read = asked.may_read;
       is = asked.is;
       told = told_text r (planning c.args.doc.now) c.as_slice.result.now (c.as_slice.ensures.value ∙ c.in-Ok.ensures ∙ notes_are _ _ _ c.deref.ensures.value c.items.ensures) l.answer c.in-Ok-planned.text c.as_slice-in-Ok-planned.result.now c.as_slice-in-Ok-planned.ensures.value l.text c.tell_done.ensures.told;
-      goes_on = record { host = c.in-Ok-planned.ensures.looks.later; source = asked.later; out = c.tell_done.ensures.out; err = c.tell_done.ensures.err; inputs = asked.same; lawful = g.met.H.Host.lawful c.args.host.now; tells = g.met.H.Host.honest_tells };
+      goes_on = record { host = c.in-Ok-planned.ensures.looks.later; source = asked.later; out = c.tell_done.ensures.out; err = c.tell_done.ensures.err; inputs = asked.same; takes = takes_only r _ asked.takes; lawful = g.met.H.Host.lawful c.args.host.now; tells = g.met.H.Host.honest_tells };
     })
 
 pub returns : goal.returns
@@ -48,5 +49,5 @@ returns g c = λ now words in_script src src_after asked.
       is = asked.is;
       told = told_refusal r (planning c.args.doc.now) c.as_slice-in-Err-planned.result.now (c.as_slice-in-Err-planned.ensures.value ∙ c.in-Ok.ensures ∙ notes_are _ _ _ c.deref.ensures.value c.items.ensures) l.answer c.in-Err-planned.cause l.text
           (not_unread r.host_tells r.honest (λ net. plan_to net (merge net c.args.doc.now)) r.host r.host_after l.answer c.in-Err-planned.cause l.looked l.text) c.tell_refused-in-Err-planned.ensures.told;
-      goes_on = record { host = c.in-Err-planned.ensures.looks.later; source = asked.later; out = c.tell_refused-in-Err-planned.ensures.out; err = c.tell_refused-in-Err-planned.ensures.err; inputs = asked.same; lawful = g.met.H.Host.lawful c.args.host.now; tells = g.met.H.Host.honest_tells };
+      goes_on = record { host = c.in-Err-planned.ensures.looks.later; source = asked.later; out = c.tell_refused-in-Err-planned.ensures.out; err = c.tell_refused-in-Err-planned.ensures.err; inputs = asked.same; takes = takes_only r _ asked.takes; lawful = g.met.H.Host.lawful c.args.host.now; tells = g.met.H.Host.honest_tells };
     })

@@ -6,12 +6,14 @@ use Rattle.command_words.specs.declared.Command.TheVariants.{Generate}
 use Rattle.order_reading.specs.Asked.{TakesFile}
 use Rattle.order_reading.specs.declared.order.Order.{Order}
 use Rattle.top_model.specs.Orders.{Text}
+use Rattle.top_model.specs.Taking.{file_read}
 use Rattle.top_model.specs.Runs.{run_of}
 use Rattle.top_model.specs.Answered.{Answered}
 use Rattle.top_model.specs.declared.report.Cause.{Cause}
 use Rattle.nmstate_top.proofs.Hardware.{hardware_right}
 use Rattle.nmstate_top.proofs.Named.{generate_named, generate_reads_none}
 use Rattle.nmstate_top.proofs.Refusals.{refusing}
+use Rattle.nmstate_top.proofs.Takes.{takes_asked, takes_refused, told_of}
 use Rattle.nmstate_top.proofs.run.run_one.Goals as goal
 
 abbrev taken : Order → Result Order Cause
@@ -29,7 +31,7 @@ returns-in-Ok-clause-answered g c =
     subst (λ (words : List (String Global)). Answered (run_of g.H.Host g.S.Source g.W.Sink words c.args.in_script c.args.now c.args.host.now c.run_order.new.host c.args.src.now c.read_order.new.src c.args.out.now c.run_order.new.out c.args.err.now c.run_order.new.err c.run_order.result))
     c.as_slice.ensures.value
     (c.run_order.ensures.carried c.as_slice.result.now c.args.in_script c.args.src.now c.read_order.new.src
-    (record { inputs = e.order.0; may_read = e.order.1; is = e.order.2; later = e.source.later; same = e.source.inputs }))
+    (record { inputs = e.order.0; may_read = e.order.1; is = e.order.2; later = e.source.later; same = e.source.inputs; takes = takes_asked g.S.Source.tells (c.read_order.new.src ≡ c.args.src.now) (g.S.Source.told c.args.src.now) (g.S.Source.told c.read_order.new.src) (λ same. ap g.S.Source.told same) _ c.in-Ok.order e.taken }))
 
 pub returns-in-Err-clause-answered : goal.returns-in-Err-clause-answered
 returns-in-Err-clause-answered g c =
@@ -38,7 +40,7 @@ returns-in-Err-clause-answered g c =
     let r = run_of g.H.Host g.S.Source g.W.Sink c.as_slice.result.now c.args.in_script c.args.now c.args.host.now c.args.host.now c.args.src.now c.read_order.new.src c.args.out.now c.tell_refused.new.out c.args.err.now c.tell_refused.new.err c.tell_refused.result in
     subst (λ (words : List (String Global)). Answered (run_of g.H.Host g.S.Source g.W.Sink words c.args.in_script c.args.now c.args.host.now c.args.host.now c.args.src.now c.read_order.new.src c.args.out.now c.tell_refused.new.out c.args.err.now c.tell_refused.new.err c.tell_refused.result))
     c.as_slice.ensures.value
-    (refusing r refl (record { host = omega arith; source = e.source.later; out = t.out; err = t.err; inputs = e.source.inputs; lawful = g.met.H.Host.lawful c.args.host.now; tells = g.met.H.Host.honest_tells })
+    (refusing r refl (record { host = omega arith; source = e.source.later; out = t.out; err = t.err; inputs = e.source.inputs; takes = takes_refused r (c.read_order.new.src ≡ c.args.src.now) (λ same. ap g.S.Source.told same) (file_read r.in_script (command_of r.words)) refl c.in-Err.refusal e.taken e.order (told_of _ c.in-Err.refusal _ _ _ _ _ _ c.tell_refused.result t.told); lawful = g.met.H.Host.lawful c.args.host.now; tells = g.met.H.Host.honest_tells })
     c.in-Err.refusal e.order e.fault e.memory t.told)
 
 pub returns-in-Ok-clause-apart : goal.returns-in-Ok-clause-apart
