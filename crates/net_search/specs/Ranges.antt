@@ -5,10 +5,12 @@ use Rattle.net_model.specs.Domain.{is_domain}
 use Rattle.net_model.specs.Name.{is_name}
 use Rattle.net_model.specs.NetData.{NetData}
 use Rattle.net_model.specs.Rule.{RuleParts, IsOfFamily}
+use Rattle.net_model.specs.declared.call.Call.{Call}
+use Rattle.net_model.specs.declared.call.Call.TheVariants.{AddLink, DelLink, Up, Down, SetMtu, SetMac, SetBond, SetBridge, Attach, Detach, SetPort, AddAddress, DelAddress, AddRoute, DelRoute, AddRule, DelRule, SetDns}
 use Rattle.net_model.specs.declared.dns.Dns.{Dns}
 use Rattle.net_model.specs.declared.limits.TheConstants.{MAX_NAME_LEN, MAX_DOMAIN_LEN, MAX_VLAN_ID}
 use Rattle.net_model.specs.declared.link.Kind.{Kind}
-use Rattle.net_model.specs.declared.link.Kind.TheVariants.{Ethernet, Bond, Bridge, Vlan, Vrf}
+use Rattle.net_model.specs.declared.link.Kind.TheVariants.{Ethernet, Bond, Bridge, Vlan, Vrf, Dummy, Veth}
 use Rattle.net_model.specs.declared.link.Link.{Link}
 use Rattle.net_model.specs.declared.mac.Mac.{Mac}
 use Rattle.net_model.specs.declared.options.BondOpts.{BondOpts}
@@ -73,6 +75,8 @@ KindRanges (Bond mode) = ⊤
 KindRanges Bridge = ⊤
 KindRanges (Vlan base id proto) = VlanRanges base id
 KindRanges (Vrf table) = TableRanges table
+KindRanges Dummy = ⊤
+KindRanges (Veth peer) = NameRanges peer
 
 pub record BondRanges (o : BondOpts) : Type 0 where
   pub primary : IfSome o.primary NameRanges
@@ -127,11 +131,36 @@ pub record RuleRanges (r : RuleParts) : Type 0 where
   pub mask : IsU32 r.mask
   pub target : TargetRanges r.target
 
--- ---- DNS, and networks
+-- ---- DNS
 
 pub record DnsRanges (dns : Dns) : Type 0 where
   pub servers : All IsAddress dns.servers
   pub search : All DomainRanges dns.search
+
+-- ---- kernel calls
+
+-- what the call carries
+abbrev pub CallRanges : Call → Type 0
+CallRanges (AddLink name kind) = NameRanges name × KindRanges kind
+CallRanges (DelLink name) = NameRanges name
+CallRanges (Up name) = NameRanges name
+CallRanges (Down name) = NameRanges name
+CallRanges (SetMtu name mtu) = NameRanges name × IsU32 mtu
+CallRanges (SetMac name mac) = NameRanges name × MacRanges mac
+CallRanges (SetBond name opts) = NameRanges name × BondRanges opts
+CallRanges (SetBridge name opts) = NameRanges name × BridgeRanges opts
+CallRanges (Attach port controller) = NameRanges port × NameRanges controller
+CallRanges (Detach port) = NameRanges port
+CallRanges (SetPort port opts) = NameRanges port × PortRanges opts
+CallRanges (AddAddress name addr) = NameRanges name × PrefixRanges addr
+CallRanges (DelAddress name addr) = NameRanges name × PrefixRanges addr
+CallRanges (AddRoute route) = RouteRanges route
+CallRanges (DelRoute route) = RouteRanges route
+CallRanges (AddRule rule) = RuleRanges rule
+CallRanges (DelRule rule) = RuleRanges rule
+CallRanges (SetDns dns) = DnsRanges dns
+
+-- ---- networks
 
 -- each link, route and rule by its place, and the settings of DNS
 pub record Ranges (net : NetData) : Type 0 where

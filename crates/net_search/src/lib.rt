@@ -3,13 +3,13 @@
 #![tactic(auto)]
 
 mod address;
+mod calls;
 mod link_ranges;
 mod ranged;
 mod ranges;
 mod route;
-#[cfg(test)]
-mod tests;
 
 pub use address::find_address;
+pub use calls::{all_call_ranges, call_ranges};
 pub use ranges::range_laws;
 pub use route::find_route;

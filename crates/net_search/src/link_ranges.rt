@@ -14,7 +14,7 @@ fn vlan_ranges(base: &Name, id: VlanId)
 }
 
 // What the kind holds.
-fn kind_ranges(kind: Kind)
+pub(crate) fn kind_ranges(kind: Kind)
     ensures { KindRanges kind }
 {
     match kind {
@@ -23,10 +23,12 @@ fn kind_ranges(kind: Kind)
         Kind::Bridge => {}
         Kind::Vlan { base, id, proto: _ } => vlan_ranges(&base, id),
         Kind::Vrf { table } => table_ranges(table),
+        Kind::Dummy => {}
+        Kind::Veth { peer } => peer.range_law(),
     }
 }
 
-fn bond_ranges(of: &BondOpts)
+pub(crate) fn bond_ranges(of: &BondOpts)
     ensures { BondRanges of.now }
 {
     maybe_ranges(&of.primary);
@@ -35,7 +37,7 @@ fn bond_ranges(of: &BondOpts)
     u32_range(of.downdelay);
 }
 
-fn bridge_ranges(of: &BridgeOpts)
+pub(crate) fn bridge_ranges(of: &BridgeOpts)
     ensures { BridgeRanges of.now }
 {
     u16_range(of.priority);
@@ -45,7 +47,7 @@ fn bridge_ranges(of: &BridgeOpts)
     u32_range(of.mac_ageing);
 }
 
-fn port_ranges(of: &PortOpts)
+pub(crate) fn port_ranges(of: &PortOpts)
     ensures { PortRanges of.now }
 {
     u16_range(of.cost);

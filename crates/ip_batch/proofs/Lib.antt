@@ -1,0 +1,10 @@
+pub mod Cuts
+pub mod Addresses
+pub mod Graphic
+pub mod Spelled
+pub mod Parsed
+pub mod Listed
+pub mod Rows
+pub mod Lines
+pub mod Reading
+pub mod Pushed
