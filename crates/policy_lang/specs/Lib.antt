@@ -1,0 +1,4 @@
+pub mod Placing
+pub mod Held
+pub mod Answers
+pub mod Parting
