@@ -1,10 +1,10 @@
 //! What reading a tree answers, in one line.
 
-use crate::entries::push_entries;
+use crate::entries::{push_entries, push_links};
 use base_model::{OutOfMemory, Path, write_path};
 use doc_tree::{Tree, tree_of_json};
 use document_model::Doc;
-use link_schema::hardware_of;
+use link_schema::{LinkPart, hardware_of, links_of};
 use net_model::{Items, Link};
 use route_schema::doc_of;
 use std::alloc::Global;
@@ -18,6 +18,8 @@ pub enum Kind {
     Document,
     /// A document: its entries, each with what it states.
     Entries,
+    /// The interfaces alone: their entries, and the places of their notes.
+    Interfaces,
     /// A hardware list.
     Hardware,
 }
@@ -29,6 +31,10 @@ fn read_document(alloc: Global, tree: &Tree) -> Result<Doc, SchemaFault> {
 
 fn read_hardware(alloc: Global, tree: &Tree) -> Result<Items<Link>, SchemaFault> {
     hardware_of(alloc, tree)
+}
+
+fn read_interfaces(alloc: Global, tree: &Tree) -> Result<LinkPart, SchemaFault> {
+    links_of(alloc, tree)
 }
 
 fn json_tree(alloc: Global, text: &str) -> Option<Tree> {
@@ -98,12 +104,24 @@ fn push_hardware(alloc: Global, tree: &Tree, out: &mut Vec<u8>) -> Result<(), Ou
     }
 }
 
+fn push_interfaces(alloc: Global, tree: &Tree, out: &mut Vec<u8>) -> Result<(), OutOfMemory> {
+    match read_interfaces(alloc, tree) {
+        Ok(part) => {
+            push_links(part.links.items(), out)?;
+            out.extend_from_slice(b"; ")?;
+            push_notes(&part.notes, out)
+        }
+        Err(fault) => push_fault(&fault, out),
+    }
+}
+
 /// What reading the text answers, in one line.
 pub fn answer(alloc: Global, kind: Kind, text: &str) -> Result<Vec<u8>, OutOfMemory> {
     let mut out = Vec::new(alloc);
     match tree_of(alloc, text) {
         Some(tree) => match kind {
             Kind::Hardware => push_hardware(alloc, &tree, &mut out)?,
+            Kind::Interfaces => push_interfaces(alloc, &tree, &mut out)?,
             _ => push_document(alloc, kind, &tree, &mut out)?,
         },
         None => out.extend_from_slice(b"no tree")?,

@@ -20,6 +20,8 @@ fn push_kind(word: Option<KindWord>, out: &mut Vec<u8>) -> Result<(), OutOfMemor
         Some(KindWord::Bridge) => push_word("type", Some("bridge"), out),
         Some(KindWord::Vlan) => push_word("type", Some("vlan"), out),
         Some(KindWord::Vrf) => push_word("type", Some("vrf"), out),
+        Some(KindWord::Dummy) => push_word("type", Some("dummy"), out),
+        Some(KindWord::Veth) => push_word("type", Some("veth"), out),
         None => Ok(()),
     }
 }
@@ -180,7 +182,8 @@ fn push_link(link: &LinkEntry, out: &mut Vec<u8>) -> Result<(), OutOfMemory> {
     push_bond(&link.bond, out)?;
     push_bridge(&link.bridge, out)?;
     push_vlan(link.vlan, out)?;
-    push_vrf(&link.vrf, out)
+    push_vrf(&link.vrf, out)?;
+    push_name("peer", link.veth.peer, out)
 }
 
 fn push_subnet(key: &[u8], subnet: Option<Subnet>, out: &mut Vec<u8>) -> Result<(), OutOfMemory> {
@@ -291,7 +294,8 @@ fn push_between(out: &mut Vec<u8>) -> Result<(), OutOfMemory> {
     Ok(())
 }
 
-fn push_links(links: &Vec<LinkEntry>, out: &mut Vec<u8>) -> Result<(), OutOfMemory> {
+/// The entries of interfaces, with a semicolon between each two.
+pub fn push_links(links: &Vec<LinkEntry>, out: &mut Vec<u8>) -> Result<(), OutOfMemory> {
     for link in links {
         push_between(out)?;
         push_link(link, out)?;

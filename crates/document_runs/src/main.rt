@@ -26,6 +26,7 @@ fn kind_of(word: &str) -> Option<(Kind, bool)> {
     match word {
         "documents" => Some((Kind::Document, false)),
         "entries" => Some((Kind::Entries, false)),
+        "interfaces" => Some((Kind::Interfaces, false)),
         "hardware" => Some((Kind::Hardware, false)),
         "pairs" => Some((Kind::Document, true)),
         "hardware-pairs" => Some((Kind::Hardware, true)),

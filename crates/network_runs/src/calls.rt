@@ -3,11 +3,11 @@
 ghost use Rattle.std.specs.Prelude.{◌≡◌, IfOk, IfSome};
 
 use crate::options::{bond, bridge, port};
-use crate::reading::{addr, given, mac, name, number, prefix, word, words};
+use crate::reading::{addr, given, mac, maybe_name, name, number, prefix, word, words};
 use anyhow::{Result, anyhow};
 use net_model::{
-    Addr, BondMode, Call, Dns, Domain, Items, Kind, Name, Prefix, Proto, Route, Rule, Subnet,
-    TableId, Target, VlanId,
+    Addr, BondMode, Call, Dns, Domain, Items, Kind, Prefix, Proto, Route, Rule, Subnet, TableId,
+    Target, VlanId,
 };
 use net_text::{read_family, read_mode, read_proto};
 use std::alloc::Global;
@@ -36,7 +36,7 @@ fn vlan_id(word: &str) -> Result<VlanId> {
     }
 }
 
-// `bond MODE`, `bridge`, `vlan BASE ID PROTOCOL`, `vrf TABLE`, `ethernet ADDRESS`.
+// `bond MODE`, `bridge`, `vlan BASE ID PROTOCOL`, `vrf TABLE`, `dummy`, `veth PEER`, `ethernet ADDRESS`.
 fn kind(words: &[String]) -> Result<Kind> {
     match word(words, 2)? {
         "bond" => Ok(Kind::Bond {
@@ -50,6 +50,10 @@ fn kind(words: &[String]) -> Result<Kind> {
         }),
         "vrf" => Ok(Kind::Vrf {
             table: TableId::of(number(word(words, 3)?)?),
+        }),
+        "dummy" => Ok(Kind::Dummy),
+        "veth" => Ok(Kind::Veth {
+            peer: name(word(words, 3)?)?,
         }),
         "ethernet" => Ok(Kind::Ethernet {
             permanent: mac(word(words, 3)?)?,
@@ -66,13 +70,6 @@ fn subnet(word: &str) -> Result<Subnet> {
 fn maybe_subnet(word: &str) -> Result<Option<Subnet>> {
     match given(word) {
         Some(word) => Ok(Some(subnet(word)?)),
-        None => Ok(None),
-    }
-}
-
-fn maybe_name(word: &str) -> Result<Option<Name>> {
-    match given(word) {
-        Some(word) => Ok(Some(name(word)?)),
         None => Ok(None),
     }
 }

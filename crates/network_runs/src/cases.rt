@@ -6,12 +6,14 @@
 //! | `network NAME DOCUMENT` | names the network that a document makes of the devices |
 //! | `grow NAME NEW N CALL` | names the network that a call N times makes of a named one, with the number of the time from 0: how many whole 64 for `%`, what is left for `#` |
 //! | `== TITLE` | begins a group of cases |
+//! | `line CALL` | a case: a call that is printed as it stands there |
 //! | `NAME: CALL => ANSWER` | a case: a call on a named network, and the number with which it is refused, `done`, or the name of the network that then stands |
 //!
 //! In lists and documents a bar stands for a line's end. A call that is refused changes nothing.
 
 use crate::calls::call;
 use crate::networks::{copied, first, is_same, make, merged};
+use crate::printing::is_printed;
 use crate::reading::{number, text_of};
 use anyhow::{Result, anyhow};
 use net_model::Net;
@@ -210,7 +212,20 @@ impl Cases {
         Ok(())
     }
 
+    // `CALL`.
+    fn printed(&mut self, alloc: Global, line: &str) -> Result<()> {
+        self.count = self.count.wrapping_add(1);
+        if !is_printed(alloc, line)? {
+            self.differ = self.differ.wrapping_add(1);
+            self.tell("printed otherwise", line)?;
+        }
+        Ok(())
+    }
+
     fn acts(&mut self, alloc: Global, line: &str) -> Result<()> {
+        if let Some(call) = line.strip_prefix("line ") {
+            return self.printed(alloc, call);
+        }
         if let Some(list) = line.strip_prefix("hardware ") {
             self.devices = Some(first(alloc, &lines(alloc, list)?)?);
             return Ok(());

@@ -11,6 +11,8 @@ mod cases;
 mod networks;
 // Options of bonds, bridges and ports from words.
 mod options;
+// Calls as lines print them.
+mod printing;
 // Words, and what they stand for.
 mod reading;
 

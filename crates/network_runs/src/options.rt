@@ -1,6 +1,6 @@
 //! Options of bonds, bridges and ports from words, each `KEY=VALUE`. What isn't named has its default.
 
-use crate::reading::{flag, name, number};
+use crate::reading::{flag, maybe_name, number};
 use anyhow::{Result, anyhow};
 use net_model::{BondOpts, BridgeOpts, HashPolicy, LacpRate, PortOpts};
 use net_text::{read_policy, read_rate};
@@ -35,7 +35,7 @@ fn policy(word: &str) -> Result<HashPolicy> {
 
 fn set_bond(opts: &mut BondOpts, key: &str, value: &str) -> Result<()> {
     match key {
-        "primary" => opts.primary = Some(name(value)?),
+        "primary" => opts.primary = maybe_name(value)?,
         "lacp_rate" => opts.lacp_rate = rate(value)?,
         "xmit_hash_policy" => opts.hash_policy = policy(value)?,
         "miimon" => opts.miimon = number(value)?,

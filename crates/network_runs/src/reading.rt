@@ -74,3 +74,11 @@ pub fn flag(word: &str) -> Result<bool> {
 pub fn given(word: &str) -> Option<&str> {
     if word == "-" { None } else { Some(word) }
 }
+
+/// The name, or none where a dash stands in its place.
+pub fn maybe_name(word: &str) -> Result<Option<Name>> {
+    match given(word) {
+        Some(word) => Ok(Some(name(word)?)),
+        None => Ok(None),
+    }
+}

@@ -4,7 +4,7 @@ use anyhow::{Result, anyhow};
 use net_model::{Addr, BondMode, HashPolicy, LacpRate, Name, Prefix, Proto, TableId, VlanId};
 
 /// Numbers that a seed decides, by a linear congruence modulo 2^64 of which the upper half is given.
-#[derive(Clone, Copy, Debug)]
+#[derive(Clone, Copy)]
 pub struct Draws {
     state: u64,
 }

@@ -11,6 +11,7 @@
 //! | `< LINE` | a line of standard input of the next command |
 //! | `fail OBJECT N`, `fail OBJECT N done` | in the next command the Nth call of `host`, `source`, `out` or `err` fails, done or not |
 //! | `lying` | the next command runs on a host that lies |
+//! | `refuses CALL NUMBER` | the next command runs on a host that refuses its kernel call CALL with NUMBER; a line for each such call |
 //! | `$ MOMENT WORDS`, `@ MOMENT WORDS` | a command, by `run_command` or `run_at` |
 //! | `% MOMENT WORDS; MOMENT WORDS` | the steps of a script, by `run_script` |
 //! | `> LINE`, `! LINE`, `= N` | what it writes to the output and to the errors, and its status where that isn't 0 |
@@ -20,7 +21,8 @@
 //! | `save NAME`, `from NAME` | names what stands, for later cases; takes it up |
 //! | `keep NAME`, `is NAME` | names the network that stands; compares with it |
 //! | `stop N PICK` | stops behind N calls of the last command |
-//! | `bytes AREA HEX`, `cut AREA N`, `write AREA N HEX` | compares the bytes of an area; cuts it; writes bytes from N on |
+//! | `bytes AREA HEX`, `behind AREA N HEX` | compares the bytes of an area, all of them or those from N on |
+//! | `cut AREA N`, `write AREA N HEX` | cuts an area; writes bytes from N on |
 //! | `stops ..`, `faults ..`, `pairs ..` | a stop behind each call, a fault at each, two faults: `MOMENT WORDS, recovered at MOMENT: STATE ..` |
 
 use crate::expected::{Expected, push_bytes};
@@ -28,10 +30,10 @@ use crate::inputs::Inputs;
 use crate::machine::{Kind, Machine, is_same, shown};
 use crate::reading::{bytes_of_hex, first_word, hex_of_bytes, number, text_of};
 use crate::runs::{Asked, Faults, Run, Seen};
-use crate::stored::{area_of, cut, overwritten};
+use crate::stored::{area_of, behind, cut, overwritten};
 use crate::sweeps::{Kept, Sweep, find, sweep_named};
 use anyhow::{Result, anyhow};
-use host_memory::Fuse;
+use host_memory::{Fuse, Refusal};
 use net_model::Net;
 use std::alloc::Global;
 use std::mem;
@@ -173,7 +175,11 @@ impl Cases {
             self.seen = Some(self.machine.run_lying(alloc, run, &faults, inputs)?);
             return Ok(());
         }
-        let (machine, seen) = self.machine.run(alloc, run, &faults, inputs)?;
+        let (machine, seen) = if faults.refusals.is_empty() {
+            self.machine.run(alloc, run, &faults, inputs)?
+        } else {
+            self.machine.run_refusing(alloc, run, &faults, inputs)?
+        };
         self.machine = machine;
         self.seen = Some(seen);
         Ok(())
@@ -194,6 +200,20 @@ impl Cases {
             "err" => self.faults.err.push(fuse)?,
             _ => return Err(anyhow!("no such object")),
         }
+        Ok(())
+    }
+
+    // `CALL NUMBER`.
+    fn refuse(&mut self, rest: &str) -> Result<()> {
+        let (call, refusal) = first_word(rest);
+        let Ok(refusal) = refusal.parse::<u8>() else {
+            return Err(anyhow!("no number of a refusal"));
+        };
+        let call = number(call)?;
+        self.faults.refusals.push(Refusal {
+            call,
+            number: refusal,
+        })?;
         Ok(())
     }
 
@@ -259,9 +279,21 @@ impl Cases {
     // `AREA HEX`.
     fn has_bytes(&mut self, alloc: Global, rest: &str) -> Result<()> {
         let (area, digits) = first_word(rest);
+        let held = behind(alloc, self.machine.area(area_of(area)?)?, 0)?;
+        self.compare_bytes(alloc, &held, digits)
+    }
+
+    // `AREA N HEX`.
+    fn has_behind(&mut self, alloc: Global, rest: &str) -> Result<()> {
+        let (area, rest) = first_word(rest);
+        let (from, digits) = first_word(rest);
+        let held = behind(alloc, self.machine.area(area_of(area)?)?, number(from)?)?;
+        self.compare_bytes(alloc, &held, digits)
+    }
+
+    fn compare_bytes(&mut self, alloc: Global, held: &[u8], digits: &str) -> Result<()> {
         let wanted = bytes_of_hex(alloc, digits)?;
-        let held = self.machine.area(area_of(area)?)?;
-        if held.as_slice() == wanted.as_slice() {
+        if held == wanted.as_slice() {
             return Ok(());
         }
         let found = hex_of_bytes(alloc, held)?;
@@ -309,6 +341,7 @@ impl Cases {
             "<" => self.inputs.standard_line(alloc, rest)?,
             "fail" => self.fail(rest)?,
             "lying" => self.faults.lies = true,
+            "refuses" => self.refuse(rest)?,
             _ => return Ok(false),
         }
         Ok(true)
@@ -328,6 +361,7 @@ impl Cases {
             "found" => self.is_found(alloc, rest)?,
             "stop" => self.stop(alloc, rest)?,
             "bytes" => self.has_bytes(alloc, rest)?,
+            "behind" => self.has_behind(alloc, rest)?,
             "cut" => self.cut(alloc, rest)?,
             "write" => self.write(alloc, rest)?,
             _ => return Ok(false),

@@ -32,6 +32,12 @@ fn push_numbered(bytes: &mut Vec<u8>, text: &str, digits: &str) -> Result<()> {
 
 // The text so many times, each with its number from 1.
 fn push_times(alloc: Global, bytes: &mut Vec<u8>, times: u64, text: &str) -> Result<()> {
+    if !text.contains('%') {
+        for _ in 0..times {
+            bytes.extend_from_slice(text.as_bytes())?;
+        }
+        return Ok(());
+    }
     for at in 0..times {
         let at = at.wrapping_add(1);
         let digits = format!(in alloc; "{at}")?;

@@ -1,11 +1,12 @@
 //! Hosts at rest, between two commands.
 
 use crate::runs::{Asked, Faults, Run, Seen, run_on};
+use crate::stored::cut;
 use anyhow::{Result, anyhow};
 use base_model::OutOfMemory;
 use disk_host::DiskHost;
 use host_core::{DumpFault, Host};
-use host_memory::{Fuse, LyingHost, MemoryDisk, MemoryHost};
+use host_memory::{Fuse, LyingHost, MemoryDisk, MemoryHost, RefusingHost};
 use net_model::Net;
 use std::alloc::Global;
 
@@ -103,6 +104,30 @@ fn liar(alloc: Global, host: &MemoryHost) -> Result<LyingHost> {
         Some(net) => Ok(LyingHost::new(alloc, net, host.cell().clone()?)),
         None => Err(anyhow!("no network to lie about")),
     }
+}
+
+/// How many bytes of a checkpoint are taken over from a host that refuses calls.
+const MOST_TAKEN: usize = 4096;
+
+fn refuser(alloc: Global, host: &MemoryHost, faults: &Faults) -> Result<RefusingHost> {
+    let Some(net) = copied_net(host.net())? else {
+        return Err(anyhow!("no network to refuse calls on"));
+    };
+    let cell = host.cell().clone()?;
+    let fuses = faults.host.clone()?;
+    let refusals = faults.refusals.clone()?;
+    Ok(RefusingHost::new(alloc, net, cell, fuses, refusals))
+}
+
+// What then stands, as a host that refuses nothing of its own.
+fn taken_over(alloc: Global, host: &mut RefusingHost) -> Result<MemoryHost> {
+    let mut bytes = [0_u8; MOST_TAKEN];
+    let Ok(filled) = host.cell_read(0, &mut bytes) else {
+        return Err(anyhow!("the host failed"));
+    };
+    let cell = cut(alloc, &bytes, filled)?;
+    let net = copied_net(host.net())?;
+    Ok(MemoryHost::new(alloc, net, cell, Vec::new(alloc)))
 }
 
 fn memory_stopped(alloc: Global, host: &MemoryHost, after: u64, pick: u8) -> Result<MemoryHost> {
@@ -209,6 +234,25 @@ impl Machine {
                 run_on(alloc, run, faults, inputs, &mut host)
             }
             Machine::Disk(_) => Err(anyhow!("a host over a disk doesn't lie")),
+        }
+    }
+
+    /// Runs on a host in memory that refuses some kernel calls, and gives what then stands.
+    pub fn run_refusing(
+        &self,
+        alloc: Global,
+        run: &Run,
+        faults: &Faults,
+        inputs: Vec<(String, Vec<u8>)>,
+    ) -> Result<(Machine, Seen)> {
+        match self {
+            Machine::Memory(host) => {
+                let mut host = refuser(alloc, host, faults)?;
+                let seen = run_on(alloc, run, faults, inputs, &mut host)?;
+                let left = taken_over(alloc, &mut host)?;
+                Ok((Machine::Memory(left), seen))
+            }
+            Machine::Disk(_) => Err(anyhow!("a host over a disk refuses by its network alone")),
         }
     }
 

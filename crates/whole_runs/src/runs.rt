@@ -3,7 +3,7 @@
 use crate::reading::{first_word, number, words};
 use anyhow::Result;
 use host_core::Host;
-use host_memory::{FixedClock, Fuse, MemorySink, MemorySource};
+use host_memory::{FixedClock, Fuse, MemorySink, MemorySource, Refusal};
 use net_model::Net;
 use nmstate_top::{Cause, Report, Step, run_at, run_command, run_script};
 use std::alloc::Global;
@@ -60,14 +60,15 @@ impl Run {
     }
 }
 
-/// The calls that are to fail in one command, and whether its host lies.
-#[derive(Debug, Drop)]
+/// The calls that are to fail in one command, and whether its host lies or refuses calls of its own.
+#[derive(Drop)]
 pub struct Faults {
     pub host: Vec<Fuse>,
     pub source: Vec<Fuse>,
     pub out: Vec<Fuse>,
     pub err: Vec<Fuse>,
     pub lies: bool,
+    pub refusals: Vec<Refusal>,
 }
 
 impl Faults {
@@ -78,6 +79,7 @@ impl Faults {
             out: Vec::new(alloc),
             err: Vec::new(alloc),
             lies: false,
+            refusals: Vec::new(alloc),
         }
     }
 }

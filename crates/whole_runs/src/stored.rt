@@ -41,3 +41,16 @@ pub fn cut(alloc: Global, held: &[u8], to: u64) -> Result<Vec<u8>> {
     }
     Ok(bytes)
 }
+
+/// The bytes from a position on.
+pub fn behind(alloc: Global, held: &[u8], from: u64) -> Result<Vec<u8>> {
+    let mut bytes = Vec::new(alloc);
+    let mut place = 0_u64;
+    for byte in held {
+        if place >= from {
+            bytes.push(*byte)?;
+        }
+        place = place.wrapping_add(1);
+    }
+    Ok(bytes)
+}

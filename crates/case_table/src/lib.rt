@@ -1,0 +1,17 @@
+//! Tables of cases, as they stand in the standard input of a program: each with what it is to answer.
+//!
+//! The input is parts, each with a heading `== KIND TITLE`, and below it a case a line: the case, ` => `, and its answer. A line
+//! without any text and one that begins with `# ` are passed over. In a case and in an answer `%n` stands for a line's end,
+//! `%HH` for the byte with these hexadecimal digits, and `%*N<TEXT>` for a text N times.
+#![tactic(auto)]
+
+// How many cases answer as written.
+mod count;
+// Texts as cases write them.
+mod texts;
+// The parts of the input, and what comes of each.
+mod parts;
+
+pub use count::{Count, push_count};
+pub use parts::{Answers, report};
+pub use texts::bytes_of;

@@ -1,0 +1,33 @@
+//! Calls as lines print them.
+ghost use Rattle.std.specs.Prelude.{◌≡◌};
+ghost use Rattle.net_text.specs.Line.{has_line};
+
+use crate::calls::call;
+use anyhow::{Result, anyhow};
+use net_model::{Call, Kind};
+use net_text::write_call_line;
+use std::alloc::Global;
+
+// Whether the call has a line: one that would make a device has none.
+fn has_line(call: &Call) -> bool
+    ensures { result ≡ has_line call.now }
+{
+    match call {
+        Call::AddLink { kind, .. } => !matches!(kind, Kind::Ethernet { .. }),
+        _ => true,
+    }
+}
+
+fn line_of(alloc: Global, call: &Call) -> Result<Vec<u8>> {
+    let mut line = Vec::new(alloc);
+    if !has_line(call) || write_call_line(call, &mut line).is_err() {
+        return Err(anyhow!("no line"));
+    }
+    Ok(line)
+}
+
+/// Whether a line is printed as it was read.
+pub fn is_printed(alloc: Global, line: &str) -> Result<bool> {
+    let printed = line_of(alloc, &call(alloc, line)?)?;
+    Ok(printed.as_slice() == line.as_bytes())
+}

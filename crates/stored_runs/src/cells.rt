@@ -1,0 +1,69 @@
+//! Checkpoint areas as they read.
+
+use crate::hex::{bytes_of_hex, push_hex};
+use base_model::{OutOfMemory, push_decimal};
+use checkpoint_cell::{CellFault, Phase, Seen, barrier, due, load, peek};
+use host_memory::MemoryHost;
+use net_image::encode;
+use std::alloc::Global;
+
+fn push_seen(seen: Seen, out: &mut Vec<u8>) -> Result<(), OutOfMemory> {
+    match seen {
+        Seen::Empty => out.extend_from_slice(b"empty")?,
+        Seen::Set {
+            phase,
+            made,
+            deadline,
+        } => {
+            out.extend_from_slice(match phase {
+                Phase::Applying => b"applying ".as_slice(),
+                Phase::Waiting => b"waiting ",
+            })?;
+            push_decimal(made, out)?;
+            out.push(b' ')?;
+            push_decimal(deadline, out)?;
+        }
+    }
+    Ok(())
+}
+
+// What is loaded, as the digits of its image.
+fn push_loaded(alloc: Global, host: &mut MemoryHost, out: &mut Vec<u8>) -> Result<(), OutOfMemory> {
+    match load(host, alloc) {
+        Ok(Some(pending)) => push_hex(&encode(alloc, &pending.net)?, out),
+        Ok(None) => Ok(out.extend_from_slice(b"none")?),
+        Err(CellFault::Damaged) => Ok(out.extend_from_slice(b"damaged")?),
+        Err(CellFault::Failed) => Ok(out.extend_from_slice(b"failed")?),
+        Err(CellFault::OutOfMemory) => Err(OutOfMemory),
+    }
+}
+
+/// Appends what an area reads as, alone and behind a barrier, and what is loaded from it.
+pub fn push_area(alloc: Global, digits: &str, out: &mut Vec<u8>) -> Result<(), OutOfMemory> {
+    let area = bytes_of_hex(alloc, digits)?;
+    let mut host = MemoryHost::new(alloc, None, area, Vec::new(alloc));
+    match peek(&mut host) {
+        Ok(seen) => push_seen(seen, out)?,
+        Err(_) => out.extend_from_slice(b"failed")?,
+    }
+    out.extend_from_slice(b", ")?;
+    match barrier(&mut host) {
+        Ok(seen) => push_seen(seen, out)?,
+        Err(_) => out.extend_from_slice(b"failed")?,
+    }
+    out.extend_from_slice(b", ")?;
+    push_loaded(alloc, &mut host, out)
+}
+
+fn number(word: &str) -> u64 {
+    word.parse::<u64>().unwrap_or(0)
+}
+
+/// Appends whether a change is due: `MADE DEADLINE MOMENT`.
+pub fn push_due(case: &str, out: &mut Vec<u8>) -> Result<(), OutOfMemory> {
+    let (made, rest) = case.split_once(' ').unwrap_or((case, ""));
+    let (deadline, moment) = rest.split_once(' ').unwrap_or((rest, ""));
+    let is_due = due(number(made), number(deadline), number(moment));
+    out.extend_from_slice(if is_due { b"true".as_slice() } else { b"false" })?;
+    Ok(())
+}

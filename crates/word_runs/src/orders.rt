@@ -1,0 +1,123 @@
+//! The order of words with what is read for it, and the steps of scripts.
+
+use crate::commands::words;
+use base_model::{OutOfMemory, Str, push_decimal};
+use host_memory::{Fuse, MemorySource};
+use order_reading::{Order, read_order, read_script, script_file, steps_of};
+use std::alloc::Global;
+use top_model::{Cause, DocFault, Step};
+
+// A source with this input under the name `file`, whose call of this number fails; no call has the number 0.
+fn source(alloc: Global, text: &str, failing: u64) -> Result<MemorySource, OutOfMemory> {
+    let name = String::from_str(alloc, "file")?;
+    let bytes = Vec::from_slice(alloc, text.as_bytes())?;
+    let mut inputs = Vec::new(alloc);
+    inputs.push((name, bytes))?;
+    let mut fuses = Vec::new(alloc);
+    fuses.push(Fuse {
+        call: failing,
+        done: false,
+    })?;
+    Ok(MemorySource::new(alloc, inputs, fuses))
+}
+
+fn name_of_refusal(cause: &Cause) -> &'static str {
+    match cause {
+        Cause::Usage => "usage",
+        Cause::NoSuchName => "no such name",
+        Cause::ReadFault => "read fault",
+        Cause::DocRefused(DocFault::Json(_)) => "json",
+        Cause::DocRefused(DocFault::Yaml(_)) => "yaml",
+        Cause::DocRefused(DocFault::Schema(_)) => "schema",
+        _ => "another",
+    }
+}
+
+fn name_of(answer: &Result<Order, Cause>) -> &'static str {
+    match answer {
+        Ok(Order::Show { .. }) => "show",
+        Ok(Order::Plan { .. }) => "plan",
+        Ok(Order::Apply { .. }) => "apply",
+        Ok(Order::Commit) => "commit",
+        Ok(Order::Rollback) => "rollback",
+        Ok(Order::Recover) => "recover",
+        Ok(Order::Check) => "check",
+        Ok(Order::Init { .. }) => "init",
+        Ok(Order::Generate { .. }) => "generate",
+        Err(cause) => name_of_refusal(cause),
+    }
+}
+
+// `WORDS | N | TEXT`: the words, the call of the source that fails, and the text of the input.
+fn push_order(
+    alloc: Global,
+    in_script: bool,
+    case: &str,
+    out: &mut Vec<u8>,
+) -> Result<(), OutOfMemory> {
+    let (line, rest) = case.split_once(" | ").unwrap_or((case, ""));
+    let (failing, text) = rest.split_once(" | ").unwrap_or((rest, ""));
+    let mut source = source(alloc, text, failing.parse::<u64>().unwrap_or(0))?;
+    let answer = read_order(alloc, &words(alloc, line)?, in_script, &mut source);
+    Ok(out.extend_from_slice(name_of(&answer).as_bytes())?)
+}
+
+// How many steps there are, with the moment and the words of the first, or the number of the line that is none.
+fn push_answer(answer: &Result<Vec<Step>, Cause>, out: &mut Vec<u8>) -> Result<(), OutOfMemory> {
+    match answer {
+        Ok(steps) => {
+            push_decimal(steps.len(), out)?;
+            if let Some(step) = steps.first() {
+                out.extend_from_slice(b" from ")?;
+                push_decimal(step.at, out)?;
+                out.extend_from_slice(b", words ")?;
+                push_decimal(step.words.len(), out)?;
+            }
+            Ok(())
+        }
+        Err(Cause::BadLine(number)) => {
+            out.extend_from_slice(b"line ")?;
+            push_decimal(*number, out)
+        }
+        Err(_) => Ok(out.extend_from_slice(b"another")?),
+    }
+}
+
+/// Appends what the lines of a script are.
+pub fn push_steps(alloc: Global, text: &[u8], out: &mut Vec<u8>) -> Result<(), OutOfMemory> {
+    push_answer(&steps_of(alloc, text), out)
+}
+
+fn push_file(file: &Option<Option<Str>>, out: &mut Vec<u8>) -> Result<(), OutOfMemory> {
+    match file {
+        Some(Some(file)) => out.extend_from_slice(file.as_str().as_bytes())?,
+        Some(None) => out.extend_from_slice(b"standard input")?,
+        None => out.extend_from_slice(b"no script")?,
+    }
+    Ok(())
+}
+
+// The steps of the script `file`.
+fn push_script(alloc: Global, text: &str, out: &mut Vec<u8>) -> Result<(), OutOfMemory> {
+    let file = Some(Str::of(String::from_str(alloc, "file")?));
+    let mut source = source(alloc, text, 0)?;
+    push_answer(&read_script(alloc, &file, &mut source), out)
+}
+
+/// Appends the answer to a case on orders or scripts, if it is one.
+pub fn answer(
+    alloc: Global,
+    kind: &str,
+    case: &str,
+    out: &mut Vec<u8>,
+) -> Result<bool, OutOfMemory> {
+    match kind {
+        "order" => push_order(alloc, false, case, out)?,
+        "order-in-script" => push_order(alloc, true, case, out)?,
+        "steps" => push_steps(alloc, case.as_bytes(), out)?,
+        "script" => push_script(alloc, case, out)?,
+        "script-file" => push_file(&script_file(alloc, &words(alloc, case)?)?, out)?,
+        _ => return Ok(false),
+    }
+    Ok(true)
+}
