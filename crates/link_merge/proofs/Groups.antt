@@ -9,7 +9,7 @@ use Rattle.merge_model.specs.Lifted.{members}
 use Rattle.merge_model.specs.Places.{at_rule, first_of}
 use Rattle.merge_model.specs.BrokenEntries.{duplicate_name}
 use Rattle.merge_model.specs.Merge.{links_of, links_broken}
-use Rattle.link_merge.specs.Rules.{entry_rules, port_rules, merged_rules}
+use Rattle.link_rules.specs.Rules.{entry_rules, port_rules, merged_rules}
 
 or_assoc : {X : Type 0} (a b c : Option X) → option_or (option_or a b) c ≡ option_or a (option_or b c)
 or_assoc None b c = refl

@@ -11,18 +11,13 @@ ghost use Rattle.merge_model.specs.BrokenEntries.{duplicate_name};
 ghost use Rattle.merge_model.specs.Merge.{links_of};
 ghost use Rattle.merge_model.specs.Places.{at_rule, first_of};
 ghost use Rattle.merge_model.specs.Answers.{MergesLinks};
-ghost use Rattle.link_merge.specs.Rules.{entry_rules, port_rules, merged_rules};
+ghost use Rattle.link_rules.specs.Rules.{entry_rules, port_rules, merged_rules};
 
-use crate::broken::{entries_broken, merged_broken, ports_broken};
-use crate::controllers::with_controllers;
-use crate::entries::Entries;
-use crate::fields::merged_links;
-use crate::lifted::with_lifted;
-use crate::members::Members;
-use crate::merged::Merged;
-use crate::seats::seats;
-use crate::slot::Slot;
 use document_model::Doc;
+use link_fields::merged_links;
+use link_members::{Members, with_controllers, with_lifted};
+use link_rules::{Merged, entries_broken, merged_broken, ports_broken};
+use link_slots::{Entries, Slot, seats};
 use merge_laws::merge_laws;
 use merge_model::MergeFault;
 use net_model::{Link, Net};
@@ -55,21 +50,30 @@ fn members<'a>(
     Members::of(alloc, raised)
 }
 
-fn merged(alloc: Global, members: &Members) -> Result<Merged, AllocError>
-    ensures { IfOk result (λ merged. merged ≡ merged_links members.now) }
-{
-    let links = merged_links(alloc, members)?;
-    Merged::of(alloc, links)
-}
-
 // The names of the merged links differ, where the entries break no rule.
-fn names_differ_laws(net: &Net, entries: &Entries, merged: &Merged)
+fn names_differ_laws(net: &Net, entries: &Entries, links: &[Link])
     requires rules { first_of at_rule (entry_rules net.now.links entries.now) ≡ None }
-    requires links { merged.now ≡ links_of net.now.links entries.now }
-    ensures { names_differ merged.now ≡ true }
+    requires links { links.now ≡ links_of net.now.links entries.now }
+    ensures { names_differ links.now ≡ true }
 {
     net.laws();
     merge_laws();
+}
+
+// The merged links, by their names.
+fn merged(
+    alloc: Global,
+    net: &Net,
+    entries: &Entries,
+    state: &Members,
+) -> Result<Merged, AllocError>
+    requires rules { first_of at_rule (entry_rules net.now.links entries.now) ≡ None }
+    requires state { state.now ≡ members net.now.links entries.now }
+    ensures { IfOk result (λ merged. merged ≡ links_of net.now.links entries.now) }
+{
+    let links = merged_links(alloc, state)?;
+    names_differ_laws(net, entries, links.as_slice());
+    Merged::of(alloc, links)
 }
 
 // The merge where the entries break no rule.
@@ -89,8 +93,7 @@ fn merge_entries<'a>(
     if let Some(refused) = wrong {
         return Err(MergeFault::Refused(refused));
     }
-    let merged = merged(alloc, &members)?;
-    names_differ_laws(net, entries, &merged);
+    let merged = merged(alloc, net, entries, &members)?;
     let broken = merged_broken(alloc, &members, &merged)?;
     if let Some(refused) = broken {
         return Err(MergeFault::Refused(refused));

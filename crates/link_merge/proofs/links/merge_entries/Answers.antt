@@ -2,7 +2,7 @@ use Rattle.std.proofs.Common.{rules, ◌∙◌, ◌++◌}
 use Rattle.merge_model.specs.Lifted.{members}
 use Rattle.merge_model.specs.Merge.{links_of}
 use Rattle.merge_model.specs.Places.{at_rule}
-use Rattle.link_merge.specs.Rules.{entry_rules, port_rules, merged_rules}
+use Rattle.link_rules.specs.Rules.{entry_rules, port_rules, merged_rules}
 use Rattle.link_merge.proofs.Ruled.{first_behind}
 use Rattle.link_merge.proofs.links.merge_entries.Goals as goal
 

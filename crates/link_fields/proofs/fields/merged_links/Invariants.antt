@@ -1,0 +1,7 @@
+use Rattle.std.proofs.Common.{◌≡◌, map, take}
+use Rattle.merge_model.specs.Merged.{merged_link}
+use Rattle.link_fields.proofs.fields.merged_links.Given as goal
+
+-- those so far
+abbrev pub invariant-loop-slot : goal.invariant-loop-slot
+invariant-loop-slot l = l.links.items ≡ map (merged_link l.members) (take l.slot-index l.slot-items)

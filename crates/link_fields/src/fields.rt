@@ -1,0 +1,186 @@
+//! The merged links: one rule for each field.
+ghost use Rattle.std.specs.Prelude.{◌≡◌, length, map, option_copied, IfOk};
+ghost use Rattle.std.specs.Option.{option_map, option_and_then};
+ghost use Rattle.merge_model.specs.Merged.{base_member, up_over, down_bases, by_bases, mtu_over, stated_mtu, unstated_mtu, mac_over, stated_mac, is_up, merged_link, merged_links};
+
+use crate::addresses::addrs_of;
+use crate::options::{bond_of, bridge_of, port_of};
+use link_members::Members;
+use link_slots::{Slot, base_of, is_absent, is_stated_up, permanent_of};
+use net_model::{DEFAULT_MTU, Link, Mac};
+use std::alloc::{AllocError, Global};
+
+fn base_member<'a, 'b>(members: &'b Members<'a>, slot: &Slot<'a>) -> Option<&'b Slot<'a>>
+    ensures { option_copied result ≡ base_member members.now slot.now }
+{
+    match base_of(&slot.kind()) {
+        Some(base) => members.find(&base),
+        None => None,
+    }
+}
+
+// Up where it is stated up or lifted, or unstated and up before and, if it is a VLAN, over a base that is up.
+fn up_over(slot: &Slot, below: Option<bool>) -> bool
+    ensures { result ≡ up_over slot.now below }
+{
+    is_stated_up(slot.wish())
+        || slot.is_lifted()
+        || (slot.is_unstated() && slot.was_up() && below.unwrap_or(true))
+}
+
+// Whether the link is up, looking so many bases down.
+fn up_within<'a>(members: &Members<'a>, steps: usize, slot: &Slot<'a>) -> bool
+    ensures { result ≡ down_bases up_over members.now steps slot.now }
+{
+    if steps == 0 {
+        return up_over(slot, None);
+    }
+    let below = match base_member(members, slot) {
+        Some(base) => Some(up_within(members, steps - 1, base)),
+        None => None,
+    };
+    up_over(slot, below)
+}
+
+fn stated_mtu(slot: &Slot) -> Option<u32>
+    ensures { result ≡ stated_mtu slot.now }
+{
+    if is_absent(slot.wish()) {
+        return Some(DEFAULT_MTU);
+    }
+    match slot.entry() {
+        Some(entry) => entry.mtu,
+        None => None,
+    }
+}
+
+fn current_mtu(slot: &Slot) -> Option<u32>
+    ensures { result ≡ option_map (λ l. l.mtu) slot.now.old }
+{
+    match slot.old() {
+        Some(link) => Some(link.mtu),
+        None => None,
+    }
+}
+
+// For a new VLAN its base's, for another VLAN the smaller of its own and its base's, else the current one or the default.
+fn unstated_mtu(now: Option<u32>, below: Option<u32>) -> u32
+    ensures { result ≡ unstated_mtu now below }
+{
+    match now {
+        None => below.unwrap_or(DEFAULT_MTU),
+        Some(now) => match below {
+            None => now,
+            Some(below) => now.min(below),
+        },
+    }
+}
+
+fn mtu_over(slot: &Slot, below: Option<u32>) -> u32
+    ensures { result ≡ mtu_over slot.now below }
+{
+    match stated_mtu(slot) {
+        Some(mtu) => mtu,
+        None => unstated_mtu(current_mtu(slot), below),
+    }
+}
+
+// The MTU, looking so many bases down.
+fn mtu_within<'a>(members: &Members<'a>, steps: usize, slot: &Slot<'a>) -> u32
+    ensures { result ≡ down_bases mtu_over members.now steps slot.now }
+{
+    if steps == 0 {
+        return mtu_over(slot, None);
+    }
+    let below = match base_member(members, slot) {
+        Some(base) => Some(mtu_within(members, steps - 1, base)),
+        None => None,
+    };
+    mtu_over(slot, below)
+}
+
+fn stated_mac(slot: &Slot) -> Option<Mac>
+    ensures { result ≡ stated_mac slot.now }
+{
+    if is_absent(slot.wish()) {
+        return permanent_of(&slot.kind());
+    }
+    match slot.entry() {
+        Some(entry) => entry.mac,
+        None => None,
+    }
+}
+
+fn current_mac(slot: &Slot) -> Option<Mac>
+    ensures { result ≡ option_map (λ l. l.mac) slot.now.old }
+{
+    match slot.old() {
+        Some(link) => Some(link.mac),
+        None => None,
+    }
+}
+
+// The stated one, else the current one, else for a new VLAN its base's, else the one made from the name.
+fn mac_over(slot: &Slot, below: Option<Mac>) -> Mac
+    ensures { result ≡ mac_over slot.now below }
+{
+    match stated_mac(slot) {
+        Some(mac) => mac,
+        None => match current_mac(slot) {
+            Some(mac) => mac,
+            None => match below {
+                Some(mac) => mac,
+                None => Mac::of_virtual(&slot.name()),
+            },
+        },
+    }
+}
+
+// The MAC, looking so many bases down.
+fn mac_within<'a>(members: &Members<'a>, steps: usize, slot: &Slot<'a>) -> Mac
+    ensures { result ≡ down_bases mac_over members.now steps slot.now }
+{
+    if steps == 0 {
+        return mac_over(slot, None);
+    }
+    let below = match base_member(members, slot) {
+        Some(base) => Some(mac_within(members, steps - 1, base)),
+        None => None,
+    };
+    mac_over(slot, below)
+}
+
+fn merged_link<'a>(
+    alloc: Global,
+    members: &Members<'a>,
+    slot: &Slot<'a>,
+) -> Result<Link, AllocError>
+    ensures { IfOk result (λ link. link ≡ merged_link members.now slot.now) }
+{
+    let steps = members.slots().len();
+    let up = up_within(members, steps, slot);
+    let addrs = addrs_of(alloc, members, slot, up)?;
+    Ok(Link {
+        name: slot.name(),
+        kind: slot.kind(),
+        up,
+        mtu: mtu_within(members, steps, slot),
+        mac: mac_within(members, steps, slot),
+        controller: slot.controller(),
+        bond: bond_of(alloc, members, slot),
+        bridge: bridge_of(slot),
+        port: port_of(members, slot),
+        addrs,
+    })
+}
+
+/// The merged links, by rank.
+pub fn merged_links(alloc: Global, members: &Members) -> Result<Vec<Link>, AllocError>
+    ensures { IfOk result (λ links. links.items ≡ merged_links members.now) }
+{
+    let mut links = Vec::new(alloc);
+    for slot in members.slots() {
+        links.push(merged_link(alloc, members, slot)?)?;
+    }
+    Ok(links)
+}

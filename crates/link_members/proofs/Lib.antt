@@ -1,0 +1,6 @@
+mod Claims
+mod Contested
+mod Firsts
+mod Listed
+mod PutLast
+mod Raised

@@ -1,0 +1,7 @@
+use Rattle.std.proofs.Common.{◌≡◌, map, take}
+use Rattle.link_members.specs.Listers.{port_names}
+use Rattle.link_members.proofs.port_lists.port_indexes.Given as goal
+
+-- the lists of the links so far
+abbrev pub invariant-loop-slot : goal.invariant-loop-slot
+invariant-loop-slot l = l.indexes.items ≡ map port_names (take l.slot-index l.slots)

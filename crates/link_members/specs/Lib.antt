@@ -1,0 +1,3 @@
+pub mod Controlled
+pub mod Listers
+pub mod Lifts

@@ -1,0 +1,128 @@
+//! The links of the merged state, found by their names.
+ghost use Rattle.std.specs.Prelude.{◌≡◌, [], false, map, find, option_copied, IfOk};
+ghost use Rattle.std.specs.List.{list_any};
+ghost use Rattle.std.specs.Option.{option_map_or, option_and_then, unwrap_or};
+ghost use Rattle.merge_model.specs.Members.{Member, find_member};
+ghost use Rattle.merge_model.specs.Controllers.{lists};
+ghost use Rattle.merge_model.specs.LinkOptions.{merged_ports};
+ghost use Rattle.link_members.specs.Listers.{rivals, port_place};
+
+use crate::controlled::ports_by_controller;
+use crate::listers::{contested_names, first_lister, first_listers};
+use crate::port_lists::port_indexes;
+use link_slots::{Index, Slot};
+use net_model::{Items, Name};
+use std::alloc::{AllocError, Global};
+use std::collections::{BTreeMap, BTreeSet};
+use std::marker::Model;
+
+/// The links of the merged state by rank, with an index of their names, one of each stated list of ports, one of the
+/// names in all of these lists, and the merged ports of each controller.
+#[derive(Drop)]
+pub struct Members<'a> {
+    slots: Vec<Slot<'a>>,
+    index: Index,
+    ports: Vec<Index>,
+    firsts: BTreeMap<Name, usize>,
+    contested: BTreeSet<Name>,
+    controlled: BTreeMap<Name, Items<Name>>,
+}
+
+impl<'a> Model for Members<'a> {
+    ghost use Rattle.std.specs.Prelude.{◌≡◌, List, map};
+    ghost use Rattle.merge_model.specs.Members.{Member};
+    ghost use Rattle.link_members.specs.Controlled.{HasPorts};
+    ghost use Rattle.link_members.specs.Listers.{HasFirsts, HasContested, port_names};
+
+    ghost Value = { List Member };
+
+    ghost view = { λ ms. ms.slots.items };
+
+    ghost invariant = { λ ms. (ms.index ≡ map (λ (m : Member). m.name) ms.slots.items)
+        × HasFirsts ms.slots.items ms.firsts × HasContested ms.slots.items ms.contested
+        × (ms.ports.items ≡ map port_names ms.slots.items) × HasPorts ms.slots.items ms.controlled };
+}
+
+/// The names of the links.
+pub(crate) fn names(alloc: Global, slots: &[Slot]) -> Result<Vec<Name>, AllocError>
+    ensures { IfOk result (λ names. names.items ≡ map (λ (m : Member). m.name) slots.now) }
+{
+    slots.iter().map(|slot| slot.name()).collect(alloc)
+}
+
+impl<'a> Members<'a> {
+    /// The links with their indexes. The error is that memory is out.
+    pub fn of(alloc: Global, slots: Vec<Slot<'a>>) -> Result<Members<'a>, AllocError>
+        ensures { IfOk result (λ ms. ms ≡ slots.entry.items) }
+    {
+        let names = names(alloc, &slots)?;
+        let index = Index::of(alloc, names)?;
+        let ports = port_indexes(alloc, &slots)?;
+        let firsts = first_listers(alloc, &slots)?;
+        let contested = contested_names(alloc, &slots, &firsts)?;
+        let controlled = ports_by_controller(alloc, &slots)?;
+        Ok(Members {
+            slots,
+            index,
+            ports,
+            firsts,
+            contested,
+            controlled,
+        })
+    }
+
+    /// The links, by rank.
+    pub fn slots<'b>(&'b self) -> &'b Vec<Slot<'a>>
+        ensures { result.now.items ≡ self.now }
+    {
+        &self.slots
+    }
+
+    /// The link of this name.
+    pub fn find<'b>(&'b self, name: &Name) -> Option<&'b Slot<'a>>
+        ensures { option_copied result ≡ find_member name.now self.now }
+    {
+        match self.index.place(name) {
+            Some(at) => Some(&self.slots[at]),
+            None => None,
+        }
+    }
+
+    /// The place of the port in the stated list of the link of this name.
+    pub fn port_place(&self, controller: &Name, port: &Name) -> Option<usize>
+        ensures { result ≡ option_and_then (port_place port.now) (find_member controller.now self.now) }
+    {
+        match self.index.place(controller) {
+            Some(at) => self.ports[at].place(port),
+            None => None,
+        }
+    }
+
+    /// Whether the stated list of the link of this name names the port.
+    pub fn lists(&self, controller: &Name, port: &Name) -> bool
+        ensures { result ≡ option_map_or (λ c. lists c port.now) (find_member controller.now self.now) false }
+    {
+        self.port_place(controller, port).is_some()
+    }
+
+    /// The names of the merged ports of the controller of this name, where it has any.
+    pub fn ports_of<'b>(&'b self, name: &Name) -> Option<&'b Items<Name>>
+        ensures { unwrap_or (option_copied result) [] ≡ merged_ports self.now name.now }
+    {
+        self.controlled.get(name)
+    }
+
+    /// The first link whose stated list names the link.
+    pub fn first_lister<'b>(&'b self, name: &Name) -> Option<&'b Slot<'a>>
+        ensures { option_copied result ≡ find (λ c. lists c name.now) self.now }
+    {
+        first_lister(&self.slots, &self.firsts, name)
+    }
+
+    /// Whether the lists of two links of different names name the link.
+    pub fn is_contested(&self, name: &Name) -> bool
+        ensures { result ≡ list_any (rivals self.now name.now) self.now }
+    {
+        self.contested.contains(name)
+    }
+}

@@ -1,7 +1,0 @@
-use Rattle.std.proofs.Common.{take}
-use Rattle.link_merge.specs.Listers.{HasFirsts}
-use Rattle.link_merge.proofs.listers.first_listers.Given as goal
-
--- the first of the links so far whose lists name a link
-abbrev pub invariant-loop-at : goal.invariant-loop-at
-invariant-loop-at l = HasFirsts (take l.at l.slots) l.firsts

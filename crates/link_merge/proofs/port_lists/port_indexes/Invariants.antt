@@ -1,7 +1,0 @@
-use Rattle.std.proofs.Common.{◌≡◌, map, take}
-use Rattle.link_merge.specs.Listers.{port_names}
-use Rattle.link_merge.proofs.port_lists.port_indexes.Given as goal
-
--- the lists of the links so far
-abbrev pub invariant-loop-slot : goal.invariant-loop-slot
-invariant-loop-slot l = l.indexes.items ≡ map port_names (take l.slot-index l.slots)

@@ -1,0 +1,4 @@
+pub mod Marked
+pub mod More
+pub mod Placed
+pub mod Positions
