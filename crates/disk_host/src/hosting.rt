@@ -70,8 +70,12 @@ impl<D: Disk> Host for DiskHost<D> {
         ensures exists { D.tells → IsErrOf result MakeFault.Exists → IsSome (told_of D.Disk self.old).state.net }
         ensures met { D.tells → OnOk result ((told_of D.Disk self.old).state.net ≡ None) }
         ensures made { D.tells → OnOk result (IsMade first.now (told_of D.Disk self.old).state (told_of D.Disk self.new)) }
-        ensures stays { D.tells → IsSome (told_of D.Disk self.old).state.net → Steps Stays (told_of D.Disk self.old).stops (told_of D.Disk self.new).stops × ((told_of D.Disk self.new).state ≡ (told_of D.Disk self.old).state) }
-        ensures same { D.tells → IsErrOf result MakeFault.OutOfMemory → Steps Stays (told_of D.Disk self.old).stops (told_of D.Disk self.new).stops × ((told_of D.Disk self.new).state ≡ (told_of D.Disk self.old).state) }
+        ensures stays { D.tells → IsSome (told_of D.Disk self.old).state.net
+            → Steps Stays (told_of D.Disk self.old).stops (told_of D.Disk self.new).stops
+            × ((told_of D.Disk self.new).state ≡ (told_of D.Disk self.old).state) }
+        ensures same { D.tells → IsErrOf result MakeFault.OutOfMemory
+            → Steps Stays (told_of D.Disk self.old).stops (told_of D.Disk self.new).stops
+            × ((told_of D.Disk self.new).state ≡ (told_of D.Disk self.old).state) }
         ensures maybe { D.tells → MaybeMade first.now (told_of D.Disk self.old).state (told_of D.Disk self.new).state }
         ensures stops { D.tells → Steps (MaybeMade first.now) (told_of D.Disk self.old).stops (told_of D.Disk self.new).stops }
         ensures kernel { (told_of D.Disk self.new).kernel ≡ (told_of D.Disk self.old).kernel }
@@ -113,7 +117,9 @@ impl<D: Disk> Host for DiskHost<D> {
         ensures stops_cell { Steps SameCell (told_of D.Disk self.old).stops (told_of D.Disk self.new).stops }
         ensures settled { result ≢ Err CallFault.Failed → (told_of D.Disk self.new).settled }
         ensures doubt { result ≡ Err CallFault.Failed → (told_of D.Disk self.new).settled → ⊥ }
-        ensures same { (k : ℕ) → IsErrOf result (CallFault.Refused k) ⊎ IsErrOf result CallFault.OutOfMemory → (D.tells → (told_of D.Disk self.new).state ≡ (told_of D.Disk self.old).state) × Steps Stays (told_of D.Disk self.old).stops (told_of D.Disk self.new).stops }
+        ensures same { (k : ℕ) → IsErrOf result (CallFault.Refused k) ⊎ IsErrOf result CallFault.OutOfMemory
+            → (D.tells → (told_of D.Disk self.new).state ≡ (told_of D.Disk self.old).state)
+            × Steps Stays (told_of D.Disk self.old).stops (told_of D.Disk self.new).stops }
         ensures fresh { D.tells → (told_of D.Disk self.new).fresh ≡ None }
         ensures counts { (k : ℕ) → IsErrOf result (CallFault.Refused k) → (told_of D.Disk self.new).kernel ≡ refused k (told_of D.Disk self.old).kernel }
         ensures counted { ((k : ℕ) → IsErrOf result (CallFault.Refused k) → ⊥) → (told_of D.Disk self.new).kernel ≡ counted (told_of D.Disk self.old).kernel }

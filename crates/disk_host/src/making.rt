@@ -50,7 +50,9 @@ fn close<D: Disk>(disk: &mut D) -> Result<(), Failed>
 fn free_slot<D: Disk>(disk: &mut D) -> Result<bool, Failed>
     requires sure { D.tells → HasArea 0 (D.told disk.old).areas.kernel (D.told disk.old) }
     requires none { D.tells → kernel_net (D.told disk.old).areas.kernel ≡ None }
-    ensures free { D.tells → IfOk result (λ second. (selects (D.told disk.new).areas.kernel ≡ not second) × IsApart second (D.told disk.new).areas.kernel × HasArea 0 (D.told disk.new).areas.kernel (D.told disk.new)) }
+    ensures free { D.tells → IfOk result (λ second. (selects (D.told disk.new).areas.kernel ≡ not second)
+        × IsApart second (D.told disk.new).areas.kernel
+        × HasArea 0 (D.told disk.new).areas.kernel (D.told disk.new)) }
     ensures none { D.tells → HasNone (D.told disk.old).areas (D.told disk.new).areas }
     ensures stops { D.tells → Steps HasNone (D.told disk.old).stops (D.told disk.new).stops }
     ensures cause { HasCause (D.told disk.old).faults (D.told disk.new).faults result }
@@ -73,7 +75,8 @@ fn fill<D: Disk>(disk: &mut D, first: &Net, image: &[u8], slot: &[u8]) -> Result
     requires sure { D.tells → HasArea 0 (D.told disk.old).areas.kernel (D.told disk.old) }
     requires cell { D.tells → HasArea 1 (D.told disk.old).areas.cell (D.told disk.old) }
     requires none { D.tells → kernel_net (D.told disk.old).areas.kernel ≡ None }
-    ensures net { OnOk result (D.tells → (kernel_net (D.told disk.new).areas.kernel ≡ Some first.now) × HasArea 0 (D.told disk.new).areas.kernel (D.told disk.new)) }
+    ensures net { OnOk result (D.tells → (kernel_net (D.told disk.new).areas.kernel ≡ Some first.now)
+        × HasArea 0 (D.told disk.new).areas.kernel (D.told disk.new)) }
     ensures made { OnOk result (D.tells → IsMadeSlot image.now (D.told disk.new).areas.kernel) }
     ensures cell { OnOk result (D.tells → (get_or (D.told disk.new).areas.cell 0 1 ≢ 1) × HasArea 1 (D.told disk.new).areas.cell (D.told disk.new)) }
     ensures shut { OnOk result (D.tells → IsShut (D.told disk.old).areas.cell (D.told disk.new).areas.cell) }
@@ -90,13 +93,18 @@ fn fill<D: Disk>(disk: &mut D, first: &Net, image: &[u8], slot: &[u8]) -> Result
 pub fn establish<D: Disk>(disk: &mut D, alloc: Global, first: &Net) -> Result<(), MakeFault>
     ensures exists { D.tells → IsErrOf result MakeFault.Exists → IsSome (kernel_net (D.told disk.old).areas.kernel) }
     ensures met { D.tells → OnOk result (kernel_net (D.told disk.old).areas.kernel ≡ None) }
-    ensures net { OnOk result (D.tells → (kernel_net (D.told disk.new).areas.kernel ≡ Some first.now) × HasArea 0 (D.told disk.new).areas.kernel (D.told disk.new)) }
+    ensures net { OnOk result (D.tells → (kernel_net (D.told disk.new).areas.kernel ≡ Some first.now)
+        × HasArea 0 (D.told disk.new).areas.kernel (D.told disk.new)) }
     // It stands in a slot with an empty journal, which a closed gate ends.
     ensures slot { OnOk result (D.tells → IsMadeOf first.now (D.told disk.new).areas.kernel) }
     ensures cell { OnOk result (D.tells → (get_or (D.told disk.new).areas.cell 0 1 ≢ 1) × HasArea 1 (D.told disk.new).areas.cell (D.told disk.new)) }
     ensures shut { OnOk result (D.tells → IsShut (D.told disk.old).areas.cell (D.told disk.new).areas.cell) }
-    ensures stays { D.tells → IsSome (kernel_net (D.told disk.old).areas.kernel) → Steps Stays (D.told disk.old).stops (D.told disk.new).stops × ((D.told disk.new).areas ≡ (D.told disk.old).areas) }
-    ensures same { D.tells → IsErrOf result MakeFault.OutOfMemory → Steps Stays (D.told disk.old).stops (D.told disk.new).stops × ((D.told disk.new).areas ≡ (D.told disk.old).areas) }
+    ensures stays { D.tells → IsSome (kernel_net (D.told disk.old).areas.kernel)
+        → Steps Stays (D.told disk.old).stops (D.told disk.new).stops
+        × ((D.told disk.new).areas ≡ (D.told disk.old).areas) }
+    ensures same { D.tells → IsErrOf result MakeFault.OutOfMemory
+        → Steps Stays (D.told disk.old).stops (D.told disk.new).stops
+        × ((D.told disk.new).areas ≡ (D.told disk.old).areas) }
     ensures maybe { D.tells → AreasMade first.now (D.told disk.old).areas (D.told disk.new).areas }
     ensures stops { D.tells → Steps (AreasMade first.now) (D.told disk.old).stops (D.told disk.new).stops }
     ensures cause { HasFault (D.told disk.old).faults (D.told disk.new).faults MakeFault.Failed result }

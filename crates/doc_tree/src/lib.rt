@@ -1,11 +1,17 @@
 //! Trees of documents, and JSON both ways.
 #![tactic(auto)]
 
+// The whole numbers of a tree have 128 bits, as their type says.
 mod integers;
+// The bounds of documents, whatever they are written in.
 mod limits;
+// What stands under a key.
 mod lookup;
+// Trees from JSON (RFC 8259).
 mod read;
+// A document as a tree.
 mod tree;
+// JSON from trees.
 mod write;
 
 pub use base_model::{Items, OutOfMemory, Path, PathStep, Str};

@@ -6,11 +6,17 @@
 //! that stand on different lines make a document, of which the first is the answer.
 #![tactic(auto)]
 
+// What reading a tree answers, in one line.
 mod answers;
+// How many cases are answered as they should be.
 mod count;
+// The entries of a document, each with what it states.
 mod entries;
+// What an entry states, field by field, each with a space in front.
 mod fields;
+// Documents with two faults, of which the first is refused.
 mod pairs;
+// Cases, one a line.
 mod tables;
 
 use crate::answers::Kind;

@@ -66,7 +66,7 @@ fn pending(fault: BackFault) -> ApplyFault
     }
 }
 
-// The same where there was no network to verify.
+// What it answers where the host had no network to verify, and the restoring told this fault.
 fn damaged(fault: BackFault) -> ApplyFault
     ensures { result ≡ damaged_as fault }
 {
@@ -97,16 +97,22 @@ fn give_up<H: Host>(host: &mut H, alloc: Global, missed: Missed) -> ApplyFault
         → IsFault missed → GaveUp from (H.told host.old).faults result (H.told host.new) }
     ensures memory { missed ≡ Missed.OutOfMemory → result ≡ ApplyFault.OutOfMemory }
     ensures begun { result ≡ ApplyFault.HostFault Left.NotBegun → ⊥ }
-    ensures hurt { H.honest → (start : ℕ) (to : NetData) → IsFault missed → (missed ≡ Missed.Failed → Rose start (H.told host.old).faults) → Hurt (Rose start (H.told host.new).faults) to (H.told host.new) result }
+    ensures hurt { H.honest → (start : ℕ) (to : NetData) → IsFault missed
+        → (missed ≡ Missed.Failed → Rose start (H.told host.old).faults)
+        → Hurt (Rose start (H.told host.new).faults) to (H.told host.new) result }
     // On every host.
-    ensures says { (doc : Doc) (opts : ApplyOpts) (made : ℕ) (start : Start) → start.faults ≤ (H.told host.old).faults → start.moment ≤ (H.told host.old).stops.moment → Why H.tells doc start (H.told host.old) missed
+    ensures says { (doc : Doc) (opts : ApplyOpts) (made : ℕ) (start : Start) → start.faults ≤ (H.told host.old).faults
+        → start.moment ≤ (H.told host.old).stops.moment → Why H.tells doc start (H.told host.old) missed
         → ((found : NetData) → missed ≡ Missed.Differs found → opts.no_verify ≡ false)
         → Said H.tells (asked doc opts made) start (H.told host.new) (Err result) }
     // Where it says that a change may stand half way, it tried to restore and failed.
-    ensures tries { (doc : Doc) (opts : ApplyOpts) (start : Start) → Why H.tells doc start (H.told host.old) missed → ((found : NetData) → missed ≡ Missed.Differs found → opts.no_verify ≡ false)
+    ensures tries { (doc : Doc) (opts : ApplyOpts) (start : Start) → Why H.tells doc start (H.told host.old) missed
+        → ((found : NetData) → missed ≡ Missed.Differs found → opts.no_verify ≡ false)
         → Tries (opts.no_verify ≡ false) start.faults start.kernel.refusals (H.told host.new) (Err result) }
     // On an honest host, sound or not, where it says that all is taken back.
-    ensures backs { H.honest → (before : Option NetData) → (cell_of (H.told host.old).state.cell ≡ None → (H.told host.old).state.net ≡ before) → Backs before (H.told host.new) (Err result) }
+    ensures backs { H.honest → (before : Option NetData)
+        → (cell_of (H.told host.old).state.cell ≡ None → (H.told host.old).state.net ≡ before)
+        → Backs before (H.told host.new) (Err result) }
     ensures moment { (H.told host.old).stops.moment ≤ (H.told host.new).stops.moment }
     ensures later { (H.told host.old).faults ≤ (H.told host.new).faults }
 {
@@ -119,13 +125,18 @@ fn give_up<H: Host>(host: &mut H, alloc: Global, missed: Missed) -> ApplyFault
 // Lets a change stand that is made: it waits, or its checkpoint is cleared.
 fn finish<H: Host>(host: &mut H, no_commit: bool, deadline: u64) -> Result<Applied, ApplyFault>
     requires { H.tells → (made : ℕ) × (d : ℕ) × (from : NetData) × Holds (sealed no_commit made d from) (H.told host.old) }
-    ensures saved { H.tells → (made d : ℕ) (from : NetData) → Holds (sealed no_commit made d from) (H.told host.old) → OnOk result (saved_net (H.told host.new).state.cell ≡ Some from) }
+    ensures saved { H.tells → (made d : ℕ) (from : NetData) → Holds (sealed no_commit made d from) (H.told host.old)
+        → OnOk result (saved_net (H.told host.new).state.cell ≡ Some from) }
     ensures kernel { SameKernel H.tells (H.told host.old) (H.told host.new) }
-    ensures kept { H.tells → Sound (H.told host.old) → (made d : ℕ) (from to : NetData) → Holds (sealed no_commit made d from) (H.told host.old) → Ends (stand to (sealed no_commit made d from)) (H.told host.old)
+    ensures kept { H.tells → Sound (H.told host.old) → (made d : ℕ) (from to : NetData)
+        → Holds (sealed no_commit made d from) (H.told host.old)
+        → Ends (stand to (sealed no_commit made d from)) (H.told host.old)
         → Kept (Only (done no_commit made d from to)) (H.told host.old) (H.told host.new) }
-    ensures ends { H.tells → (made d : ℕ) (from to : NetData) → Holds (sealed no_commit made d from) (H.told host.old) → Ends (stand to (sealed no_commit made d from)) (H.told host.old)
+    ensures ends { H.tells → (made d : ℕ) (from to : NetData) → Holds (sealed no_commit made d from) (H.told host.old)
+        → Ends (stand to (sealed no_commit made d from)) (H.told host.old)
         → OnOk result (Ends (done no_commit made d from to) (H.told host.new)) }
-    ensures nets { H.tells → (made d : ℕ) (from to : NetData) → Ends (stand to (sealed no_commit made d from)) (H.told host.old) → HasNet (Some to) (H.told host.new) }
+    ensures nets { H.tells → (made d : ℕ) (from to : NetData)
+        → Ends (stand to (sealed no_commit made d from)) (H.told host.old) → HasNet (Some to) (H.told host.new) }
     ensures stays { OnOk result (Steps SameNet (H.told host.old).stops (H.told host.new).stops) }
     ensures doubt { IfErr result (λ fault. fault ≡ ApplyFault.InDoubt) }
     ensures fault { OnErr result (Rose (H.told host.old).faults (H.told host.new).faults) }
@@ -157,15 +168,23 @@ fn carry_out<H: Host>(
 ) -> Result<Applied, ApplyFault>
     requires settled { (H.told host.old).settled }
     requires none { H.tells → Holds None (H.told host.old) }
-    ensures kept { H.honest → Sound (H.told host.old) → Ends (restored_to from.now) (H.told host.old) → (H.told host.old).state.net ≡ Some from.now → Runs calls.now from.now to.now
+    ensures kept { H.honest → Sound (H.told host.old) → Ends (restored_to from.now) (H.told host.old)
+        → (H.told host.old).state.net ≡ Some from.now → Runs calls.now from.now to.now
         → Kept (IsEither opts.now.no_commit made deadline from.now to.now) (H.told host.old) (H.told host.new) }
-    ensures exit { H.honest → Sound (H.told host.old) → Ends (restored_to from.now) (H.told host.old) → (H.told host.old).state.net ≡ Some from.now → Runs calls.now from.now to.now
+    ensures exit { H.honest → Sound (H.told host.old) → Ends (restored_to from.now) (H.told host.old)
+        → (H.told host.old).state.net ≡ Some from.now → Runs calls.now from.now to.now
         → (doc : Doc) → merge from.now doc ≡ Ok to.now
-        → Exit (record { doc = doc; no_commit = opts.now.no_commit; made = made; deadline = deadline }) (restored_to from.now) (H.told host.old).faults result (H.told host.new) }
+        → Exit (record { doc = doc; no_commit = opts.now.no_commit; made = made; deadline = deadline })
+        (restored_to from.now) (H.told host.old).faults result (H.told host.new) }
     // On an honest host, sound or not.
-    ensures ends { H.honest → (H.told host.old).state.net ≡ Some from.now → Runs calls.now from.now to.now → OnOk result (Ends (done opts.now.no_commit made deadline from.now to.now) (H.told host.new)) }
-    ensures hurt { H.honest → (H.told host.old).state.net ≡ Some from.now → Runs calls.now from.now to.now → IfErr result (λ fault. Hurt (Rose (H.told host.old).faults (H.told host.new).faults) to.now (H.told host.new) fault) }
-    ensures calm { H.honest → (t : ℕ) → t ≤ (H.told host.old).stops.moment → (H.told host.old).state.net ≡ Some from.now → IsPlan from.now to.now calls.now → CalmSince from.now to.now t (H.told host.old)
+    ensures ends { H.honest → (H.told host.old).state.net ≡ Some from.now → Runs calls.now from.now to.now
+        → OnOk result (Ends (done opts.now.no_commit made deadline from.now to.now) (H.told host.new)) }
+    ensures hurt { H.honest → (H.told host.old).state.net ≡ Some from.now → Runs calls.now from.now to.now
+        → IfErr result (λ fault. Hurt (Rose (H.told host.old).faults (H.told host.new).faults)
+        to.now (H.told host.new) fault) }
+    ensures calm { H.honest → (t : ℕ) → t ≤ (H.told host.old).stops.moment
+        → (H.told host.old).state.net ≡ Some from.now → IsPlan from.now to.now calls.now
+        → CalmSince from.now to.now t (H.told host.old)
         → OnOk result (CalmSince from.now to.now t (H.told host.new)) }
     ensures value { IfOk result (λ applied. applied.deadline ≡ (if opts.now.no_commit then Some deadline else None)) }
     // On every host.
@@ -214,15 +233,20 @@ fn change<H: Host>(
     ensures exit { H.honest → Sound (H.told host.old) → Ends (standing (H.told host.old).state) (H.told host.old)
         → Exit (asked_of doc.now opts.now now) (standing (H.told host.old).state) (H.told host.old).faults result (H.told host.new) }
     // On an honest host, sound or not.
-    ensures exact { H.honest → ApplyExact (Rose (H.told host.old).faults (H.told host.new).faults) (change (asked doc.now opts.now now) (standing (H.told host.old).state) (H.told host.old).state.net) (H.told host.new) result }
-    ensures unbegun { IsErrOf result (ApplyFault.HostFault Left.NotBegun) → (left ≡ Left.NotBegun) × Steps Stays (H.told host.old).stops (H.told host.new).stops }
-    ensures calm { H.honest → (t : ℕ) → t ≤ (H.told host.old).stops.moment → (from to : NetData) → (H.told host.old).state.net ≡ Some from → merge from doc.now ≡ Ok to → CalmSince from to t (H.told host.old)
+    ensures exact { H.honest → ApplyExact (Rose (H.told host.old).faults (H.told host.new).faults)
+        (change (asked doc.now opts.now now) (standing (H.told host.old).state) (H.told host.old).state.net)
+        (H.told host.new) result }
+    ensures unbegun { IsErrOf result (ApplyFault.HostFault Left.NotBegun) → (left ≡ Left.NotBegun)
+        × Steps Stays (H.told host.old).stops (H.told host.new).stops }
+    ensures calm { H.honest → (t : ℕ) → t ≤ (H.told host.old).stops.moment → (from to : NetData)
+        → (H.told host.old).state.net ≡ Some from → merge from doc.now ≡ Ok to → CalmSince from to t (H.told host.old)
         → OnOk result (CalmSince from to t (H.told host.new)) }
     ensures value { IfOk result (λ applied. applied.deadline ≡ (if opts.now.no_commit then Some (asked_of doc.now opts.now now).deadline else None)) }
     // On every host.
     ensures says { (start : Start) → Follows start (H.told host.old) → (left ≡ Left.NotBegun → H.tells → (H.told host.old).state ≡ start.state)
         → Said H.tells (asked doc.now opts.now now) start (H.told host.new) result }
-    ensures tries { (start : Start) → Follows start (H.told host.old) → Tries (opts.now.no_verify ≡ false) start.faults start.kernel.refusals (H.told host.new) result }
+    ensures tries { (start : Start) → Follows start (H.told host.old)
+        → Tries (opts.now.no_verify ≡ false) start.faults start.kernel.refusals (H.told host.new) result }
     ensures dumps { Dumps H.tells opts.now.no_verify (H.told host.new) result }
     ensures backs { H.honest → Backs (H.told host.old).state.net (H.told host.new) result }
     ensures moment { (H.told host.old).stops.moment ≤ (H.told host.new).stops.moment }
@@ -270,7 +294,8 @@ pub fn settle_and_change<H: Host>(
     now: u64,
 ) -> Result<Applied, ApplyFault>
     requires { is_document doc.now ≡ true }
-    ensures kept { H.honest → Sound (H.told host.old) → Kept (IsApplied (asked_of doc.now opts.now now) (H.told host.old).state) (H.told host.old) (H.told host.new) }
+    ensures kept { H.honest → Sound (H.told host.old)
+        → Kept (IsApplied (asked_of doc.now opts.now now) (H.told host.old).state) (H.told host.old) (H.told host.new) }
     ensures exit { H.honest → Sound (H.told host.old) → ExitApply (asked_of doc.now opts.now now) (H.told host.old) result (H.told host.new) }
     // On an honest host, sound or not.
     ensures exact { H.honest → ApplyExact (Rose (H.told host.old).faults (H.told host.new).faults)

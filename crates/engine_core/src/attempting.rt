@@ -41,16 +41,23 @@ fn begin<H: Host>(
     ensures set { H.tells → OnOk result (Holds (Some (applying made deadline from.now)) (H.told host.new)) }
     ensures kept { H.honest → Sound (H.told host.old) → Ends (restored_to from.now) (H.told host.old)
         → Kept (Only (restored_to from.now)) (H.told host.old) (H.told host.new) }
-    ensures reached { H.honest → (to : NetData) → (H.told host.old).state.net ≡ Some from.now → Runs calls.now from.now to → OnOk result (((H.told host.new).state.net ≡ Some to) × Ends (stand to (Some (applying made deadline from.now))) (H.told host.new)) }
-    ensures missed { H.honest → (to : NetData) → (H.told host.old).state.net ≡ Some from.now → Runs calls.now from.now to → IfErr result (λ missed. IsFault missed) }
-    ensures calm { H.honest → (to : NetData) (t : ℕ) → t ≤ (H.told host.old).stops.moment → (H.told host.old).state.net ≡ Some from.now → IsPlan from.now to calls.now → CalmSince from.now to t (H.told host.old)
+    ensures reached { H.honest → (to : NetData) → (H.told host.old).state.net ≡ Some from.now
+        → Runs calls.now from.now to
+        → OnOk result (((H.told host.new).state.net ≡ Some to)
+        × Ends (stand to (Some (applying made deadline from.now))) (H.told host.new)) }
+    ensures missed { H.honest → (to : NetData) → (H.told host.old).state.net ≡ Some from.now
+        → Runs calls.now from.now to → IfErr result (λ missed. IsFault missed) }
+    ensures calm { H.honest → (to : NetData) (t : ℕ) → t ≤ (H.told host.old).stops.moment
+        → (H.told host.old).state.net ≡ Some from.now → IsPlan from.now to calls.now
+        → CalmSince from.now to t (H.told host.old)
         → OnOk result (CalmSince from.now to t (H.told host.new)) }
     ensures fault { IsErrOf result Missed.Failed → Rose (H.told host.old).faults (H.told host.new).faults }
     // No dump is made. Where no checkpoint stands behind it, no call was made.
     ensures fresh { H.tells → OnOk result (((H.told host.new).fresh ≡ (H.told host.old).fresh) ⊎ ((H.told host.new).fresh ≡ None)) }
     ensures unset { H.tells → OnErr result (cell_of (H.told host.new).state.cell ≡ None → (H.told host.new).state.net ≡ (H.told host.old).state.net) }
     // On every host.
-    ensures says { (doc : Doc) (start : Start) → Follows start (H.told host.old) → (H.told host.old).kernel.calls ≡ 0 → IfErr result (λ missed. Why H.tells doc start (H.told host.new) missed) }
+    ensures says { (doc : Doc) (start : Start) → Follows start (H.told host.old) → (H.told host.old).kernel.calls ≡ 0
+        → IfErr result (λ missed. Why H.tells doc start (H.told host.new) missed) }
     ensures quiet { OnOk result (NoneRefused (H.told host.old).kernel (H.told host.new).kernel) }
     ensures compared { (found : NetData) → IsErrOf result (Missed.Differs found) → ⊥ }
     ensures moment { (H.told host.old).stops.moment ≤ (H.told host.new).stops.moment }
@@ -79,7 +86,8 @@ fn verify<H: Host>(host: &mut H, alloc: Global, to: &Net, no_verify: bool) -> Re
     ensures fault { IsErrOf result Missed.Failed → Rose (H.told host.old).faults (H.told host.new).faults }
     ensures quiet { NoneRefused (H.told host.old).kernel (H.told host.new).kernel }
     ensures compared { (found : NetData) → IsErrOf result (Missed.Differs found) → no_verify ≡ false }
-    ensures says { (doc : Doc) (start : Start) (from : NetData) → Follows start (H.told host.old) → merge from doc ≡ Ok to.now → (H.tells → saved_net (H.told host.old).state.cell ≡ Some from)
+    ensures says { (doc : Doc) (start : Start) (from : NetData) → Follows start (H.told host.old)
+        → merge from doc ≡ Ok to.now → (H.tells → saved_net (H.told host.old).state.cell ≡ Some from)
         → IfErr result (λ missed. Why H.tells doc start (H.told host.new) missed) }
     ensures dumped { OnOk result (no_verify ≡ false → (H.told host.new).kernel.calls ≡ 0) }
     ensures fresh { H.tells → no_verify ≡ true → (H.told host.new).fresh ≡ (H.told host.old).fresh }
@@ -105,10 +113,16 @@ fn verify<H: Host>(host: &mut H, alloc: Global, to: &Net, no_verify: bool) -> Re
 // Lets the change wait, where it is not to be committed at once.
 fn mark<H: Host>(host: &mut H, no_commit: bool) -> Result<(), Failed>
     requires { H.tells → (made : ℕ) × (deadline : ℕ) × (from : NetData) × Holds (Some (applying made deadline from)) (H.told host.old) }
-    ensures marked { H.tells → (made deadline : ℕ) (from : NetData) → Holds (Some (applying made deadline from)) (H.told host.old) → OnOk result (Holds (sealed no_commit made deadline from) (H.told host.new)) }
-    ensures kept { H.tells → Sound (H.told host.old) → (made deadline : ℕ) (from to : NetData) → Holds (Some (applying made deadline from)) (H.told host.old) → Ends (stand to (Some (applying made deadline from))) (H.told host.old)
+    ensures marked { H.tells → (made deadline : ℕ) (from : NetData)
+        → Holds (Some (applying made deadline from)) (H.told host.old)
+        → OnOk result (Holds (sealed no_commit made deadline from) (H.told host.new)) }
+    ensures kept { H.tells → Sound (H.told host.old) → (made deadline : ℕ) (from to : NetData)
+        → Holds (Some (applying made deadline from)) (H.told host.old)
+        → Ends (stand to (Some (applying made deadline from))) (H.told host.old)
         → Kept (IsOnWay no_commit made deadline from to) (H.told host.old) (H.told host.new) }
-    ensures ends { H.tells → (made deadline : ℕ) (from to : NetData) → Holds (Some (applying made deadline from)) (H.told host.old) → Ends (stand to (Some (applying made deadline from))) (H.told host.old)
+    ensures ends { H.tells → (made deadline : ℕ) (from to : NetData)
+        → Holds (Some (applying made deadline from)) (H.told host.old)
+        → Ends (stand to (Some (applying made deadline from))) (H.told host.old)
         → OnOk result (Ends (stand to (sealed no_commit made deadline from)) (H.told host.new)) }
     ensures kernel { SameKernel H.tells (H.told host.old) (H.told host.new) }
     ensures nets { Steps SameNet (H.told host.old).stops (H.told host.new).stops }
@@ -132,18 +146,25 @@ fn seal<H: Host>(
     no_verify: bool,
 ) -> Result<(), Missed>
     requires { H.tells → (made : ℕ) × (deadline : ℕ) × (from : NetData) × Holds (Some (applying made deadline from)) (H.told host.old) }
-    ensures set { H.tells → (made deadline : ℕ) (from : NetData) → Holds (Some (applying made deadline from)) (H.told host.old) → OnOk result (Holds (sealed no_commit made deadline from) (H.told host.new)) }
+    ensures set { H.tells → (made deadline : ℕ) (from : NetData)
+        → Holds (Some (applying made deadline from)) (H.told host.old)
+        → OnOk result (Holds (sealed no_commit made deadline from) (H.told host.new)) }
     ensures verified { H.tells → OnOk result (no_verify ≡ false → (H.told host.new).fresh ≡ Some to.now) }
-    ensures kept { H.honest → Sound (H.told host.old) → (made deadline : ℕ) (from : NetData) → Holds (Some (applying made deadline from)) (H.told host.old) → Ends (stand to.now (Some (applying made deadline from))) (H.told host.old)
+    ensures kept { H.honest → Sound (H.told host.old) → (made deadline : ℕ) (from : NetData)
+        → Holds (Some (applying made deadline from)) (H.told host.old)
+        → Ends (stand to.now (Some (applying made deadline from))) (H.told host.old)
         → Kept (IsOnWay no_commit made deadline from to.now) (H.told host.old) (H.told host.new) }
-    ensures ends { H.honest → (made deadline : ℕ) (from : NetData) → Holds (Some (applying made deadline from)) (H.told host.old) → Ends (stand to.now (Some (applying made deadline from))) (H.told host.old)
+    ensures ends { H.honest → (made deadline : ℕ) (from : NetData)
+        → Holds (Some (applying made deadline from)) (H.told host.old)
+        → Ends (stand to.now (Some (applying made deadline from))) (H.told host.old)
         → OnOk result (Ends (stand to.now (sealed no_commit made deadline from)) (H.told host.new)) }
     ensures missed { H.honest → (H.told host.old).state.net ≡ Some to.now → IfErr result (λ missed. IsFault missed) }
     ensures nets { OnOk result (Steps SameNet (H.told host.old).stops (H.told host.new).stops) }
     ensures memory { IsErrOf result Missed.OutOfMemory → Steps Stays (H.told host.old).stops (H.told host.new).stops }
     ensures fault { IsErrOf result Missed.Failed → Rose (H.told host.old).faults (H.told host.new).faults }
     // On every host.
-    ensures says { (doc : Doc) (start : Start) (from : NetData) → Follows start (H.told host.old) → merge from doc ≡ Ok to.now → (H.tells → saved_net (H.told host.old).state.cell ≡ Some from)
+    ensures says { (doc : Doc) (start : Start) (from : NetData) → Follows start (H.told host.old)
+        → merge from doc ≡ Ok to.now → (H.tells → saved_net (H.told host.old).state.cell ≡ Some from)
         → IfErr result (λ missed. Why H.tells doc start (H.told host.new) missed) }
     ensures quiet { OnOk result (NoneRefused (H.told host.old).kernel (H.told host.new).kernel) }
     // A network is compared only where that is wanted.
@@ -179,17 +200,23 @@ pub fn attempt<H: Host>(
     requires none { H.tells → Holds None (H.told host.old) }
     ensures set { H.tells → OnOk result (Holds (sealed opts.now.no_commit made deadline from.now) (H.told host.new)) }
     ensures verified { H.tells → OnOk result (opts.now.no_verify ≡ false → (H.told host.new).fresh ≡ Some to.now) }
-    ensures kept { H.honest → Sound (H.told host.old) → Ends (restored_to from.now) (H.told host.old) → (H.told host.old).state.net ≡ Some from.now → Runs calls.now from.now to.now
+    ensures kept { H.honest → Sound (H.told host.old) → Ends (restored_to from.now) (H.told host.old)
+        → (H.told host.old).state.net ≡ Some from.now → Runs calls.now from.now to.now
         → Kept (IsOnWay opts.now.no_commit made deadline from.now to.now) (H.told host.old) (H.told host.new) }
-    ensures ends { H.honest → (H.told host.old).state.net ≡ Some from.now → Runs calls.now from.now to.now → OnOk result (Ends (stand to.now (sealed opts.now.no_commit made deadline from.now)) (H.told host.new)) }
+    ensures ends { H.honest → (H.told host.old).state.net ≡ Some from.now → Runs calls.now from.now to.now
+        → OnOk result (Ends (stand to.now (sealed opts.now.no_commit made deadline from.now)) (H.told host.new)) }
     ensures missed { H.honest → (H.told host.old).state.net ≡ Some from.now → Runs calls.now from.now to.now → IfErr result (λ missed. IsFault missed) }
-    ensures memory { H.honest → Sound (H.told host.old) → Ends (restored_to from.now) (H.told host.old) → (H.told host.old).state.net ≡ Some from.now → Runs calls.now from.now to.now
+    ensures memory { H.honest → Sound (H.told host.old) → Ends (restored_to from.now) (H.told host.old)
+        → (H.told host.old).state.net ≡ Some from.now → Runs calls.now from.now to.now
         → IsErrOf result Missed.OutOfMemory → AllNear (Only (restored_to from.now)) (H.told host.new) }
-    ensures calm { H.honest → (t : ℕ) → t ≤ (H.told host.old).stops.moment → (H.told host.old).state.net ≡ Some from.now → IsPlan from.now to.now calls.now → CalmSince from.now to.now t (H.told host.old)
+    ensures calm { H.honest → (t : ℕ) → t ≤ (H.told host.old).stops.moment
+        → (H.told host.old).state.net ≡ Some from.now → IsPlan from.now to.now calls.now
+        → CalmSince from.now to.now t (H.told host.old)
         → OnOk result (CalmSince from.now to.now t (H.told host.new)) }
     ensures fault { IsErrOf result Missed.Failed → Rose (H.told host.old).faults (H.told host.new).faults }
     // On every host.
-    ensures says { (doc : Doc) (start : Start) → Follows start (H.told host.old) → (H.told host.old).kernel.calls ≡ 0 → merge from.now doc ≡ Ok to.now → IfErr result (λ missed. Why H.tells doc start (H.told host.new) missed) }
+    ensures says { (doc : Doc) (start : Start) → Follows start (H.told host.old) → (H.told host.old).kernel.calls ≡ 0
+        → merge from.now doc ≡ Ok to.now → IfErr result (λ missed. Why H.tells doc start (H.told host.new) missed) }
     ensures quiet { OnOk result (NoneRefused (H.told host.old).kernel (H.told host.new).kernel) }
     ensures compared { (found : NetData) → IsErrOf result (Missed.Differs found) → opts.now.no_verify ≡ false }
     // A change that is verified was dumped after its last call; in one that isn't no dump is made.

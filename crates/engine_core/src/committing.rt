@@ -20,9 +20,12 @@ pub fn end_waiting<H: Host>(host: &mut H, now: u64) -> Result<(), CommitFault>
     ensures waited { H.tells → OnOk result (Waits now (cell_of (H.told host.old).state.cell)) }
     ensures none { H.tells → IsErrOf result CommitFault.NoCheckpoint → cell_of (H.told host.old).state.cell ≡ None }
     ensures unfinished { H.tells → (made deadline : ℕ) → IsErrOf result (CommitFault.Unfinished made deadline)
-        → (checkpoint : Checkpoint) × (cell_of (H.told host.old).state.cell ≡ Some checkpoint) × (checkpoint.phase ≡ Phase.Applying) × (checkpoint.made ≡ made) × (checkpoint.deadline ≡ deadline) }
+        → (checkpoint : Checkpoint) × (cell_of (H.told host.old).state.cell ≡ Some checkpoint)
+        × (checkpoint.phase ≡ Phase.Applying) × (checkpoint.made ≡ made) × (checkpoint.deadline ≡ deadline) }
     ensures expired { H.tells → (made deadline : ℕ) → IsErrOf result (CommitFault.Expired made deadline)
-        → (checkpoint : Checkpoint) × (cell_of (H.told host.old).state.cell ≡ Some checkpoint) × (checkpoint.phase ≡ Phase.Waiting) × (is_due made deadline now ≡ true) × (checkpoint.made ≡ made) × (checkpoint.deadline ≡ deadline) }
+        → (checkpoint : Checkpoint) × (cell_of (H.told host.old).state.cell ≡ Some checkpoint)
+        × (checkpoint.phase ≡ Phase.Waiting) × (is_due made deadline now ≡ true) × (checkpoint.made ≡ made)
+        × (checkpoint.deadline ≡ deadline) }
     ensures fault { IsErrOf result CommitFault.HostFault ⊎ IsErrOf result CommitFault.InDoubt → Rose (H.told host.old).faults (H.told host.new).faults }
     ensures later { (H.told host.old).faults ≤ (H.told host.new).faults }
     ensures kernel { SameKernel H.tells (H.told host.old) (H.told host.new) }
@@ -34,7 +37,8 @@ pub fn end_waiting<H: Host>(host: &mut H, now: u64) -> Result<(), CommitFault>
     ensures looked { H.tells → IfErr result (λ fault. IsLook fault → Holds (cell_of (H.told host.old).state.cell) (H.told host.new)) }
     ensures same { IfErr result (λ fault. IsRefusal fault → H.tells → (H.told host.new).state ≡ (H.told host.old).state) }
     ensures left { H.tells → OnOk result (standing (H.told host.new).state ≡ committed (H.told host.old).state) }
-    ensures doubted { H.tells → Sound (H.told host.old) → IsErrOf result CommitFault.InDoubt → FromRead (IsCommitted now (H.told host.old).state) (H.told host.old) (H.told host.new) }
+    ensures doubted { H.tells → Sound (H.told host.old) → IsErrOf result CommitFault.InDoubt
+        → FromRead (IsCommitted now (H.told host.old).state) (H.told host.old) (H.told host.new) }
     ensures doubt { H.tells → IsErrOf result CommitFault.InDoubt → Waits now (cell_of (H.told host.old).state.cell) }
 {
     let seen = match barrier(host) {

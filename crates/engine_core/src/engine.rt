@@ -42,13 +42,18 @@ pub fn apply<H: Host>(
     // What stops leave at the exit, what the host reads as then, and what stops leave at each moment.
     ensures exit { H.honest → Sound (H.told host.old) → ApplyExit (asked doc.now opts.now now) (entry_of (H.told host.old)) (left_by (H.told host.new))
         (Rose (H.told host.old).faults (H.told host.new).faults) (RoseTwice (H.told host.old).faults (H.told host.new).faults) result }
-    ensures reads { H.honest → Sound (H.told host.old) → ApplyExit (asked doc.now opts.now now) (at (standing (H.told host.old).state)) (Only (standing (H.told host.new).state))
+    ensures reads { H.honest → Sound (H.told host.old)
+        → ApplyExit (asked doc.now opts.now now) (at (standing (H.told host.old).state))
+        (Only (standing (H.told host.new).state))
         (Rose (H.told host.old).faults (H.told host.new).faults) (RoseTwice (H.told host.old).faults (H.told host.new).faults) result }
     ensures kept { H.honest → Sound (H.told host.old)
-        → Kept (Either (Settled now (entry_of (H.told host.old))) (Only (apply (asked doc.now opts.now now) (standing (H.told host.old).state)).after)) (H.told host.old) (H.told host.new) }
+        → Kept (Either (Settled now (entry_of (H.told host.old)))
+        (Only (apply (asked doc.now opts.now now) (standing (H.told host.old).state)).after))
+        (H.told host.old) (H.told host.new) }
     // Where no checkpoint stood and nothing failed, each pair that was left on the way has each link that the change needn't
     // touch, its addresses and its routes that stand in both networks as they were.
-    ensures undisturbed { H.honest → Sound (H.told host.old) → (from to : NetData) → standing (H.told host.old).state ≡ restored_to from → merge from doc.now ≡ Ok to
+    ensures undisturbed { H.honest → Sound (H.told host.old) → (from to : NetData)
+        → standing (H.told host.old).state ≡ restored_to from → merge from doc.now ≡ Ok to
         → (Rose (H.told host.old).faults (H.told host.new).faults → ⊥) → result ≢ Err ApplyFault.OutOfMemory
         → (s : State) → (H.told host.new).stops.left_since (H.told host.old).stops.moment s → (net : NetData) × (s.net ≡ Some net) × IsUndisturbed from to net }
     // That a change may stand half way is told only where a restoring was tried.
@@ -70,7 +75,8 @@ pub fn commit<H: Host>(host: &mut H, now: u64) -> Result<(), CommitFault>
     ensures answer { CommitAnswers H.tells now (H.told host.old) (H.told host.new) result }
     // What stops leave at the exit, what the host reads as then, and what stops leave at each moment.
     ensures exit { H.tells → Sound (H.told host.old) → CommitExit now (entry_of (H.told host.old)) (left_by (H.told host.new)) result }
-    ensures reads { H.tells → Sound (H.told host.old) → CommitExit now (at (standing (H.told host.old).state)) (Only (standing (H.told host.new).state)) result }
+    ensures reads { H.tells → Sound (H.told host.old)
+        → CommitExit now (at (standing (H.told host.old).state)) (Only (standing (H.told host.new).state)) result }
     ensures kept { H.tells → Sound (H.told host.old) → Kept (Only (commit now (standing (H.told host.old).state)).after) (H.told host.old) (H.told host.new) }
     ensures kernel { SameKernel H.tells (H.told host.old) (H.told host.new) }
     ensures later { (H.told host.old).faults ≤ (H.told host.new).faults }

@@ -9,7 +9,7 @@ pub enum Missed {
     Failed,
     /// The kernel refused a call of the plan: the number of the refusal, and the number of the call from 1.
     Refused(u8, u64),
-    /// There is no network to verify.
+    /// The host told no network when the result was to be verified.
     Damaged,
     /// This network was found, and isn't the wanted one.
     Differs(Net),

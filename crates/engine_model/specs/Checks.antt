@@ -34,7 +34,7 @@ abbrev pub check_net : Option Checkpoint → Option NetData → Option NetData �
 check_net cell saved None = Err (Damaged 0)
 check_net cell saved (Some net) = unless_other (found net cell) (differing_from saved net)
 
--- an image stands behind an open gate
+-- the checkpoint is open and has a whole image
 abbrev pub check_saved : Option NetData → Checkpoint → Option NetData → Result Checked CheckFault
 check_saved net c None = Err (Damaged 1)
 check_saved net c (Some saved) = check_net (Some c) (Some saved) net

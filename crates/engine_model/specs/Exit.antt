@@ -1,5 +1,5 @@
--- What a stop at the exit of a call may leave, by its answer, on an honest host that is sound. An answer with no way never
--- comes there.
+-- What a stop at the exit of a call may leave, by its answer, on an honest host that is sound. An answer whose
+-- type is empty (⊥) never comes there.
 use Rattle.std.specs.Prelude.{◌≡◌, ◌⊎◌, ℕ, ⊤, true, Some, Result, Ok, Err}
 use Rattle.net_model.specs.NetData.{NetData}
 use Rattle.checkpoint_cell.specs.Cell.{Checkpoint}

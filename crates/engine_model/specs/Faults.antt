@@ -99,11 +99,11 @@ pub record Verified (a : Asked) (new : HostView) : Type 0 where
   pub is_fresh : new.fresh ≡ Some fresh
   pub merges : merge saved a.doc ≡ Ok fresh
 
--- the kernel area has no network, or no image stands behind an open gate
+-- the kernel area has no network, or the checkpoint is open and has no whole image
 abbrev pub IsDamaged : ℕ → State → Type 0
 IsDamaged area s = ((area ≡ 0) × (s.net ≡ None)) ⊎ ((area ≡ 1) × IsBad (standing s).cell)
 
--- some pair that was left on the way has no network, or no image behind an open gate
+-- some pair that was left on the way has no network, or an open checkpoint without a whole image
 pub record HadDamaged (area : ℕ) (old new : HostView) : Type 0 where
   pub pair : State
   pub left : new.stops.left_since old.stops.moment pair

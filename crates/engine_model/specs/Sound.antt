@@ -5,7 +5,7 @@ use Rattle.net_model.specs.NetData.{NetData}
 use Rattle.host_core.specs.HostView.{State, HostView, HasNet}
 use Rattle.checkpoint_cell.specs.Cell.{Checkpoint, cell_of, applying}
 
--- an image stands behind an open gate, of the hardware of the network
+-- the checkpoint is open and has a whole image, of the hardware of the network
 pub record IsWhole (s : State) (checkpoint : Checkpoint) : Type 0 where
   pub saved : NetData
   pub net : NetData

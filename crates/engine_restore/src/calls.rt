@@ -20,11 +20,16 @@ use std::alloc::Global;
 pub fn rollback<H: Host>(host: &mut H, alloc: Global) -> Result<(), BackFault>
     ensures says { BackSays H.tells (rollback (standing (H.told host.old).state)).answer (H.told host.old) (H.told host.new) result }
     ensures answer { H.honest → Sound (H.told host.old)
-        → BackAnswers (HasSet (standing (H.told host.old).state).cell) (rollback (standing (H.told host.old).state)) (H.told host.old) (H.told host.new) result }
+        → BackAnswers (HasSet (standing (H.told host.old).state).cell) (rollback (standing (H.told host.old).state))
+        (H.told host.old) (H.told host.new) result }
     // Also where the host isn't sound: but for faults and memory the answer is the machine's.
     ensures exact { H.honest → BackExact (rollback (standing (H.told host.old).state)).answer result }
-    ensures exit { H.honest → Sound (H.told host.old) → BackExit (rollback (standing (H.told host.old).state)).after (entry_of (H.told host.old)) (left_by (H.told host.new)) result }
-    ensures reads { H.honest → Sound (H.told host.old) → BackExit (rollback (standing (H.told host.old).state)).after (at (standing (H.told host.old).state)) (Only (standing (H.told host.new).state)) result }
+    ensures exit { H.honest → Sound (H.told host.old)
+        → BackExit (rollback (standing (H.told host.old).state)).after (entry_of (H.told host.old))
+        (left_by (H.told host.new)) result }
+    ensures reads { H.honest → Sound (H.told host.old)
+        → BackExit (rollback (standing (H.told host.old).state)).after (at (standing (H.told host.old).state))
+        (Only (standing (H.told host.new).state)) result }
     ensures kept { H.honest → Sound (H.told host.old) → Kept (Only (rollback (standing (H.told host.old).state)).after) (H.told host.old) (H.told host.new) }
     // It is done only where one stands.
     ensures done { H.tells → OnOk result (HasSet (standing (H.told host.old).state).cell) }
@@ -46,11 +51,16 @@ pub fn rollback<H: Host>(host: &mut H, alloc: Global) -> Result<(), BackFault>
 pub fn recover<H: Host>(host: &mut H, alloc: Global, now: u64) -> Result<Recovered, BackFault>
     ensures says { BackSays H.tells (recover now (standing (H.told host.old).state)).answer (H.told host.old) (H.told host.new) result }
     ensures answer { H.honest → Sound (H.told host.old)
-        → BackAnswers (HasTaken now (standing (H.told host.old).state).cell) (recover now (standing (H.told host.old).state)) (H.told host.old) (H.told host.new) result }
+        → BackAnswers (HasTaken now (standing (H.told host.old).state).cell)
+        (recover now (standing (H.told host.old).state)) (H.told host.old) (H.told host.new) result }
     // Also where the host isn't sound: but for faults and memory the answer is the machine's.
     ensures exact { H.honest → BackExact (recover now (standing (H.told host.old).state)).answer result }
-    ensures exit { H.honest → Sound (H.told host.old) → BackExit (recover now (standing (H.told host.old).state)).after (entry_of (H.told host.old)) (left_by (H.told host.new)) result }
-    ensures reads { H.honest → Sound (H.told host.old) → BackExit (recover now (standing (H.told host.old).state)).after (at (standing (H.told host.old).state)) (Only (standing (H.told host.new).state)) result }
+    ensures exit { H.honest → Sound (H.told host.old)
+        → BackExit (recover now (standing (H.told host.old).state)).after (entry_of (H.told host.old))
+        (left_by (H.told host.new)) result }
+    ensures reads { H.honest → Sound (H.told host.old)
+        → BackExit (recover now (standing (H.told host.old).state)).after (at (standing (H.told host.old).state))
+        (Only (standing (H.told host.new).state)) result }
     ensures kept { H.honest → Sound (H.told host.old) → Kept (Only (recover now (standing (H.told host.old).state)).after) (H.told host.old) (H.told host.new) }
     // It takes memory only where a change is to be taken back.
     ensures memory { H.tells → IsErrOf result BackFault.OutOfMemory → HasTaken now (standing (H.told host.old).state).cell }
@@ -58,7 +68,8 @@ pub fn recover<H: Host>(host: &mut H, alloc: Global, now: u64) -> Result<Recover
     ensures set_there { IsErrOf result BackFault.NoCheckpoint → ⊥ }
     // Where it restores nothing, it says so of each host that tells its content.
     ensures nothing { H.tells → result ≡ Ok Recovered.Nothing → (recover now (standing (H.told host.old).state)).answer ≡ Ok Recovered.Nothing }
-    ensures waiting { H.tells → (deadline : ℕ) → result ≡ Ok (Recovered.Waiting deadline) → (recover now (standing (H.told host.old).state)).answer ≡ Ok (Recovered.Waiting deadline) }
+    ensures waiting { H.tells → (deadline : ℕ) → result ≡ Ok (Recovered.Waiting deadline)
+        → (recover now (standing (H.told host.old).state)).answer ≡ Ok (Recovered.Waiting deadline) }
     ensures restored { H.tells → result ≡ Ok Recovered.Restored → HasTaken now (standing (H.told host.old).state).cell }
     // For a command that goes on behind it: no checkpoint stands then, where none stood nothing was changed, and no call was
     // refused.
@@ -78,11 +89,16 @@ pub fn recover<H: Host>(host: &mut H, alloc: Global, now: u64) -> Result<Recover
 pub fn settle<H: Host>(host: &mut H, alloc: Global, now: u64) -> Result<Option<u64>, BackFault>
     ensures says { BackSays H.tells (settle now (standing (H.told host.old).state)).answer (H.told host.old) (H.told host.new) result }
     ensures answer { H.honest → Sound (H.told host.old)
-        → BackAnswers (HasTaken now (standing (H.told host.old).state).cell) (settle now (standing (H.told host.old).state)) (H.told host.old) (H.told host.new) result }
+        → BackAnswers (HasTaken now (standing (H.told host.old).state).cell)
+        (settle now (standing (H.told host.old).state)) (H.told host.old) (H.told host.new) result }
     // Also where the host isn't sound: but for faults and memory the answer is the machine's.
     ensures exact { H.honest → BackExact (settle now (standing (H.told host.old).state)).answer result }
-    ensures exit { H.honest → Sound (H.told host.old) → BackExit (recover now (standing (H.told host.old).state)).after (entry_of (H.told host.old)) (left_by (H.told host.new)) result }
-    ensures reads { H.honest → Sound (H.told host.old) → BackExit (recover now (standing (H.told host.old).state)).after (at (standing (H.told host.old).state)) (Only (standing (H.told host.new).state)) result }
+    ensures exit { H.honest → Sound (H.told host.old)
+        → BackExit (recover now (standing (H.told host.old).state)).after (entry_of (H.told host.old))
+        (left_by (H.told host.new)) result }
+    ensures reads { H.honest → Sound (H.told host.old)
+        → BackExit (recover now (standing (H.told host.old).state)).after (at (standing (H.told host.old).state))
+        (Only (standing (H.told host.new).state)) result }
     ensures kept { H.honest → Sound (H.told host.old) → Kept (Only (recover now (standing (H.told host.old).state)).after) (H.told host.old) (H.told host.new) }
     // It takes memory only where a change is to be taken back.
     ensures memory { H.tells → IsErrOf result BackFault.OutOfMemory → HasTaken now (standing (H.told host.old).state).cell }

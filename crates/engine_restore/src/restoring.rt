@@ -28,7 +28,8 @@ use std::alloc::Global;
 // Plans the calls that lead back to the saved network.
 fn ready<H: Host>(host: &mut H, alloc: Global) -> Result<Vec<Call>, BackFault>
     requires { H.tells → (checkpoint : Checkpoint) × Holds (Some checkpoint) (H.told host.old) }
-    ensures planned { H.honest → (checkpoint : Checkpoint) (saved : NetData) → cell_of (H.told host.old).state.cell ≡ Some checkpoint → checkpoint.net ≡ Some saved
+    ensures planned { H.honest → (checkpoint : Checkpoint) (saved : NetData)
+        → cell_of (H.told host.old).state.cell ≡ Some checkpoint → checkpoint.net ≡ Some saved
         → IfOk result (λ calls. (from : NetData) × ((H.told host.new).state.net ≡ Some from) × IsNet from × Runs calls.items from saved) }
     ensures settled { OnOk result (H.told host.new).settled }
     ensures state { H.tells → (H.told host.new).state ≡ (H.told host.old).state }
@@ -37,7 +38,8 @@ fn ready<H: Host>(host: &mut H, alloc: Global) -> Result<Vec<Call>, BackFault>
     ensures calls { OnOk result ((H.told host.new).kernel.calls ≡ 0) }
     ensures refused { (k n : ℕ) (left : Left) → IsErrOf result (BackFault.KernelRefused k n left) → ⊥ }
     ensures healthy { H.honest → Sound (H.told host.old) → IfErr result (λ fault. IsHealthy fault) }
-    ensures exact { H.honest → (checkpoint : Checkpoint) → Holds (Some checkpoint) (H.told host.old) → Finds (saved_on checkpoint.net (H.told host.old).state.net) result }
+    ensures exact { H.honest → (checkpoint : Checkpoint) → Holds (Some checkpoint) (H.told host.old)
+        → Finds (saved_on checkpoint.net (H.told host.old).state.net) result }
     ensures begun { IsErrOf result (BackFault.HostFault Left.Pending) → ⊥ }
     ensures fault { (left : Left) → IsErrOf result (BackFault.HostFault left) → Rose (H.told host.old).faults (H.told host.new).faults }
     ensures set_there { IsErrOf result BackFault.NoCheckpoint → ⊥ }
@@ -76,10 +78,13 @@ fn ready<H: Host>(host: &mut H, alloc: Global) -> Result<Vec<Call>, BackFault>
 // Marks a change that waits as one that is being made.
 fn take_up<H: Host>(host: &mut H, phase: Phase) -> Result<(), Failed>
     requires { H.tells → (checkpoint : Checkpoint) × Holds (Some checkpoint) (H.told host.old) × (checkpoint.phase ≡ phase) }
-    ensures taken { H.tells → (checkpoint : Checkpoint) → Holds (Some checkpoint) (H.told host.old) → OnOk result (Holds (Some (in_phase Phase.Applying checkpoint)) (H.told host.new)) }
-    ensures kept { H.tells → Sound (H.told host.old) → (checkpoint : Checkpoint) (net saved : NetData) → Holds (Some checkpoint) (H.told host.old) → Ends (stand net (Some checkpoint)) (H.told host.old)
+    ensures taken { H.tells → (checkpoint : Checkpoint) → Holds (Some checkpoint) (H.told host.old)
+        → OnOk result (Holds (Some (in_phase Phase.Applying checkpoint)) (H.told host.new)) }
+    ensures kept { H.tells → Sound (H.told host.old) → (checkpoint : Checkpoint) (net saved : NetData)
+        → Holds (Some checkpoint) (H.told host.old) → Ends (stand net (Some checkpoint)) (H.told host.old)
         → checkpoint.net ≡ Some saved → Kept (Only (restored_to saved)) (H.told host.old) (H.told host.new) }
-    ensures ends { H.tells → (checkpoint : Checkpoint) (net : NetData) → Holds (Some checkpoint) (H.told host.old) → Ends (stand net (Some checkpoint)) (H.told host.old)
+    ensures ends { H.tells → (checkpoint : Checkpoint) (net : NetData) → Holds (Some checkpoint) (H.told host.old)
+        → Ends (stand net (Some checkpoint)) (H.told host.old)
         → OnOk result (Ends (stand net (Some (in_phase Phase.Applying checkpoint))) (H.told host.new)) }
     ensures moves { Steps Any (H.told host.old).stops (H.told host.new).stops }
     ensures kernel { SameKernel H.tells (H.told host.old) (H.told host.new) }
@@ -96,12 +101,17 @@ fn undo<H: Host>(host: &mut H, alloc: Global, calls: &[Call]) -> Result<(), Back
     requires settled { (H.told host.old).settled }
     requires cell { H.tells → (checkpoint : Checkpoint) × Holds (Some checkpoint) (H.told host.old) }
     ensures cleared { H.tells → OnOk result (Holds None (H.told host.new)) }
-    ensures kept { H.honest → Sound (H.told host.old) → (made deadline : ℕ) (from saved : NetData) → Ends (stand from (Some (applying made deadline saved))) (H.told host.old) → (H.told host.old).state.net ≡ Some from
+    ensures kept { H.honest → Sound (H.told host.old) → (made deadline : ℕ) (from saved : NetData)
+        → Ends (stand from (Some (applying made deadline saved))) (H.told host.old)
+        → (H.told host.old).state.net ≡ Some from
         → IsNet from → Runs calls.now from saved → Kept (Only (restored_to saved)) (H.told host.old) (H.told host.new) }
-    ensures ends { H.honest → (from saved : NetData) → (H.told host.old).state.net ≡ Some from → Runs calls.now from saved → OnOk result (Ends (restored_to saved) (H.told host.new)) }
-    ensures healthy { H.honest → (from saved : NetData) → (H.told host.old).state.net ≡ Some from → Runs calls.now from saved → IfErr result (λ fault. IsHealthy fault) }
+    ensures ends { H.honest → (from saved : NetData) → (H.told host.old).state.net ≡ Some from
+        → Runs calls.now from saved → OnOk result (Ends (restored_to saved) (H.told host.new)) }
+    ensures healthy { H.honest → (from saved : NetData) → (H.told host.old).state.net ≡ Some from
+        → Runs calls.now from saved → IfErr result (λ fault. IsHealthy fault) }
     ensures begun { IfErr result (λ fault. IsBefore fault → ⊥) }
-    ensures refused { (k n : ℕ) (left : Left) → IsErrOf result (BackFault.KernelRefused k n left) → (H.told host.old).kernel.calls ≡ 0 → WasRefused k n (H.told host.old).kernel (H.told host.new).kernel }
+    ensures refused { (k n : ℕ) (left : Left) → IsErrOf result (BackFault.KernelRefused k n left)
+        → (H.told host.old).kernel.calls ≡ 0 → WasRefused k n (H.told host.old).kernel (H.told host.new).kernel }
     ensures given_up { (k n : ℕ) (left : Left) → IsErrOf result (BackFault.KernelRefused k n left) → left ≡ Left.Pending }
     ensures quiet { OnOk result (NoneRefused (H.told host.old).kernel (H.told host.new).kernel) }
     ensures unrefused { (left : Left) → IsErrOf result (BackFault.HostFault left) → NoneRefused (H.told host.old).kernel (H.told host.new).kernel }
@@ -128,14 +138,17 @@ fn undo<H: Host>(host: &mut H, alloc: Global, calls: &[Call]) -> Result<(), Back
 fn restore<H: Host>(host: &mut H, alloc: Global, phase: Phase) -> Result<(), BackFault>
     requires { H.tells → (checkpoint : Checkpoint) × Holds (Some checkpoint) (H.told host.old) × (checkpoint.phase ≡ phase) }
     ensures cleared { H.tells → OnOk result (Holds None (H.told host.new)) }
-    ensures kept { H.honest → Sound (H.told host.old) → (checkpoint : Checkpoint) (saved : NetData) → Holds (Some checkpoint) (H.told host.old) → checkpoint.net ≡ Some saved
+    ensures kept { H.honest → Sound (H.told host.old) → (checkpoint : Checkpoint) (saved : NetData)
+        → Holds (Some checkpoint) (H.told host.old) → checkpoint.net ≡ Some saved
         → Kept (Only (restored_to saved)) (H.told host.old) (H.told host.new) }
     ensures ends { H.honest → (checkpoint : Checkpoint) (saved : NetData) → Holds (Some checkpoint) (H.told host.old) → checkpoint.net ≡ Some saved
         → OnOk result (Ends (restored_to saved) (H.told host.new)) }
     ensures healthy { H.honest → Sound (H.told host.old) → IfErr result (λ fault. IsHealthy fault) }
-    ensures exact { H.honest → (checkpoint : Checkpoint) → Holds (Some checkpoint) (H.told host.old) → Finds (saved_on checkpoint.net (H.told host.old).state.net) result }
+    ensures exact { H.honest → (checkpoint : Checkpoint) → Holds (Some checkpoint) (H.told host.old)
+        → Finds (saved_on checkpoint.net (H.told host.old).state.net) result }
     ensures before { IfErr result (λ fault. IsBefore fault → Steps Stays (H.told host.old).stops (H.told host.new).stops) }
-    ensures refused { (k n : ℕ) (left : Left) → IsErrOf result (BackFault.KernelRefused k n left) → WasRefused k n (H.told host.old).kernel (H.told host.new).kernel }
+    ensures refused { (k n : ℕ) (left : Left) → IsErrOf result (BackFault.KernelRefused k n left)
+        → WasRefused k n (H.told host.old).kernel (H.told host.new).kernel }
     ensures given_up { (k n : ℕ) (left : Left) → IsErrOf result (BackFault.KernelRefused k n left) → left ≡ Left.Pending }
     ensures quiet { OnOk result (NoneRefused (H.told host.old).kernel (H.told host.new).kernel) }
     ensures unrefused { (left : Left) → IsErrOf result (BackFault.HostFault left) → NoneRefused (H.told host.old).kernel (H.told host.new).kernel }
@@ -169,17 +182,21 @@ pub fn go_back<H: Host>(host: &mut H, alloc: Global) -> Result<bool, BackFault>
     ensures set { H.tells → IfOk result (λ was. was ≡ true → IsSome (cell_of (H.told host.old).state.cell)) }
     ensures stays { IfOk result (λ was. was ≡ false → Steps Stays (H.told host.old).stops (H.told host.new).stops) }
     ensures kept { H.honest → Sound (H.told host.old) → Kept (IsUndone (H.told host.old).state) (H.told host.old) (H.told host.new) }
-    ensures ends { H.honest → Sound (H.told host.old) → IfOk result (λ was. was ≡ true → (stands : Standing) × IsUndone (H.told host.old).state stands × Ends stands (H.told host.new)) }
+    ensures ends { H.honest → Sound (H.told host.old)
+        → IfOk result (λ was. was ≡ true → (stands : Standing) × IsUndone (H.told host.old).state stands
+        × Ends stands (H.told host.new)) }
     // Where all that stands goes back to one network, that network stands then.
     ensures back { H.honest → Sound (H.told host.old) → (saved : NetData) → ((s : State) → (H.told host.old).stops.may_leave s → IsUndone s (restored_to saved))
         → OnOk result (Ends (restored_to saved) (H.told host.new)) }
     ensures healthy { H.honest → Sound (H.told host.old) → IfErr result (λ fault. IsHealthy fault) }
     // But for faults and memory its answer is what the restoring finds, also where the host isn't sound.
-    ensures exact { H.honest → (checkpoint : Checkpoint) → cell_of (H.told host.old).state.cell ≡ Some checkpoint → Finds (saved_on checkpoint.net (H.told host.old).state.net) result }
+    ensures exact { H.honest → (checkpoint : Checkpoint) → cell_of (H.told host.old).state.cell ≡ Some checkpoint
+        → Finds (saved_on checkpoint.net (H.told host.old).state.net) result }
     ensures unset { H.tells → cell_of (H.told host.old).state.cell ≡ None → IfErr result (λ fault. fault ≡ BackFault.HostFault Left.NotBegun) }
     ensures before { IfErr result (λ fault. IsBefore fault → Steps Stays (H.told host.old).stops (H.told host.new).stops) }
     ensures memory { H.tells → IsErrOf result BackFault.OutOfMemory → IsSome (cell_of (H.told host.old).state.cell) }
-    ensures refused { (k n : ℕ) (left : Left) → IsErrOf result (BackFault.KernelRefused k n left) → WasRefused k n (H.told host.old).kernel (H.told host.new).kernel }
+    ensures refused { (k n : ℕ) (left : Left) → IsErrOf result (BackFault.KernelRefused k n left)
+        → WasRefused k n (H.told host.old).kernel (H.told host.new).kernel }
     ensures given_up { (k n : ℕ) (left : Left) → IsErrOf result (BackFault.KernelRefused k n left) → left ≡ Left.Pending }
     ensures quiet { OnOk result (NoneRefused (H.told host.old).kernel (H.told host.new).kernel) }
     ensures unrefused { (left : Left) → IsErrOf result (BackFault.HostFault left) → NoneRefused (H.told host.old).kernel (H.told host.new).kernel }
@@ -190,7 +207,9 @@ pub fn go_back<H: Host>(host: &mut H, alloc: Global) -> Result<bool, BackFault>
     ensures differs { H.tells → (names : List (List ℕ)) → IsErrOf result (BackFault.HardwareDiffers names) → Differs names (H.told host.new) }
     ensures same { IfErr result (λ fault. IsBefore fault → H.tells → (H.told host.new).state ≡ (H.told host.old).state) }
     ensures none_same { H.tells → IfOk result (λ was. was ≡ false → (H.told host.new).state ≡ (H.told host.old).state) }
-    ensures going { H.honest → Sound (H.told host.old) → IfErr result (λ fault. (IsBefore fault → ⊥) → FromRead (IsUndone (H.told host.old).state) (H.told host.old) (H.told host.new)) }
+    ensures going { H.honest → Sound (H.told host.old)
+        → IfErr result (λ fault. (IsBefore fault → ⊥)
+        → FromRead (IsUndone (H.told host.old).state) (H.told host.old) (H.told host.new)) }
     ensures moves { Steps Any (H.told host.old).stops (H.told host.new).stops }
     ensures saved { H.tells → OnOk result (saved_net (H.told host.new).state.cell ≡ saved_net (H.told host.old).state.cell) }
     // On an honest host, sound or not, what is taken back is the saved network.
@@ -229,21 +248,27 @@ fn waits(phase: Phase, made: u64, deadline: u64, now: u64) -> bool
 pub fn take_back<H: Host>(host: &mut H, alloc: Global, now: u64) -> Result<Recovered, BackFault>
     ensures cleared { H.tells → IfOk result (λ done. IsClear done → Holds None (H.told host.new)) }
     ensures nothing { H.tells → result ≡ Ok Recovered.Nothing → cell_of (H.told host.old).state.cell ≡ None }
-    ensures waiting { H.tells → (deadline : ℕ) → result ≡ Ok (Recovered.Waiting deadline) → (waits : Waits now (cell_of (H.told host.old).state.cell)) × (waits.checkpoint.deadline ≡ deadline) }
+    ensures waiting { H.tells → (deadline : ℕ) → result ≡ Ok (Recovered.Waiting deadline)
+        → (waits : Waits now (cell_of (H.told host.old).state.cell)) × (waits.checkpoint.deadline ≡ deadline) }
     ensures restored { H.tells → result ≡ Ok Recovered.Restored → IsTaken now (cell_of (H.told host.old).state.cell) }
     ensures stays { result ≡ Ok Recovered.Nothing → Steps Stays (H.told host.old).stops (H.told host.new).stops }
     ensures kept { H.honest → Sound (H.told host.old) → Kept (IsSettled now (H.told host.old).state) (H.told host.old) (H.told host.new) }
     // On an honest host that is sound, what stands then is what a recovery at this moment makes of what stood.
-    ensures ends { H.honest → Sound (H.told host.old) → OnOk result ((stands : Standing) × IsSettled now (H.told host.old).state stands × Ends stands (H.told host.new)) }
+    ensures ends { H.honest → Sound (H.told host.old)
+        → OnOk result ((stands : Standing) × IsSettled now (H.told host.old).state stands
+        × Ends stands (H.told host.new)) }
     ensures healthy { H.honest → Sound (H.told host.old) → IfErr result (λ fault. IsHealthy fault) }
     // But for faults and memory its answer is what the restoring finds, also where the host isn't sound.
-    ensures exact { H.honest → (taken : IsTaken now (cell_of (H.told host.old).state.cell)) → Finds (saved_on taken.checkpoint.net (H.told host.old).state.net) result }
+    ensures exact { H.honest → (taken : IsTaken now (cell_of (H.told host.old).state.cell))
+        → Finds (saved_on taken.checkpoint.net (H.told host.old).state.net) result }
     ensures untaken { H.tells → (IsTaken now (cell_of (H.told host.old).state.cell) → ⊥) → IfErr result (λ fault. fault ≡ BackFault.HostFault Left.NotBegun) }
     ensures before { IfErr result (λ fault. IsBefore fault → Steps Stays (H.told host.old).stops (H.told host.new).stops) }
     ensures memory { H.tells → IsErrOf result BackFault.OutOfMemory → IsTaken now (cell_of (H.told host.old).state.cell) }
     ensures pending { H.tells → IsErrOf result (BackFault.HostFault Left.Pending) → IsTaken now (cell_of (H.told host.old).state.cell) }
-    ensures unaccepted { H.tells → (k n : ℕ) (left : Left) → IsErrOf result (BackFault.KernelRefused k n left) → IsTaken now (cell_of (H.told host.old).state.cell) }
-    ensures refused { (k n : ℕ) (left : Left) → IsErrOf result (BackFault.KernelRefused k n left) → WasRefused k n (H.told host.old).kernel (H.told host.new).kernel }
+    ensures unaccepted { H.tells → (k n : ℕ) (left : Left) → IsErrOf result (BackFault.KernelRefused k n left)
+        → IsTaken now (cell_of (H.told host.old).state.cell) }
+    ensures refused { (k n : ℕ) (left : Left) → IsErrOf result (BackFault.KernelRefused k n left)
+        → WasRefused k n (H.told host.old).kernel (H.told host.new).kernel }
     ensures given_up { (k n : ℕ) (left : Left) → IsErrOf result (BackFault.KernelRefused k n left) → left ≡ Left.Pending }
     ensures quiet { OnOk result (NoneRefused (H.told host.old).kernel (H.told host.new).kernel) }
     ensures unrefused { (left : Left) → IsErrOf result (BackFault.HostFault left) → NoneRefused (H.told host.old).kernel (H.told host.new).kernel }
@@ -253,12 +278,16 @@ pub fn take_back<H: Host>(host: &mut H, alloc: Global, now: u64) -> Result<Recov
     ensures damaged { H.tells → (area : ℕ) → IsErrOf result (BackFault.Damaged area) → IsDamaged area (H.told host.old).state }
     ensures differs { H.tells → (names : List (List ℕ)) → IsErrOf result (BackFault.HardwareDiffers names) → Differs names (H.told host.new) }
     ensures same { IfErr result (λ fault. IsBefore fault → H.tells → (H.told host.new).state ≡ (H.told host.old).state) }
-    ensures going { H.honest → Sound (H.told host.old) → IfErr result (λ fault. (IsBefore fault → ⊥) → FromRead (IsSettled now (H.told host.old).state) (H.told host.old) (H.told host.new)) }
+    ensures going { H.honest → Sound (H.told host.old)
+        → IfErr result (λ fault. (IsBefore fault → ⊥)
+        → FromRead (IsSettled now (H.told host.old).state) (H.told host.old) (H.told host.new)) }
     ensures moves { Steps Any (H.told host.old).stops (H.told host.new).stops }
     ensures nothing_same { H.tells → result ≡ Ok Recovered.Nothing → (H.told host.new).state ≡ (H.told host.old).state }
     ensures waiting_same { H.tells → (deadline : ℕ) → result ≡ Ok (Recovered.Waiting deadline) → (H.told host.new).state ≡ (H.told host.old).state }
     // On an honest host, sound or not, what is taken back reads as the saved network.
-    ensures restored_reads { H.honest → (taken : IsTaken now (cell_of (H.told host.old).state.cell)) (saved : NetData) → taken.checkpoint.net ≡ Some saved → result ≡ Ok Recovered.Restored → standing (H.told host.new).state ≡ restored_to saved }
+    ensures restored_reads { H.honest → (taken : IsTaken now (cell_of (H.told host.old).state.cell)) (saved : NetData)
+        → taken.checkpoint.net ≡ Some saved → result ≡ Ok Recovered.Restored
+        → standing (H.told host.new).state ≡ restored_to saved }
     ensures restored_saved { H.honest → result ≡ Ok Recovered.Restored → (H.told host.new).state.net ≡ saved_net (H.told host.new).state.cell }
     ensures later { (H.told host.old).faults ≤ (H.told host.new).faults }
 {

@@ -21,15 +21,19 @@ pub enum RunFault {
 /// Makes the calls in turn.
 pub fn run<H: Host>(host: &mut H, alloc: Global, calls: &[Call]) -> Result<(), RunFault>
     requires { (H.told host.old).settled }
-    ensures reached { H.honest → (from to : NetData) → (H.told host.old).state.net ≡ Some from → Runs calls.now from to → OnOk result ((H.told host.new).state.net ≡ Some to) }
-    ensures accepted { H.honest → (from to : NetData) → (H.told host.old).state.net ≡ Some from → Runs calls.now from to → (k n : ℕ) → IsErrOf result (RunFault.Refused k n) → ⊥ }
+    ensures reached { H.honest → (from to : NetData) → (H.told host.old).state.net ≡ Some from
+        → Runs calls.now from to → OnOk result ((H.told host.new).state.net ≡ Some to) }
+    ensures accepted { H.honest → (from to : NetData) → (H.told host.old).state.net ≡ Some from
+        → Runs calls.now from to → (k n : ℕ) → IsErrOf result (RunFault.Refused k n) → ⊥ }
     ensures settled { OnOk result (H.told host.new).settled }
     ensures cell { H.tells → SameCell (H.told host.old).state (H.told host.new).state }
     ensures stops_cell { Steps SameCell (H.told host.old).stops (H.told host.new).stops }
     ensures stops { H.honest → Steps RunStep (H.told host.old).stops (H.told host.new).stops }
     // At each moment the calls are carried out up to some of them.
-    ensures fronts { H.honest → (from to : NetData) → (H.told host.old).state.net ≡ Some from → Runs calls.now from to → Steps (FrontStep calls.now from) (H.told host.old).stops (H.told host.new).stops }
-    ensures refused { (k n : ℕ) → IsErrOf result (RunFault.Refused k n) → (H.told host.old).kernel.calls ≡ 0 → WasRefused k n (H.told host.old).kernel (H.told host.new).kernel }
+    ensures fronts { H.honest → (from to : NetData) → (H.told host.old).state.net ≡ Some from → Runs calls.now from to
+        → Steps (FrontStep calls.now from) (H.told host.old).stops (H.told host.new).stops }
+    ensures refused { (k n : ℕ) → IsErrOf result (RunFault.Refused k n) → (H.told host.old).kernel.calls ≡ 0
+        → WasRefused k n (H.told host.old).kernel (H.told host.new).kernel }
     ensures quiet { ((k n : ℕ) → IsErrOf result (RunFault.Refused k n) → ⊥) → NoneRefused (H.told host.old).kernel (H.told host.new).kernel }
     // No dump is made.
     ensures fresh { H.tells → ((H.told host.new).fresh ≡ (H.told host.old).fresh) ⊎ ((H.told host.new).fresh ≡ None) }

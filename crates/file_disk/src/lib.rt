@@ -2,13 +2,19 @@
 //! the whole is done, and counts what fails.
 #![tactic(auto)]
 
+// Why a call on the files of a disk failed.
 mod fault;
+// The files of a folder.
 mod folder;
+// Disks by the single calls of a system.
 mod raw;
+// Reads that go on until they are whole.
 mod read;
 #[cfg(test)]
 mod tests;
+// A disk whose calls are whole.
 mod whole;
+// Writes that go on until they are whole.
 mod write;
 
 pub use folder::FileDisk;

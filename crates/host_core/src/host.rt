@@ -57,8 +57,12 @@ pub trait Host {
         ensures met { tells → OnOk result ((told self.old).state.net ≡ None) }
         ensures made { tells → OnOk result (IsMade first.now (told self.old).state (told self.new)) }
         // Where it meets a network, it changes nothing.
-        ensures stays { tells → IsSome (told self.old).state.net → Steps Stays (told self.old).stops (told self.new).stops × ((told self.new).state ≡ (told self.old).state) }
-        ensures same { tells → IsErrOf result MakeFault.OutOfMemory → Steps Stays (told self.old).stops (told self.new).stops × ((told self.new).state ≡ (told self.old).state) }
+        ensures stays { tells → IsSome (told self.old).state.net
+            → Steps Stays (told self.old).stops (told self.new).stops
+            × ((told self.new).state ≡ (told self.old).state) }
+        ensures same { tells → IsErrOf result MakeFault.OutOfMemory
+            → Steps Stays (told self.old).stops (told self.new).stops
+            × ((told self.new).state ≡ (told self.old).state) }
         // At each answer, and at each moment on the way.
         ensures maybe { tells → MaybeMade first.now (told self.old).state (told self.new).state }
         ensures stops { tells → Steps (MaybeMade first.now) (told self.old).stops (told self.new).stops }
@@ -96,7 +100,9 @@ pub trait Host {
         // All but `Failed` leave the host settled, and all but `Ok` and `Failed` change nothing.
         ensures settled { result ≢ Err CallFault.Failed → (told self.new).settled }
         ensures doubt { result ≡ Err CallFault.Failed → (told self.new).settled → ⊥ }
-        ensures same { (k : ℕ) → IsErrOf result (CallFault.Refused k) ⊎ IsErrOf result CallFault.OutOfMemory → (tells → (told self.new).state ≡ (told self.old).state) × Steps Stays (told self.old).stops (told self.new).stops }
+        ensures same { (k : ℕ) → IsErrOf result (CallFault.Refused k) ⊎ IsErrOf result CallFault.OutOfMemory
+            → (tells → (told self.new).state ≡ (told self.old).state)
+            × Steps Stays (told self.old).stops (told self.new).stops }
         ensures fresh { tells → (told self.new).fresh ≡ None }
         // Refusals and calls are counted.
         ensures counts { (k : ℕ) → IsErrOf result (CallFault.Refused k) → (told self.new).kernel ≡ refused k (told self.old).kernel }

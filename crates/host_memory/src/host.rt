@@ -121,7 +121,14 @@ impl MemoryHost {
 
     /// Counts a kernel call that is refused with this number, whatever the network says of it.
     pub fn refuse(&mut self, number: u8)
-        ensures { self.new ≡ record self.old { calls = one_more self.old.calls; fresh = false; refusals = one_more self.old.refusals; last_number = number; last_call = one_more self.old.calls } }
+        ensures { self.new ≡ record self.old {
+          calls = one_more self.old.calls;
+          fresh = false;
+          refusals = one_more self.old.refusals;
+          last_number =
+              number;
+          last_call = one_more self.old.calls;
+        } }
     {
         self.calls = raised(self.calls);
         self.fresh = false;
@@ -180,7 +187,8 @@ fn made(
     ensures storing { OnOk result (Storing first.now (record { net = net.old; cell = cell.old.items }) (record { net = net.new; cell = cell.new.items })) }
     ensures maybe { MaybeMade first.now (record { net = net.old; cell = cell.old.items }) (record { net = net.new; cell = cell.new.items }) }
     ensures sure { OnOk result ((s : State) → Left (record { net = net.new; cell = cell.new.items }) (reverse events.new.items) s → s.cell ≡ cell.new.items) }
-    ensures consistent { IsTouched cell.old.items (map (touch_of 0) (reverse events.old.items)) → IsTouched cell.new.items (map (touch_of 0) (reverse events.new.items)) }
+    ensures consistent { IsTouched cell.old.items (map (touch_of 0) (reverse events.old.items))
+        → IsTouched cell.new.items (map (touch_of 0) (reverse events.new.items)) }
     ensures same_net { OnErr result (net.new ≡ net.old) }
     ensures same { OnErr result (IsAsBefore cell.old.items cell.new.items events.old.items events.new.items) }
     ensures stops { Steps (MaybeMade first.now) (stops_of (record { net = net.old; cell = cell.old.items }) (reverse events.old.items))
@@ -213,8 +221,12 @@ impl Host for MemoryHost {
         ensures exists { IsErrOf result MakeFault.Exists → IsSome (told_of self.old).state.net }
         ensures met { OnOk result ((told_of self.old).state.net ≡ None) }
         ensures made { OnOk result (IsMade first.now (told_of self.old).state (told_of self.new)) }
-        ensures stays { IsSome (told_of self.old).state.net → Steps Stays (told_of self.old).stops (told_of self.new).stops × ((told_of self.new).state ≡ (told_of self.old).state) }
-        ensures same { IsErrOf result MakeFault.OutOfMemory → Steps Stays (told_of self.old).stops (told_of self.new).stops × ((told_of self.new).state ≡ (told_of self.old).state) }
+        ensures stays { IsSome (told_of self.old).state.net
+            → Steps Stays (told_of self.old).stops (told_of self.new).stops
+            × ((told_of self.new).state ≡ (told_of self.old).state) }
+        ensures same { IsErrOf result MakeFault.OutOfMemory
+            → Steps Stays (told_of self.old).stops (told_of self.new).stops
+            × ((told_of self.new).state ≡ (told_of self.old).state) }
         ensures maybe { MaybeMade first.now (told_of self.old).state (told_of self.new).state }
         ensures stops { Steps (MaybeMade first.now) (told_of self.old).stops (told_of self.new).stops }
         ensures kernel { (told_of self.new).kernel ≡ (told_of self.old).kernel }
@@ -296,7 +308,9 @@ impl Host for MemoryHost {
         ensures stops_cell { Steps SameCell (told_of self.old).stops (told_of self.new).stops }
         ensures settled { result ≢ Err CallFault.Failed → (told_of self.new).settled }
         ensures doubt { result ≡ Err CallFault.Failed → (told_of self.new).settled → ⊥ }
-        ensures same { (k : ℕ) → IsErrOf result (CallFault.Refused k) ⊎ IsErrOf result CallFault.OutOfMemory → (Unit {0} → (told_of self.new).state ≡ (told_of self.old).state) × Steps Stays (told_of self.old).stops (told_of self.new).stops }
+        ensures same { (k : ℕ) → IsErrOf result (CallFault.Refused k) ⊎ IsErrOf result CallFault.OutOfMemory
+            → (Unit {0} → (told_of self.new).state ≡ (told_of self.old).state)
+            × Steps Stays (told_of self.old).stops (told_of self.new).stops }
         ensures fresh { (told_of self.new).fresh ≡ None }
         ensures counts { (k : ℕ) → IsErrOf result (CallFault.Refused k) → (told_of self.new).kernel ≡ refused k (told_of self.old).kernel }
         ensures counted { ((k : ℕ) → IsErrOf result (CallFault.Refused k) → ⊥) → (told_of self.new).kernel ≡ counted (told_of self.old).kernel }

@@ -2,7 +2,7 @@
 
 /// A link that is named isn't there: the link, the port, the controller or the route's device.
 pub const NO_LINK: u8 = 1;
-/// A link of the name is there already.
+/// A link of the name is there already; or, where a veth is made, one of its peer's name is, or the peer's name is its own.
 pub const LINK_EXISTS: u8 = 2;
 /// The kind is Ethernet, which is neither made nor deleted.
 pub const PHYSICAL: u8 = 3;

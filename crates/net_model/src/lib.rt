@@ -1,30 +1,55 @@
 //! The network model: links, routes, rules and the settings of DNS, and the calls that change them.
 #![tactic(auto)]
 
+// Addresses, prefixes and subnets.
 mod address;
+// The calls of the kernel.
 mod call;
+// The settings of DNS.
 mod dns;
+// DNS search domains.
 mod domain;
+// What was built into the machine.
 mod hardware;
+// Numbers of routing tables and of VLANs.
 mod id;
+// The limits of a network and of its parts.
 mod limits;
+// Links and their kinds.
 mod link;
+// Finding links by name in lists that are sorted by name, and what kinds of links go together.
 mod lookup;
+// Hardware addresses.
 mod mac;
+// Names of links.
 mod name;
+// A network.
 mod net;
+// What bonds, bridges and their ports are set to.
 mod options;
+// Whether lists are strictly sorted, as those of a network are.
 mod order;
+// The lists of a network that is taken apart, or not yet closed.
 mod parts;
+// Where something stands in a list of a network, or where it belongs, by binary search.
 mod place;
+// Routes.
 mod route;
+// Rules that choose the routing table of a packet.
 mod rule;
+// What is valid: the thirteen parts, asked one after another.
 mod valid;
+// The part of validity that looks at counts and at fields that aren't used.
 mod valid_limits;
+// The parts of validity that look at links: names, bases, controllers, MTUs and addresses.
 mod valid_links;
+// The part of validity that looks at options.
 mod valid_options;
+// The part of validity that looks at the two ends of each pair.
 mod valid_peers;
+// The parts of validity that look at routes and rules.
 mod valid_routes;
+// The part of validity that looks at which link stands on which.
 mod valid_standing;
 
 pub use address::{Addr, Prefix, Subnet, max_len};

@@ -1,6 +1,7 @@
 //! Which places of a graph are reachable.
 #![tactic(auto)]
 
+// Whether arrows lead round in a cycle.
 mod cycle;
 
 ghost use Rattle.std.specs.Prelude.{◌≡◌, ◌<◌, ℕ, length, get_or, IfOk, false};

@@ -73,7 +73,8 @@ pub(crate) fn is_first_or_equal(
     route: &Route,
 ) -> Result<bool, AllocError>
     ensures equal { IfOk result (λ equal. equal ≡ option_map_or (λ f. same_route f route.now) (get key_cmp firsts.old (key_of route.now)) true) }
-    ensures firsts { IfOk result (λ equal. equal ≡ true → (seen : List (ℕ × Route)) (at : ℕ) → HasFirsts firsts.old seen → HasFirsts firsts.new (seen ++ (at, route.now) ∷ [])) }
+    ensures firsts { IfOk result (λ equal. equal ≡ true → (seen : List (ℕ × Route)) (at : ℕ)
+        → HasFirsts firsts.old seen → HasFirsts firsts.new (seen ++ (at, route.now) ∷ [])) }
 {
     if let Some(first) = firsts.get(&key_of(route)) {
         return Ok(same_route(first, route));

@@ -41,9 +41,13 @@ pub fn change<H: Host>(
     now: u64,
 ) -> Result<(), WorkFault>
     requires { is_document doc.now ≡ true }
-    ensures says { (first second : Doc) → IsChange first second (asked doc.now opts.now now) → IfErr result (λ fault. StepSays H.tells first second (past_of (H.told host.old)) (H.told host.new) fault) }
-    ensures answer { H.honest → (from : NetData) → IsAt (restored_to from) (H.told host.old) → IfErr result (λ fault. StepAnswers (merge from doc.now) (H.told host.old).faults (H.told host.new) fault) }
-    ensures done { H.honest → (from : NetData) → IsAt (restored_to from) (H.told host.old) → OnOk result ((to : NetData) × (merge from doc.now ≡ Ok to) × IsAt (changed (asked doc.now opts.now now) from to).after (H.told host.new)) }
+    ensures says { (first second : Doc) → IsChange first second (asked doc.now opts.now now)
+        → IfErr result (λ fault. StepSays H.tells first second (past_of (H.told host.old)) (H.told host.new) fault) }
+    ensures answer { H.honest → (from : NetData) → IsAt (restored_to from) (H.told host.old)
+        → IfErr result (λ fault. StepAnswers (merge from doc.now) (H.told host.old).faults (H.told host.new) fault) }
+    ensures done { H.honest → (from : NetData) → IsAt (restored_to from) (H.told host.old)
+        → OnOk result ((to : NetData) × (merge from doc.now ≡ Ok to)
+        × IsAt (changed (asked doc.now opts.now now) from to).after (H.told host.new)) }
     ensures follows { OnOk result (IsPast H.tells (past_of (H.told host.old)) (past_of (H.told host.new))) }
     ensures later { (H.told host.old).faults ≤ (H.told host.new).faults }
 {
@@ -58,7 +62,8 @@ fn take_back<H: Host>(host: &mut H, alloc: Global) -> Result<(), WorkFault>
     ensures says { (first second : Doc) → IfErr result (λ fault. StepSays H.tells first second (past_of (H.told host.old)) (H.told host.new) fault) }
     ensures answer { H.honest → (c : Checkpoint) (from to : NetData) → c.net ≡ Some from → IsAt (stand to (Some c)) (H.told host.old)
         → (made : Result NetData Refused) → IfErr result (λ fault. StepAnswers made (H.told host.old).faults (H.told host.new) fault) }
-    ensures done { H.honest → (c : Checkpoint) (from to : NetData) → c.net ≡ Some from → IsAt (stand to (Some c)) (H.told host.old) → OnOk result (IsAt (restored_to from) (H.told host.new)) }
+    ensures done { H.honest → (c : Checkpoint) (from to : NetData) → c.net ≡ Some from
+        → IsAt (stand to (Some c)) (H.told host.old) → OnOk result (IsAt (restored_to from) (H.told host.new)) }
     ensures follows { OnOk result (IsPast H.tells (past_of (H.told host.old)) (past_of (H.told host.new))) }
     ensures later { (H.told host.old).faults ≤ (H.told host.new).faults }
 {
@@ -72,7 +77,8 @@ fn take_back<H: Host>(host: &mut H, alloc: Global) -> Result<(), WorkFault>
 pub fn try_out<H: Host>(host: &mut H, alloc: Global, doc: &Doc) -> Result<(), WorkFault>
     requires { is_document doc.now ≡ true }
     ensures says { (second : Doc) → IfErr result (λ fault. StepSays H.tells doc.now second (past_of (H.told host.old)) (H.told host.new) fault) }
-    ensures answer { H.honest → (from : NetData) → IsAt (restored_to from) (H.told host.old) → IfErr result (λ fault. StepAnswers (merge from doc.now) (H.told host.old).faults (H.told host.new) fault) }
+    ensures answer { H.honest → (from : NetData) → IsAt (restored_to from) (H.told host.old)
+        → IfErr result (λ fault. StepAnswers (merge from doc.now) (H.told host.old).faults (H.told host.new) fault) }
     ensures done { H.honest → (from : NetData) → IsAt (restored_to from) (H.told host.old) → OnOk result (IsAt (restored_to from) (H.told host.new)) }
     ensures follows { OnOk result (IsPast H.tells (past_of (H.told host.old)) (past_of (H.told host.new))) }
     ensures later { (H.told host.old).faults ≤ (H.told host.new).faults }

@@ -68,9 +68,12 @@ pub fn count_calls<H: Host>(host: &mut H, alloc: Global, doc: &Doc) -> Result<u3
     ensures state { H.tells → (H.told host.new).state ≡ (H.told host.old).state }
     ensures stops { Steps Stays (H.told host.old).stops (H.told host.new).stops }
     ensures plan { IfOk result (λ count. HasPlan doc.now count) }
-    ensures counts { H.honest → (from : NetData) → (H.told host.old).state.net ≡ Some from → IfOk result (λ count. (to : NetData) × IsPlanned doc.now from to count) }
-    ensures says { (first second : Doc) → IsOneOf first second doc.now → IfErr result (λ fault. StepSays H.tells first second (past_of (H.told host.old)) (H.told host.new) fault) }
-    ensures answer { H.honest → (from : NetData) → (H.told host.old).state.net ≡ Some from → IfErr result (λ fault. StepAnswers (merge from doc.now) (H.told host.old).faults (H.told host.new) fault) }
+    ensures counts { H.honest → (from : NetData) → (H.told host.old).state.net ≡ Some from
+        → IfOk result (λ count. (to : NetData) × IsPlanned doc.now from to count) }
+    ensures says { (first second : Doc) → IsOneOf first second doc.now
+        → IfErr result (λ fault. StepSays H.tells first second (past_of (H.told host.old)) (H.told host.new) fault) }
+    ensures answer { H.honest → (from : NetData) → (H.told host.old).state.net ≡ Some from
+        → IfErr result (λ fault. StepAnswers (merge from doc.now) (H.told host.old).faults (H.told host.new) fault) }
     ensures follows { IsPast H.tells (past_of (H.told host.old)) (past_of (H.told host.new)) }
     ensures later { (H.told host.old).faults ≤ (H.told host.new).faults }
 {

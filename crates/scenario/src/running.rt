@@ -24,8 +24,11 @@ fn summarize<H: Host>(
     first_calls: u32,
     second_calls: u32,
 ) -> Result<Summary, WorkFault>
-    ensures says { (first second : Doc) → HasPlan first first_calls → HasPlan second second_calls → RunSays H.tells first second (past_of (H.told host.old)) (H.told host.new) result }
-    ensures answer { H.honest → (first second : Doc) (from middle last : NetData) → IsPlanned first from middle first_calls → IsPlanned second middle last second_calls → IsAt (restored_to last) (H.told host.old)
+    ensures says { (first second : Doc) → HasPlan first first_calls → HasPlan second second_calls
+        → RunSays H.tells first second (past_of (H.told host.old)) (H.told host.new) result }
+    ensures answer { H.honest → (first second : Doc) (from middle last : NetData)
+        → IsPlanned first from middle first_calls → IsPlanned second middle last second_calls
+        → IsAt (restored_to last) (H.told host.old)
         → RunAnswers from first second (H.told host.old).faults (H.told host.new) result }
     ensures later { (H.told host.old).faults ≤ (H.told host.new).faults }
 {
@@ -44,8 +47,10 @@ fn apply_second<H: Host>(
     second_calls: u32,
 ) -> Result<Summary, WorkFault>
     requires { is_document second.now ≡ true }
-    ensures says { (first : Doc) → HasPlan first first_calls → HasPlan second.now second_calls → RunSays H.tells first second.now (past_of (H.told host.old)) (H.told host.new) result }
-    ensures answer { H.honest → (first : Doc) (from middle last : NetData) → IsPlanned first from middle first_calls → IsPlanned second.now middle last second_calls → IsAt (restored_to middle) (H.told host.old)
+    ensures says { (first : Doc) → HasPlan first first_calls → HasPlan second.now second_calls
+        → RunSays H.tells first second.now (past_of (H.told host.old)) (H.told host.new) result }
+    ensures answer { H.honest → (first : Doc) (from middle last : NetData) → IsPlanned first from middle first_calls
+        → IsPlanned second.now middle last second_calls → IsAt (restored_to middle) (H.told host.old)
         → RunAnswers from first second.now (H.told host.old).faults (H.told host.new) result }
     ensures later { (H.told host.old).faults ≤ (H.told host.new).faults }
 {
@@ -128,7 +133,8 @@ pub fn run<H: Host>(
     requires first { is_document first.now ≡ true }
     requires second { is_document second.now ≡ true }
     ensures says { RunSays H.tells first.now second.now (past_of (H.told host.old)) (H.told host.new) result }
-    ensures answer { H.honest → (from : NetData) → IsAt (restored_to from) (H.told host.old) → RunAnswers from first.now second.now (H.told host.old).faults (H.told host.new) result }
+    ensures answer { H.honest → (from : NetData) → IsAt (restored_to from) (H.told host.old)
+        → RunAnswers from first.now second.now (H.told host.old).faults (H.told host.new) result }
     ensures later { (H.told host.old).faults ≤ (H.told host.new).faults }
 {
     match count_calls(host, alloc, first) {

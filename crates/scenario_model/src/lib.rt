@@ -4,7 +4,7 @@
 
 // The devices of a workload, and the numbers of its generator.
 mod device;
-// What is counted of a run, and why one isn't carried out.
+// What is counted of a run, and why one wasn't made to its end.
 mod work;
 
 pub use device::{

@@ -1,4 +1,4 @@
-//! What is counted of a run, and why one isn't carried out.
+//! What is counted of a run, and why one wasn't made to its end.
 
 use engine_model::{ApplyFault, BackFault};
 use host_core::{DumpFault, MakeFault};

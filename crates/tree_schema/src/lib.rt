@@ -1,14 +1,23 @@
 //! What a tree may say: values, and maps that are read by a table of their keys.
 #![tactic(auto)]
 
+// What is checked after all pairs of a map.
 mod check;
+// Why a tree is refused, and where.
 mod fault;
+// Lists whose items are read one by one.
 mod list;
+// Maps that are read by a table of their keys.
 mod map;
+// Marks of packets.
 mod marks;
+// How far a reading has come.
 mod reader;
+// Why a reading stops.
 mod stop;
+// What stands under a single key.
 mod under;
+// What a value may be: strings, numbers, booleans and names.
 mod values;
 
 pub use check::{holds_or, needed};
