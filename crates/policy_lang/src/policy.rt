@@ -43,14 +43,14 @@ impl Model for Policy {
 
 impl Policy {
     /// The captures, in the order of the tree.
-    pub(crate) fn captures(&self) -> &[Capture]
+    pub fn captures(&self) -> &[Capture]
         ensures { result.now ≡ self.now.captures }
     {
         self.captures.as_slice()
     }
 
     /// The tree that is wanted.
-    pub(crate) fn desired(&self) -> &Tree
+    pub fn desired(&self) -> &Tree
         ensures { result.now ≡ self.now.desired }
     {
         &self.desired

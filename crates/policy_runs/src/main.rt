@@ -3,6 +3,8 @@
 
 // Documents that are policies, and why others are refused.
 mod policies;
+// What policies are worth on a running state.
+mod values;
 
 use base_model::OutOfMemory;
 use case_table::{Answers, report};
@@ -15,7 +17,9 @@ struct PolicyAnswers;
 impl Answers for PolicyAnswers {
     fn answer(alloc: Global, kind: &str, case: &[u8]) -> Result<Vec<u8>, OutOfMemory> {
         let mut out = Vec::new(alloc);
-        if !policies::answer(alloc, kind, case, &mut out)? {
+        if !policies::answer(alloc, kind, case, &mut out)?
+            && !values::answer(alloc, kind, case, &mut out)?
+        {
             out.extend_from_slice(b"no such kind")?;
         }
         Ok(out)

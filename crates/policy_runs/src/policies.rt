@@ -14,7 +14,8 @@ fn push_at(word: &str, path: &Path, out: &mut Vec<u8>) -> Result<(), OutOfMemory
     write_path(path, out)
 }
 
-fn push_fault(fault: &PolicyFault, out: &mut Vec<u8>) -> Result<(), OutOfMemory> {
+/// Appends a fault as the command line tells it.
+pub fn push_fault(fault: &PolicyFault, out: &mut Vec<u8>) -> Result<(), OutOfMemory> {
     match fault {
         PolicyFault::WrongShape(path) => push_at("WrongShape", path, out),
         PolicyFault::BadExpression(path) => push_at("BadExpression", path, out),
@@ -27,8 +28,8 @@ fn push_fault(fault: &PolicyFault, out: &mut Vec<u8>) -> Result<(), OutOfMemory>
     }
 }
 
-// The tree of a text, or a null where it isn't YAML.
-fn tree_of(alloc: Global, text: &[u8]) -> Tree
+/// The tree of a text, or a null where it isn't YAML.
+pub fn tree_of(alloc: Global, text: &[u8]) -> Tree
     ensures distinct { is_distinct (shape result) ≡ true }
     ensures short { has_short_lists (shape result) ≡ true }
 {

@@ -1,0 +1,9 @@
+pub mod lemmas
+pub mod Passes
+pub mod Fair
+pub mod Keeping
+pub mod Items
+pub mod Given
+pub mod Listed
+pub mod Known
+pub mod Sized
