@@ -2,7 +2,7 @@
 ghost use Rattle.std.specs.Prelude.{◌≡◌, ◌≤◌, ◌++◌, length, codes, decimal};
 ghost use Rattle.top_model.specs.Said.{times};
 ghost use Rattle.top_model.specs.Texts.{error, error_line, left_words};
-ghost use Rattle.top_model.specs.declared.report.Cause.TheVariants.{MergeRefused, KernelRefused, Damaged};
+ghost use Rattle.top_model.specs.declared.report.Cause.TheVariants.{MergeRefused, CallRefused, KernelRefused, Damaged};
 
 use crate::line::{Line, push_number};
 use crate::words::{area_words, left_words, merge_words, times};
@@ -64,6 +64,17 @@ pub(crate) fn kernel_error(number: u8, call: u64, left: Left) -> Line
     push_number(&mut line, call);
     line.push(b", ");
     line.push(left_words(left));
+    error(line.as_bytes())
+}
+
+pub(crate) fn call_error(call: u64, number: u8) -> Line
+    ensures { result ≡ error_line (CallRefused call number) }
+{
+    let mut line = Line::new();
+    line.push(b"call ");
+    push_number(&mut line, call);
+    line.push(b" refused ");
+    push_number(&mut line, number as u64);
     error(line.as_bytes())
 }
 

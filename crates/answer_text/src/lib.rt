@@ -25,6 +25,8 @@ pub use done::{
     summary_lines,
 };
 pub use line::{Line, ROOM, push_number};
+pub use refusals::write_error;
 pub use status::write_status;
 pub use telling::{tell_done, tell_refused};
 pub use texts::{call_text, note_text, shown_text};
+pub use writing::write_text;

@@ -5,7 +5,8 @@ ghost use Rattle.top_model.specs.declared.report.Cause.TheVariants.{DocRefused};
 ghost use Rattle.answer_text.specs.Writing.{Writes};
 
 use crate::errors::{
-    damaged_error, error, kernel_error, left_error, merge_error, numbered_error, timed_error,
+    call_error, damaged_error, error, kernel_error, left_error, merge_error, numbered_error,
+    timed_error,
 };
 use crate::line::Line;
 use crate::writing::{write_line, write_names, write_path, write_text};
@@ -95,16 +96,21 @@ fn write_other_devices<W: Sink>(names: &[Name], err: &mut W) -> Result<(), Faile
     write_text(b"\n", err)
 }
 
-// Writes the error line of a cause: nothing where it is done, or where a sink failed.
-pub(crate) fn write_error<W: Sink>(cause: &Cause, err: &mut W) -> Result<(), Failed>
+/// Writes the error line of a cause: nothing where it is done, where a sink failed, or where a rollout was halted. It takes no
+/// memory.
+pub fn write_error<W: Sink>(cause: &Cause, err: &mut W) -> Result<(), Failed>
     ensures { Writes W.tells (error_line cause.now) (W.told err.old) (W.told err.new) result }
 {
     match cause {
-        Cause::Done | Cause::WriteFault(_) => Ok(()),
+        Cause::Done | Cause::WriteFault(_) | Cause::Halted(_) => Ok(()),
         Cause::DocRefused(fault) => write_document_fault(fault, err),
         Cause::MergeRefused(refused) => write_line(&merge_error(refused), err),
         Cause::Usage => write_text(b"error: usage: nmstatectl [--state DIR] COMMAND\n", err),
         Cause::BadLine(line) => write_line(&numbered_error(b"script line ", *line), err),
+        Cause::BatchLine(line) => write_line(&numbered_error(b"batch line ", *line), err),
+        Cause::BatchLarge => write_text(b"error: batch too large\n", err),
+        Cause::CallRefused(call, number) => write_line(&call_error(*call, *number), err),
+        Cause::FolderFault => write_text(b"error: folder fault\n", err),
         Cause::Pending(deadline) => write_line(&numbered_error(b"pending until ", *deadline), err),
         Cause::NoCheckpoint => write_text(b"error: no checkpoint\n", err),
         Cause::Unfinished(since, deadline) => {

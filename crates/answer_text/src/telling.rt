@@ -29,7 +29,8 @@ fn write_both<W: Sink>(
     out: &mut W,
     err: &mut W,
 ) -> Result<(), Failed>
-    ensures written { WritesBoth W.tells text.now (notes.now ++ error_line cause.now) (W.told out.old) (W.told out.new) (W.told err.old) (W.told err.new) result }
+    ensures written { WritesBoth W.tells text.now (notes.now ++ error_line cause.now) (W.told out.old)
+        (W.told out.new) (W.told err.old) (W.told err.new) result }
     ensures out { (W.told out.old).faults ≤ (W.told out.new).faults }
     ensures err { (W.told err.old).faults ≤ (W.told err.new).faults }
 {

@@ -9,8 +9,8 @@ use base_model::PathStep;
 use host_core::{Failed, Sink};
 use net_model::Name;
 
-// Writes a text. An empty one needs no write.
-pub(crate) fn write_text<W: Sink>(text: &[u8], sink: &mut W) -> Result<(), Failed>
+/// Writes a text. An empty one needs no write, so that a sink that would fail isn't asked.
+pub fn write_text<W: Sink>(text: &[u8], sink: &mut W) -> Result<(), Failed>
     ensures { Writes W.tells text.now (W.told sink.old) (W.told sink.new) result }
 {
     if text.is_empty() {

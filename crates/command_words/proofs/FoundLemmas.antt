@@ -1,20 +1,33 @@
 -- What clap's getters give, by the rows that were found.
-use Rattle.std.proofs.Common.{◌≡◌, ◌∙◌, ◌^◌, ℕ, Bool, true, false, [], ◌∷◌, ap, refl, lt-ltb, ltb-true, codes, Option, Some, None, Result, Ok, Err, length, option_map}
-use Rattle.std.specs.Prelude.{nat_lt, option_and_then}
+use Rattle.std.proofs.Common.{◌≡◌, ◌∙◌, ◌^◌, ℕ, List, Bool, true, false, [], ◌∷◌, ap, refl, lt-ltb, ltb-true, codes, Option, Some, None, Result, Ok, Err, length, option_map, String, string_bytes}
+use Rattle.std.specs.Prelude.{◌||◌, map, nat_lt, option_and_then, unwrap_or}
 use Rattle.std.specs.Option.{option_map_or}
-use Rattle.std.specs.List.{list_all}
+use Rattle.std.specs.List.{list_all, list_any}
 use Rattle.std.specs.Str.{bytes_eq}
 use Rattle.std.specs.Str.Parse.{AllDigits, ParsesUnsigned, digits_value, without_leading_plus}
 use Rattle.std.specs.Char.{digit_value}
 use Rattle.std.specs.Borrow.{Bor}
-use Rattle.clap.specs.Words.{ReadsOne, Text, first_of, first_value, one_text, rows_of}
+use Rattle.clap.specs.Words.{ReadsOne, Text, first_of, first_value, matched_of, one_text, raw_values, rows_of}
 use Rattle.clap.specs.declared.parser.matches.Found.{Found}
-use Rattle.clap.proofs.WalkLemmas.{both, first_value-rows, one_text-rows}
-use Rattle.command_words.specs.Words.{is_number, is_set, number_in, number_of}
+use Rattle.clap.proofs.WalkLemmas.{both, first_value-rows, one_text-rows, raw_values-rows}
+use Rattle.command_words.specs.Words.{is_number, is_set, nodes_in, nodes_or_one, number_in, number_of}
 
 -- the text that was found
 pub text_found : (name : Text) (found : Found) (text : Option (Bor Text)) → option_map (λ s. s.now) text ≡ first_value found name → option_map (λ s. s.now) text ≡ first_of name (rows_of found)
 text_found name found text is = is ∙ first_value-rows found name
+
+-- whether some item passes, once each was mapped
+pub any_map : {A B : Type 0} (f : A → B) (p : B → Bool) (xs : List A) → list_any (λ x. p (f x)) xs ≡ list_any p (map f xs)
+any_map f p [] = refl
+any_map f p (x ∷ xs) = ap (λ rest. p (f x) || rest) (any_map f p xs)
+
+-- whether `--` is among words
+pub escape_among : {Z : Type 0} (words : List (String Z)) → list_any (λ word. bytes_eq (string_bytes word) (codes "--")) words ≡ list_any (λ word. bytes_eq word (codes "--")) (map string_bytes words)
+escape_among = any_map string_bytes (λ word. bytes_eq word (codes "--"))
+
+-- the folders that were found
+pub nodes_found : (found : Found) (dirs : Option (List Text)) → dirs ≡ option_map raw_values (matched_of found (codes "DIR")) → nodes_or_one (unwrap_or dirs []) ≡ nodes_in (rows_of found)
+nodes_found found dirs is = ap (λ (o : Option (List Text)). nodes_or_one (unwrap_or o [])) (is ∙ raw_values-rows found (codes "DIR"))
 
 -- whether it is `true`
 pub set_found : (name : Text) (found : Found) (text : Option (Bor Text)) → option_map (λ s. s.now) text ≡ first_value found name

@@ -1,6 +1,6 @@
 //! The commands.
 
-use base_model::Str;
+use base_model::{Items, Str};
 
 /// How long `apply` waits for a commit where no `--timeout` is given, in seconds.
 pub const DEFAULT_TIMEOUT: u32 = 60;
@@ -11,6 +11,12 @@ pub const MIN_DEVICES: u32 = 1;
 /// The most devices of a generated workload.
 pub const MAX_DEVICES: u32 = 100;
 
+/// The fewest nodes of a rollout, and the fewest that it may hold at once.
+pub const MIN_NODES: u32 = 1;
+
+/// The most nodes of a rollout, and the most that it may hold at once.
+pub const MAX_NODES: u32 = 64;
+
 /// A command with its arguments. A FILE that is missing is standard input.
 #[derive(PartialEq, Eq, Drop)]
 pub enum Command {
@@ -20,6 +26,10 @@ pub enum Command {
     },
     Plan {
         file: Option<Str>,
+        batch: bool,
+    },
+    Simulate {
+        file: Option<Str>,
     },
     Apply {
         file: Option<Str>,
@@ -27,6 +37,16 @@ pub enum Command {
         no_verify: bool,
         /// In seconds.
         timeout: u32,
+    },
+    Service {
+        dir: Str,
+    },
+    Rollout {
+        /// How many nodes it may hold at once, from `MIN_NODES` to `MAX_NODES`.
+        limit: u32,
+        file: Str,
+        /// The folder of each node, from `MIN_NODES` to `MAX_NODES` of them.
+        dirs: Items<Str>,
     },
     Commit,
     Rollback,

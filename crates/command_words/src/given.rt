@@ -13,7 +13,11 @@ const STANDARD_INPUT: &str = "-";
 fn reads_input(command: &str) -> bool
     ensures { result ≡ reads_input command.now }
 {
-    command == "apply" || command == "plan" || command == "init" || command == "script"
+    command == "apply"
+        || command == "plan"
+        || command == "simulate"
+        || command == "init"
+        || command == "script"
 }
 
 fn push_all<'w>(words: &'w [String], given: &mut Vec<&'w str>) -> Result<(), AllocError>

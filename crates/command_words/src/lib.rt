@@ -14,5 +14,5 @@ mod found;
 // The command of the words.
 mod words;
 
-pub use command::{Command, DEFAULT_TIMEOUT, MAX_DEVICES, MIN_DEVICES};
+pub use command::{Command, DEFAULT_TIMEOUT, MAX_DEVICES, MAX_NODES, MIN_DEVICES, MIN_NODES};
 pub use words::{command_of, lone};

@@ -1,6 +1,8 @@
 //! The command of the words.
-ghost use Rattle.std.specs.Prelude.{◌≡◌, ◌↔◌, None, map, string_bytes, IfOk, OnErr};
-ghost use Rattle.command_words.specs.Words.{lone_word, lone, by_clap, command_of, InRange, IsUsage};
+ghost use Rattle.std.specs.Prelude.{◌≡◌, ◌↔◌, None, codes, map, string_bytes, IfOk, OnErr};
+ghost use Rattle.std.specs.List.{list_any};
+ghost use Rattle.std.specs.Str.{bytes_eq};
+ghost use Rattle.command_words.specs.Words.{lone_word, lone, by_clap, is_escaped_rollout, unescaped, command_of, InRange, IsUsage};
 
 use crate::Command;
 use crate::found::command_found;
@@ -9,6 +11,9 @@ use crate::line::command_line;
 use base_model::OutOfMemory;
 use clap::error::ErrorKind;
 use std::alloc::Global;
+
+// The word after which no word is an option.
+const ESCAPE: &str = "--";
 
 /// The command of one word alone.
 pub(crate) fn lone_word(word: &str) -> Option<Command>
@@ -50,10 +55,47 @@ fn by_clap(alloc: Global, words: &[String]) -> Result<Option<Command>, OutOfMemo
     }
 }
 
+fn is_escape(word: &String) -> bool
+    ensures { result ≡ bytes_eq (string_bytes word.now) (codes "--") }
+{
+    word.as_str() == ESCAPE
+}
+
+fn any_escape(words: &[String]) -> bool
+    ensures { result ≡ list_any (λ word. bytes_eq (string_bytes word) (codes "--")) words.now }
+{
+    words.iter().any(|word| is_escape(word))
+}
+
+fn has_escape(words: &[String]) -> bool
+    ensures { result ≡ list_any (λ word. bytes_eq word (codes "--")) (map string_bytes words.now) }
+{
+    any_escape(words)
+}
+
+// Whether the words are a rollout's with `--` among them.
+fn is_escaped_rollout(words: &[String]) -> bool
+    ensures { result ≡ is_escaped_rollout (map string_bytes words.now) }
+{
+    match words.split_first() {
+        Some((command, rest)) => command.as_str() == "rollout" && has_escape(rest),
+        None => false,
+    }
+}
+
+fn unescaped(alloc: Global, words: &[String]) -> Result<Option<Command>, OutOfMemory>
+    ensures { IfOk result (λ command. command ≡ unescaped (map string_bytes words.now)) }
+{
+    if is_escaped_rollout(words) {
+        return Ok(None);
+    }
+    by_clap(alloc, words)
+}
+
 /// The command of the words after the program's name, or `None` where they are none.
 ///
-/// A `-` stands for standard input, as a FILE that is missing does. Memory is taken only for words that `lone` doesn't
-/// know.
+/// A `-` is taken out where a FILE may be missing, which is standard input then. A `rollout` with `--` among its words is no
+/// command. Memory is taken only for words that `lone` doesn't know.
 pub fn command_of(alloc: Global, words: &[String]) -> Result<Option<Command>, OutOfMemory>
     ensures command { IfOk result (λ command. command ≡ command_of (map string_bytes words.now)) }
     ensures range { IfOk result InRange }
@@ -62,6 +104,6 @@ pub fn command_of(alloc: Global, words: &[String]) -> Result<Option<Command>, Ou
 {
     match lone(words) {
         Some(command) => Ok(Some(command)),
-        None => by_clap(alloc, words),
+        None => unescaped(alloc, words),
     }
 }

@@ -15,7 +15,7 @@ use Rattle.top_model.specs.Causes.{MayWant}
 use Rattle.top_model.specs.Scripts.{Folded, EndsSteps, file_of, as_steps, GivesScript, KeepsFrom, ScriptAnswered}
 use Rattle.top_model.specs.declared.Step.{Step}
 use Rattle.top_model.specs.declared.report.Cause.{Cause}
-use Rattle.top_model.specs.declared.report.Cause.TheVariants.{DocRefused, Usage, BadLine, NoSuchName, ReadFault, OutOfMemory}
+use Rattle.top_model.specs.declared.report.Cause.TheVariants.{DocRefused, Usage, BadLine, BatchLine, BatchLarge, NoSuchName, ReadFault, OutOfMemory}
 use Rattle.top_model.proofs.lemmas.Stepping.{seven_ends, eight_ends}
 use Rattle.top_model.proofs.lemmas.Wanting.{lone_is}
 use Rattle.answer_text.specs.Speaking.{Spoken}
@@ -79,6 +79,8 @@ module _ (r : Run) (runs : List Timed → Type 0) (file : Option Text) (is : fil
     refused NoSuchName reads told = unrun reads.0 reads.1 (Err NoSuchName) reads.2 NoSuchName refl (told_refused r (Err NoSuchName) NoSuchName [] refl told)
     refused (DocRefused fault) reads told = unrun reads.0 reads.1 (Err (DocRefused fault)) reads.2 (DocRefused fault) refl (told_refused r (Err (DocRefused fault)) (DocRefused fault) [] refl told)
     refused (BadLine n) reads told = unrun reads.0 reads.1 (Err (BadLine n)) reads.2 (BadLine n) refl (told_refused r (Err (BadLine n)) (BadLine n) [] refl told)
+    refused (BatchLine n) reads told = unrun reads.0 reads.1 (Err (BatchLine n)) reads.2 (BatchLine n) refl (told_refused r (Err (BatchLine n)) (BatchLine n) [] refl told)
+    refused BatchLarge reads told = unrun reads.0 reads.1 (Err BatchLarge) reads.2 BatchLarge refl (told_refused r (Err BatchLarge) BatchLarge [] refl told)
     refused ReadFault reads told =
         unrun r.source.inputs (λ t. refl) (read r.source.inputs) refl ReadFault (keeps_unread (read r.source.inputs) reads.0 (reads.1 r.source.inputs)) (told_refused r (Err ReadFault) ReadFault [] refl told)
     refused OutOfMemory reads told =

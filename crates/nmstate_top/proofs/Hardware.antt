@@ -31,7 +31,7 @@ use Rattle.command_words.specs.Words.{command_of}
 use Rattle.command_words.specs.declared.Command.{Command}
 use Rattle.command_words.specs.declared.Command.TheVariants as command
 use Rattle.top_model.specs.Orders as model
-use Rattle.top_model.specs.Orders.{Text, Inputs, planning, applying, making, generating, with_fault, tree_of, hardware_of_tree, hardware_list, document, reprinted, reread, workload, generated_devices, generated_first, generated_second, generated, input, opts, order_named, order_of}
+use Rattle.top_model.specs.Orders.{Text, Inputs, planning, simulating, applying, making, generating, with_fault, tree_of, hardware_of_tree, hardware_list, document, calls_of, reprinted, reread, workload, generated_devices, generated_first, generated_second, generated, input, opts, order_named, order_of}
 use Rattle.top_model.specs.declared.report.DocFault.{DocFault}
 use Rattle.top_model.specs.declared.report.DocFault.TheVariants.{Schema}
 use Rattle.scenario_model.specs.Draws.{devices as devices_drawn}
@@ -40,7 +40,7 @@ use Rattle.document_model.specs.declared.Doc.{Doc}
 use Rattle.top_model.specs.declared.report.Cause.{Cause}
 use Rattle.order_reading.specs.Asked.{asked}
 use Rattle.order_reading.specs.declared.order.Order.{Order}
-use Rattle.order_reading.specs.declared.order.Order.TheVariants.{Show, Plan, Apply, Commit, Rollback, Recover, Check, Init, Generate}
+use Rattle.order_reading.specs.declared.order.Order.TheVariants.{Show, Plan, Simulate, Apply, Commit, Rollback, Recover, Check, Init, Generate}
 use Rattle.nmstate_top.specs.First.{is_hardware, has_hardware}
 
 -- ---- what holds of the value of a reading
@@ -388,7 +388,8 @@ module _ (in_script : Bool) (inputs : Inputs) where
   order_right : (c : Option Command) → IfOk (order_named in_script inputs c) RightOrder
   order_right None = tt
   order_right (Some (command.Show only json)) = tt
-  order_right (Some (command.Plan file)) = if_ok RightOrder (model.and_then (input in_script inputs file) document) (λ doc. Ok (planning doc)) (λ doc. tt)
+  order_right (Some (command.Plan file in_batch)) = if_ok RightOrder (model.and_then (input in_script inputs file) document) (λ doc. Ok (planning doc in_batch)) (λ doc. tt)
+  order_right (Some (command.Simulate file)) = if_ok RightOrder (model.and_then (input in_script inputs file) calls_of) (λ calls. Ok (simulating calls)) (λ calls. tt)
   order_right (Some (command.Apply file no_commit no_verify timeout)) =
       if_ok RightOrder (model.and_then (input in_script inputs file) document) (λ doc. Ok (applying doc (opts no_commit no_verify timeout))) (λ doc. tt)
   order_right (Some command.Commit) = tt
@@ -400,6 +401,8 @@ module _ (in_script : Bool) (inputs : Inputs) where
       (if_ok RightLinks (input in_script inputs file) hardware_list list_is) (λ links right. right)
   order_right (Some (command.Script file)) = tt
   order_right (Some (command.Generate count seed)) = generated_right count seed
+  order_right (Some (command.Service dir)) = tt
+  order_right (Some (command.Rollout limit file dirs)) = tt
 
   right_order : (words : List Text) (order : model.Order) → order_of in_script inputs words ≡ Ok order → RightOrder order
   right_order words order is = subst (λ (r : Result model.Order Cause). IfOk r RightOrder) is (order_right (command_of words))
@@ -407,7 +410,8 @@ module _ (in_script : Bool) (inputs : Inputs) where
   -- the links that the words give are a hardware list's
   pub hardware_right : (words : List Text) (order : Order) → order_of in_script inputs words ≡ Ok (asked order) → has_hardware order ≡ true
   hardware_right words (Show only json) is = refl
-  hardware_right words (Plan doc) is = refl
+  hardware_right words (Plan doc in_batch) is = refl
+  hardware_right words (Simulate calls) is = refl
   hardware_right words (Apply doc how) is = refl
   hardware_right words Commit is = refl
   hardware_right words Rollback is = refl

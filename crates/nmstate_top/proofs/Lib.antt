@@ -7,6 +7,7 @@ mod Untouched
 mod Refusals
 mod Files
 mod Looks
+mod Simulates
 mod Hardware
 mod Makes
 mod Merging

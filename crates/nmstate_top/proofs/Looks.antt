@@ -14,35 +14,39 @@ use Rattle.engine_model.specs.Stations.{Within, Only, Before, at}
 use Rattle.engine_model.specs.Faults.{IsOutcome, HadDamaged}
 use Rattle.engine_model.specs.declared.Left.TheVariants as left
 use Rattle.engine_model.proofs.lemmas.Leading.{alike_is, kept_stays}
-use Rattle.top_model.specs.Said.{Said, Says, printed, planned}
+use Rattle.top_model.specs.Said.{Said, Says, printed}
 use Rattle.top_model.specs.Orders.{Text, Inputs, Order, showing, planning, committing, rolling_back, recovering, notes_of, order_of}
-use Rattle.top_model.specs.Machine.{looked, plan_to, machine_of}
+use Rattle.top_model.specs.Machine.{looked, said_plan, plan_to, machine_of}
 use Rattle.top_model.specs.Texts.{error_line, note_lines}
 use Rattle.top_model.specs.Runs.{Run, entry, reads, left_at_exit, MayRead}
 use Rattle.top_model.specs.Told.{Answer, Told, ErrText}
 use Rattle.top_model.specs.Causes.{MayWant, MayAnswer, Comes, Expects, ExactlyOf}
 use Rattle.top_model.specs.Answered.{GoesOn, Answered}
 use Rattle.top_model.specs.declared.report.Cause.{Cause}
-use Rattle.top_model.specs.declared.report.Cause.TheVariants.{Done, MergeRefused, ReadFault, HostFault, Damaged, OutOfMemory}
+use Rattle.top_model.specs.declared.report.Cause.TheVariants.{Done, MergeRefused, CallRefused, ReadFault, HostFault, Damaged, OutOfMemory}
 use Rattle.top_model.proofs.lemmas.Wanting.{may_want_order}
 use Rattle.answer_text.specs.Speaking.{Spoken}
 use Rattle.answer_text.proofs.lemmas.Told.{err_noted, told_done, told_refused}
 use Rattle.nmstate_top.specs.Looked.{ChangesNothing, IsFound, Finds, Looked, HasText, LooksAs, TextOf}
 
-not_rolled : left.NotBegun ≢ left.RolledBack
+pub not_rolled : left.NotBegun ≢ left.RolledBack
 not_rolled e = cc
 
-abbrev says : Said → Answer
+abbrev pub says : Said → Answer
 says said = Ok said
 
-abbrev refuses : Cause → Answer
+abbrev pub refuses : Cause → Answer
 refuses cause = Err cause
 
-same_said : (a b : Said) → says a ≡ says b → a ≡ b
+pub same_said : (a b : Said) → says a ≡ says b → a ≡ b
 same_said a b e = cc
 
-said_refused : (said : Said) (cause : Cause) → says said ≡ refuses cause → ⊥
+pub said_refused : (said : Said) (cause : Cause) → says said ≡ refuses cause → ⊥
 said_refused said cause e = cc
+
+-- a plan refuses no call
+merge_call : (refused : Refused) (n k : ℕ) → refuses (MergeRefused refused) ≡ refuses (CallRefused n k) → ⊥
+merge_call refused n k e = cc
 
 same_refused : (a b : Refused) → refuses (MergeRefused a) ≡ refuses (MergeRefused b) → a ≡ b
 same_refused a b e = cc
@@ -59,14 +63,14 @@ showing_rolling_back only json e = cc
 showing_recovering : (only : Option Text) (json : Bool) → showing only json ≢ recovering
 showing_recovering only json e = cc
 
-planning_committing : (doc : Doc) → planning doc ≢ committing
-planning_committing doc e = cc
+planning_committing : (doc : Doc) (in_batch : Bool) → planning doc in_batch ≢ committing
+planning_committing doc in_batch e = cc
 
-planning_rolling_back : (doc : Doc) → planning doc ≢ rolling_back
-planning_rolling_back doc e = cc
+planning_rolling_back : (doc : Doc) (in_batch : Bool) → planning doc in_batch ≢ rolling_back
+planning_rolling_back doc in_batch e = cc
 
-planning_recovering : (doc : Doc) → planning doc ≢ recovering
-planning_recovering doc e = cc
+planning_recovering : (doc : Doc) (in_batch : Bool) → planning doc in_batch ≢ recovering
+planning_recovering doc in_batch e = cc
 
 -- nothing is changed where nothing is done
 pub unchanged : (tells : Type 0) (host : HostView) → ChangesNothing tells host host
@@ -95,6 +99,7 @@ module _ (r : Run) (order : Order) (notes : Text) (same : notes ≡ note_lines (
 pub text_as : (say other : NetData → Answer) (net : NetData) (result : Result (Vec ℕ Global) Cause) → other net ≡ say net → TextOf say net result → TextOf other net result
 text_as say other net (Ok text) same t = (t.0, same ∙ t.1, t.2)
 text_as say other net (Err (MergeRefused refused)) same t = same ∙ t
+text_as say other net (Err (CallRefused n k)) same t = same ∙ t
 text_as say other net (Err OutOfMemory) same t = tt
 text_as say other net (Err cause) same t = absurd t
 
@@ -110,6 +115,7 @@ module _ (tells honest : Type 0) (say : NetData → Answer) (old new : HostView)
   pub looks_text : (net : NetData) (result : Result (Vec ℕ Global) Cause) → Finds tells honest old new (Ok net) → TextOf say net result → LooksAs tells honest say old new result
   looks_text net (Ok text) f t = record { answer = Ok t.0; looked = (net, f, t.1); text = t.2 }
   looks_text net (Err (MergeRefused refused)) f t = record { answer = Err (MergeRefused refused); looked = (net, f, t); text = refl }
+  looks_text net (Err (CallRefused n k)) f t = record { answer = Err (CallRefused n k); looked = (net, f, t); text = refl }
   looks_text net (Err OutOfMemory) f t = record { answer = Err OutOfMemory; looked = tt; text = refl }
   looks_text net (Err cause) f t = absurd t
 
@@ -135,7 +141,7 @@ module _ (r : Run) (nothing : ChangesNothing r.host_tells r.host r.host_after) w
   reads_before t stands is = record { station = stands; is = is ∙ same_reads t; like = alike_is stands stands refl }
 
   -- where no network was found, none was there
-  had_damaged : IsLawfulHost r.host_tells r.host → (area : ℕ) → area ≡ 0 → (r.host_tells → r.host.state.net ≡ None) → r.host_tells → HadDamaged area r.host r.host_after
+  pub had_damaged : IsLawfulHost r.host_tells r.host → (area : ℕ) → area ≡ 0 → (r.host_tells → r.host.state.net ≡ None) → r.host_tells → HadDamaged area r.host r.host_after
   had_damaged lawful area is none t = record {
     pair = r.host.state;
     left = nothing.stops.keeps r.host.stops.moment r.host.state (omega arith) (lawful.stops.counts_now r.host.stops.moment r.host.state (omega arith) (lawful.reads t));
@@ -150,9 +156,10 @@ module _ (r : Run) (nothing : ChangesNothing r.host_tells r.host r.host_after) w
     of_found : (net : NetData) (answer : Answer) → IsFound r.host_tells r.honest r.host r.host_after net → say net ≡ answer → IsOutcome (machine_of r.now (Ok order) (reads r)) r.host_after answer
     of_found net answer found is = outcome answer (ap (λ (n : Option NetData). looked n say) (found.is h) ∙ is)
 
-    expects : (answer : Answer) → MayWant r → Looked r.host_tells r.honest say r.host r.host_after answer → Expects r (Ok order) answer
+    pub expects : (answer : Answer) → MayWant r → Looked r.host_tells r.honest say r.host r.host_after answer → Expects r (Ok order) answer
     expects (Ok said) want l = of_found l.0 (Ok said) l.1 l.2
     expects (Err (MergeRefused refused)) want l = of_found l.0 (Err (MergeRefused refused)) l.1 l.2
+    expects (Err (CallRefused n k)) want l = of_found l.0 (Err (CallRefused n k)) l.1 l.2
     expects (Err (HostFault left.NotBegun)) want l = l
     expects (Err (Damaged area)) want l = outcome (Err (Damaged area)) (ap (λ (n : Option NetData). looked n say) (l.1 t) ∙ ap (λ (a : ℕ). refuses (Damaged a)) (sym l.0))
     expects (Err OutOfMemory) want l = want
@@ -175,6 +182,7 @@ module _ (r : Run) (only : Option Text) (json : Bool) (nothing : ChangesNothing 
   show_comes : IsLawfulHost r.host_tells r.host → MayWant r → (answer : Answer) → Looked r.host_tells r.honest shows r.host r.host_after answer → Comes r (Ok (showing only json)) answer
   show_comes lawful want (Ok said) l = record { net = l.0; dumped = l.1.fresh; is_said = same_said said (printed only json l.0) (sym l.2) }
   show_comes lawful want (Err (MergeRefused refused)) l = absurd (said_refused (printed only json l.0) (MergeRefused refused) l.2)
+  show_comes lawful want (Err (CallRefused n k)) l = absurd (said_refused (printed only json l.0) (CallRefused n k) l.2)
   show_comes lawful want (Err (HostFault left.NotBegun)) l = (l, (nothing.state, not_rolled))
   show_comes lawful want (Err (Damaged area)) l = had_damaged r nothing lawful area l.0 l.1
   show_comes lawful want (Err OutOfMemory) l = want
@@ -183,6 +191,7 @@ module _ (r : Run) (only : Option Text) (json : Bool) (nothing : ChangesNothing 
   show_may : (answer : Answer) → Looked r.host_tells r.honest shows r.host r.host_after answer → MayAnswer (Ok (showing only json)) answer
   show_may (Ok said) l = tt
   show_may (Err (MergeRefused refused)) l = absurd (said_refused (printed only json l.0) (MergeRefused refused) l.2)
+  show_may (Err (CallRefused n k)) l = absurd (said_refused (printed only json l.0) (CallRefused n k) l.2)
   show_may (Err (HostFault left.NotBegun)) l = tt
   show_may (Err (Damaged area)) l = l.0
   show_may (Err OutOfMemory) l = tt
@@ -191,6 +200,7 @@ module _ (r : Run) (only : Option Text) (json : Bool) (nothing : ChangesNothing 
   show_exactly : (answer : Answer) → Looked r.host_tells r.honest shows r.host r.host_after answer → Expects r (Ok (showing only json)) answer → ExactlyOf r (Ok (showing only json)) answer
   show_exactly (Ok said) l is = is.answer
   show_exactly (Err (MergeRefused refused)) l is = is.answer
+  show_exactly (Err (CallRefused n k)) l is = is.answer
   show_exactly (Err (HostFault left.NotBegun)) l is = is
   show_exactly (Err (Damaged area)) l is = inr is.answer
   show_exactly (Err OutOfMemory) l is = is
@@ -219,52 +229,59 @@ module _ (r : Run) (only : Option Text) (json : Bool) (nothing : ChangesNothing 
 
 -- ---- plan
 
-module _ (r : Run) (doc : Doc) (nothing : ChangesNothing r.host_tells r.host r.host_after) where
+module _ (r : Run) (doc : Doc) (in_batch : Bool) (nothing : ChangesNothing r.host_tells r.host r.host_after) where
   abbrev plans : NetData → Answer
-  plans net = plan_to net (merge net doc)
+  plans net = plan_to in_batch net (merge net doc)
 
   -- a plan is to the merge
-  plan_says : (net : NetData) (merged : Result NetData Refused) (said : Said) → plan_to net merged ≡ Ok said → (to : NetData) × (merged ≡ Ok to) × (said ≡ planned net to)
-  plan_says net (Ok to) said is = (to, refl, same_said said (planned net to) (sym is))
+  plan_says : (net : NetData) (merged : Result NetData Refused) (said : Said) → plan_to in_batch net merged ≡ Ok said → (to : NetData) × (merged ≡ Ok to) × (said ≡ said_plan in_batch net to)
+  plan_says net (Ok to) said is = (to, refl, same_said said (said_plan in_batch net to) (sym is))
   plan_says net (Err refused) said is = absurd (said_refused said (MergeRefused refused) (sym is))
 
-  plan_breaks : (net : NetData) (merged : Result NetData Refused) (refused : Refused) → plan_to net merged ≡ Err (MergeRefused refused) → merged ≡ Err refused
-  plan_breaks net (Ok to) refused is = absurd (said_refused (planned net to) (MergeRefused refused) is)
+  plan_breaks : (net : NetData) (merged : Result NetData Refused) (refused : Refused) → plan_to in_batch net merged ≡ Err (MergeRefused refused) → merged ≡ Err refused
+  plan_breaks net (Ok to) refused is = absurd (said_refused (said_plan in_batch net to) (MergeRefused refused) is)
   plan_breaks net (Err broken) refused is = ap broken_by (same_refused broken refused is)
 
-  plan_comes : IsLawfulHost r.host_tells r.host → MayWant r → (answer : Answer) → Looked r.host_tells r.honest plans r.host r.host_after answer → Comes r (Ok (planning doc)) answer
+  plan_calls : (net : NetData) (merged : Result NetData Refused) (n k : ℕ) → plan_to in_batch net merged ≡ Err (CallRefused n k) → ⊥
+  plan_calls net (Ok to) n k is = said_refused (said_plan in_batch net to) (CallRefused n k) is
+  plan_calls net (Err broken) n k is = merge_call broken n k is
+
+  plan_comes : IsLawfulHost r.host_tells r.host → MayWant r → (answer : Answer) → Looked r.host_tells r.honest plans r.host r.host_after answer → Comes r (Ok (planning doc in_batch)) answer
   plan_comes lawful want (Ok said) l =
       let p = plan_says l.0 (merge l.0 doc) said l.2 in
       record { from = l.0; to = p.0; dumped = l.1.fresh; merges = p.1; is_said = p.2 }
   plan_comes lawful want (Err (MergeRefused refused)) l =
       (λ t. record { doc = doc; net = l.0; is_doc = refl; dumped = l.1.fresh t; broken = plan_breaks l.0 (merge l.0 doc) refused l.2 }, same_reads r nothing)
+  plan_comes lawful want (Err (CallRefused n k)) l = absurd (plan_calls l.0 (merge l.0 doc) n k l.2)
   plan_comes lawful want (Err (HostFault left.NotBegun)) l = (l, (nothing.state, not_rolled))
   plan_comes lawful want (Err (Damaged area)) l = had_damaged r nothing lawful area l.0 l.1
   plan_comes lawful want (Err OutOfMemory) l = want
   plan_comes lawful want (Err cause) l = absurd l
 
-  plan_may : (answer : Answer) → Looked r.host_tells r.honest plans r.host r.host_after answer → MayAnswer (Ok (planning doc)) answer
+  plan_may : (answer : Answer) → Looked r.host_tells r.honest plans r.host r.host_after answer → MayAnswer (Ok (planning doc in_batch)) answer
   plan_may (Ok said) l = tt
   plan_may (Err (MergeRefused refused)) l = tt
+  plan_may (Err (CallRefused n k)) l = absurd (plan_calls l.0 (merge l.0 doc) n k l.2)
   plan_may (Err (HostFault left.NotBegun)) l = tt
   plan_may (Err (Damaged area)) l = l.0
   plan_may (Err OutOfMemory) l = tt
   plan_may (Err cause) l = absurd l
 
-  plan_exactly : (answer : Answer) → Looked r.host_tells r.honest plans r.host r.host_after answer → Expects r (Ok (planning doc)) answer → ExactlyOf r (Ok (planning doc)) answer
+  plan_exactly : (answer : Answer) → Looked r.host_tells r.honest plans r.host r.host_after answer → Expects r (Ok (planning doc in_batch)) answer → ExactlyOf r (Ok (planning doc in_batch)) answer
   plan_exactly (Ok said) l is = is.answer
   plan_exactly (Err (MergeRefused refused)) l is = is.answer
+  plan_exactly (Err (CallRefused n k)) l is = is.answer
   plan_exactly (Err (HostFault left.NotBegun)) l is = is
   plan_exactly (Err (Damaged area)) l is = inr is.answer
   plan_exactly (Err OutOfMemory) l is = is
   plan_exactly (Err cause) l is = absurd l
 
   -- all that is said of a plan
-  pub plan_answered : (answer : Answer) → Looked r.host_tells r.honest plans r.host r.host_after answer → Ran r (planning doc) answer → Answered r
+  pub plan_answered : (answer : Answer) → Looked r.host_tells r.honest plans r.host r.host_after answer → Ran r (planning doc in_batch) answer → Answered r
   plan_answered answer l ran =
-      let want : MayWant r = may_want_order r ran.inputs (planning doc) ran.is (planning_committing doc) (planning_rolling_back doc) (planning_recovering doc) in
+      let want : MayWant r = may_want_order r ran.inputs (planning doc in_batch) ran.is (planning_committing doc in_batch) (planning_rolling_back doc in_batch) (planning_recovering doc in_batch) in
       record {
-        order = Ok (planning doc);
+        order = Ok (planning doc in_batch);
         gives = (ran.inputs, ran.may_read, ran.is);
         answer = answer;
         may = plan_may answer l;
@@ -272,8 +289,8 @@ module _ (r : Run) (doc : Doc) (nothing : ChangesNothing r.host_tells r.host r.h
         tried = tt;
         told = ran.told;
         goes_on = ran.goes_on;
-        exactly = λ honest. plan_exactly answer l (expects r nothing (planning doc) plans refl (ran.goes_on.tells honest) honest answer want l);
-        expects = λ a. expects r nothing (planning doc) plans refl (ran.goes_on.tells a.honest) a.honest answer want l;
+        exactly = λ honest. plan_exactly answer l (expects r nothing (planning doc in_batch) plans refl (ran.goes_on.tells honest) honest answer want l);
+        expects = λ a. expects r nothing (planning doc in_batch) plans refl (ran.goes_on.tells a.honest) a.honest answer want l;
         leaves = λ a. left_before r nothing;
         reads_as = λ a. reads_before r nothing (ran.goes_on.tells a.honest);
         kept = λ a. kept_stays _ r.host r.host_after a.sound nothing.stops;

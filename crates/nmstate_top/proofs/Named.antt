@@ -2,12 +2,13 @@
 use Rattle.std.proofs.Common.{◌≡◌, ◌∙◌, ℕ, refl, sym, ap, subst, Bool, true, false, List, Option, Some, None}
 use Rattle.std.specs.Prelude.{◌&&◌, Result, Ok, Err}
 use Rattle.net_model.specs.declared.Link.{Link}
+use Rattle.net_model.specs.declared.Call.{Call}
 use Rattle.document_model.specs.declared.Doc.{Doc}
 use Rattle.engine_model.specs.declared.ApplyOpts.{ApplyOpts}
 use Rattle.command_words.specs.Words.{command_of}
 use Rattle.command_words.specs.declared.Command.{Command}
-use Rattle.command_words.specs.declared.Command.TheVariants.{Show, Plan, Apply, Commit, Rollback, Recover, Check, Init, Script, Generate}
-use Rattle.top_model.specs.Orders.{Inputs, Order, planning, applying, committing, making, generating, and_then, input, document, hardware_list, workload, generated_devices, generated_first, generated_second, generated, opts, order_named, order_of, Text}
+use Rattle.command_words.specs.declared.Command.TheVariants.{Show, Plan, Simulate, Apply, Commit, Rollback, Recover, Check, Init, Script, Generate, Service, Rollout}
+use Rattle.top_model.specs.Orders.{Inputs, Order, planning, simulating, applying, committing, making, generating, and_then, input, document, hardware_list, calls_of, workload, generated_devices, generated_first, generated_second, generated, opts, order_named, order_of, Text}
 use Rattle.order_reading.specs.declared.order.Order.{Order as Asked}
 use Rattle.order_reading.specs.declared.order.Order.TheVariants as asked_as
 use Rattle.order_reading.specs.Asked.{asked, file_read}
@@ -17,9 +18,13 @@ use Rattle.nmstate_top.specs.Worked.{works_apart}
 abbrev asks : Order → Result Order Cause
 asks order = Ok order
 
-no_plan : (x : Result Doc Cause) → and_then x (λ doc. asks (planning doc)) ≡ asks committing → ⊥
-no_plan (Ok doc) e = cc
-no_plan (Err c) e = cc
+no_plan : (in_batch : Bool) (x : Result Doc Cause) → and_then x (λ doc. asks (planning doc in_batch)) ≡ asks committing → ⊥
+no_plan in_batch (Ok doc) e = cc
+no_plan in_batch (Err c) e = cc
+
+no_simulate : (x : Result (List Call) Cause) → and_then x (λ calls. asks (simulating calls)) ≡ asks committing → ⊥
+no_simulate (Ok calls) e = cc
+no_simulate (Err c) e = cc
 
 no_apply : (how : ApplyOpts) (x : Result Doc Cause) → and_then x (λ doc. asks (applying doc how)) ≡ asks committing → ⊥
 no_apply how (Ok doc) e = cc
@@ -42,7 +47,8 @@ no_generate count seed e = no_works (generated_devices count seed) (generated_fi
 pub commit_named : (in_script : Bool) (inputs : Inputs) (command : Option Command) → order_named in_script inputs command ≡ asks committing → command ≡ Some Commit
 commit_named in_script inputs None e = cc
 commit_named in_script inputs (Some (Show only json)) e = cc
-commit_named in_script inputs (Some (Plan file)) e = absurd (no_plan (and_then (input in_script inputs file) document) e)
+commit_named in_script inputs (Some (Plan file in_batch)) e = absurd (no_plan in_batch (and_then (input in_script inputs file) document) e)
+commit_named in_script inputs (Some (Simulate file)) e = absurd (no_simulate (and_then (input in_script inputs file) calls_of) e)
 commit_named in_script inputs (Some (Apply file no_commit no_verify timeout)) e = absurd (no_apply (opts no_commit no_verify timeout) (and_then (input in_script inputs file) document) e)
 commit_named in_script inputs (Some Commit) e = refl
 commit_named in_script inputs (Some Rollback) e = cc
@@ -51,6 +57,8 @@ commit_named in_script inputs (Some Check) e = cc
 commit_named in_script inputs (Some (Init file)) e = absurd (no_init (and_then (input in_script inputs file) hardware_list) e)
 commit_named in_script inputs (Some (Script file)) e = cc
 commit_named in_script inputs (Some (Generate count seed)) e = absurd (no_generate count seed e)
+commit_named in_script inputs (Some (Service dir)) e = cc
+commit_named in_script inputs (Some (Rollout limit file dirs)) e = cc
 
 abbrev IsWork : Order → Type 0
 IsWork (generating devices first second) = Unit {0}

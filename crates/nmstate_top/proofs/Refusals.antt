@@ -10,7 +10,7 @@ use Rattle.top_model.specs.Texts.{error_line}
 use Rattle.top_model.specs.Runs.{Run}
 use Rattle.top_model.specs.Answered.{GoesOn, Answered}
 use Rattle.top_model.specs.declared.report.Cause.{Cause}
-use Rattle.top_model.specs.declared.report.Cause.TheVariants.{DocRefused, Usage, BadLine, NoSuchName, ReadFault, OutOfMemory}
+use Rattle.top_model.specs.declared.report.Cause.TheVariants.{DocRefused, Usage, BadLine, BatchLine, BatchLarge, NoSuchName, ReadFault, OutOfMemory}
 use Rattle.top_model.proofs.lemmas.Wanting.{may_want_words}
 use Rattle.answer_text.specs.Speaking.{Spoken}
 use Rattle.answer_text.proofs.lemmas.Told.{told_refused}
@@ -40,6 +40,10 @@ module _ (r : Run) (untouched : r.untouched) (goes_on : GoesOn (still r)) where
       refused r untouched goes_on (DocRefused fault) reads refl (record { answer = refl; after = refl }) (told_refused (still r) (Err (DocRefused fault)) (DocRefused fault) [] refl told)
   refusing (BadLine n) reads file memory told =
       refused r untouched goes_on (BadLine n) reads refl (record { answer = refl; after = refl }) (told_refused (still r) (Err (BadLine n)) (BadLine n) [] refl told)
+  refusing (BatchLine n) reads file memory told =
+      refused r untouched goes_on (BatchLine n) reads refl (record { answer = refl; after = refl }) (told_refused (still r) (Err (BatchLine n)) (BatchLine n) [] refl told)
+  refusing BatchLarge reads file memory told =
+      refused r untouched goes_on BatchLarge reads refl (record { answer = refl; after = refl }) (told_refused (still r) (Err BatchLarge) BatchLarge [] refl told)
   refusing ReadFault reads file memory told =
       unread r untouched goes_on order (r.source.inputs, λ t. refl, refl) reads.0 (reads_input r.in_script r.source.inputs (command_of r.words) (file refl)) (reads.1 r.source.inputs)
       (told_refused (still r) order ReadFault [] refl told)

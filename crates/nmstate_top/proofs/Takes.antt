@@ -2,6 +2,10 @@
 use Rattle.std.proofs.Common.{◌≡◌, ◌∙◌, ◌⊎◌, inl, inr, refl, sym, ap, subst, Bool, true, false, List, Option, Some, None, Ok, Err}
 use Rattle.std.specs.Prelude.{if◌then◌else◌, take, unwrap_or, Result}
 use Rattle.net_model.specs.declared.Link.{Link}
+use Rattle.net_model.specs.declared.Call.{Call}
+use Rattle.ip_batch.specs.Reader.{batch_of}
+use Rattle.ip_batch.specs.declared.BatchFault.{BatchFault}
+use Rattle.ip_batch.specs.declared.BatchFault.TheVariants as batch
 use Rattle.document_model.specs.declared.Doc.{Doc}
 use Rattle.doc_tree.specs.Shape.{Shape}
 use Rattle.doc_tree.specs.JsonTree.{json_tree}
@@ -9,12 +13,12 @@ use Rattle.yaml_read.specs.Reading.{reading}
 use Rattle.host_core.specs.Streams.{SourceView, SinkView}
 use Rattle.command_words.specs.Words.{command_of}
 use Rattle.command_words.specs.declared.Command.{Command}
-use Rattle.command_words.specs.declared.Command.TheVariants.{Show, Plan, Apply, Commit, Rollback, Recover, Check, Init, Script, Generate}
+use Rattle.command_words.specs.declared.Command.TheVariants.{Show, Plan, Simulate, Apply, Commit, Rollback, Recover, Check, Init, Script, Generate, Service, Rollout}
 use Rattle.order_reading.specs.Asked.{TakesFile, asked}
 use Rattle.order_reading.specs.Reading.{Reads}
 use Rattle.order_reading.specs.declared.order.Order.{Order as Asked}
 use Rattle.answer_text.specs.Speaking.{Spoken}
-use Rattle.top_model.specs.Orders.{Text, Inputs, Order, planning, applying, making, read_limit, stdin, found, input, and_then, with_fault, begins_json, tree_of, document, document_of_tree, hardware_list, hardware_of_tree, opts, order_named, order_of}
+use Rattle.top_model.specs.Orders.{Text, Inputs, Order, planning, simulating, applying, making, read_limit, stdin, found, input, and_then, with_fault, begins_json, tree_of, document, document_of_tree, with_batch, calls_of, hardware_list, hardware_of_tree, opts, order_named, order_of}
 use Rattle.top_model.specs.Runs.{Run}
 use Rattle.top_model.specs.Taking.{read_there, file_read, TakesAsked, TakesOnly}
 use Rattle.top_model.specs.Texts.{status_of}
@@ -22,7 +26,7 @@ use Rattle.top_model.specs.declared.report.DocFault.{DocFault}
 use Rattle.top_model.specs.declared.report.DocFault.TheVariants.{Json, Yaml, Schema}
 use Rattle.top_model.specs.declared.report.Report.{Report}
 use Rattle.top_model.specs.declared.report.Cause.{Cause}
-use Rattle.top_model.specs.declared.report.Cause.TheVariants.{DocRefused, Usage, BadLine, NoSuchName, ReadFault, WriteFault, OutOfMemory}
+use Rattle.top_model.specs.declared.report.Cause.TheVariants.{DocRefused, Usage, BadLine, BatchLine, BatchLarge, NoSuchName, ReadFault, WriteFault, OutOfMemory}
 
 -- what was asked for was taken
 pub takes_asked : (tells untouched : Type 0) (old new : SourceView) → (untouched → new ≡ old) → (file : Option (Option Text)) (order : Asked) → TakesFile untouched tells old new file (Ok order) → TakesAsked tells old new file
@@ -52,41 +56,53 @@ same_file a b e = cc
 usage_no_name : Usage ≡ NoSuchName → ⊥
 usage_no_name e = cc
 
-abbrev IsDocument : Cause → Type 0
-IsDocument (DocRefused fault) = Unit {0}
-IsDocument c = ⊥
+abbrev IsOfBytes : Cause → Type 0
+IsOfBytes (DocRefused fault) = Unit {0}
+IsOfBytes (BatchLine n) = Unit {0}
+IsOfBytes BatchLarge = Unit {0}
+IsOfBytes OutOfMemory = Unit {0}
+IsOfBytes c = ⊥
 
-of_fault : (A E : Type 0) (fault : E → DocFault) (x : Result A E) (c : Cause) → with_fault fault x ≡ errs A c → IsDocument c
+of_fault : (A E : Type 0) (fault : E → DocFault) (x : Result A E) (c : Cause) → with_fault fault x ≡ errs A c → IsOfBytes c
 of_fault A E fault (Ok x) c is = absurd (ok_err A x c is)
-of_fault A E fault (Err e) c is = subst IsDocument (same_cause A (DocRefused (fault e)) c is) tt
+of_fault A E fault (Err e) c is = subst IsOfBytes (same_cause A (DocRefused (fault e)) c is) tt
 
-of_both : (A B : Type 0) (x : Result A Cause) (next : A → Result B Cause) → ((c : Cause) → x ≡ errs A c → IsDocument c) → ((a : A) (c : Cause) → next a ≡ errs B c → IsDocument c)
-    → (c : Cause) → and_then x next ≡ errs B c → IsDocument c
+of_both : (A B : Type 0) (x : Result A Cause) (next : A → Result B Cause) → ((c : Cause) → x ≡ errs A c → IsOfBytes c) → ((a : A) (c : Cause) → next a ≡ errs B c → IsOfBytes c)
+    → (c : Cause) → and_then x next ≡ errs B c → IsOfBytes c
 of_both A B (Ok a) next first second c is = second a c is
-of_both A B (Err e) next first second c is = subst IsDocument (same_cause B e c is) (first e refl)
+of_both A B (Err e) next first second c is = subst IsOfBytes (same_cause B e c is) (first e refl)
 
-of_either : (bytes : Text) (json : Bool) (c : Cause) → (if json then with_fault Json (json_tree bytes) else with_fault Yaml (reading bytes)) ≡ errs Shape c → IsDocument c
+of_either : (bytes : Text) (json : Bool) (c : Cause) → (if json then with_fault Json (json_tree bytes) else with_fault Yaml (reading bytes)) ≡ errs Shape c → IsOfBytes c
 of_either bytes true c is = of_fault Shape _ Json (json_tree bytes) c is
 of_either bytes false c is = of_fault Shape _ Yaml (reading bytes) c is
 
-of_tree : (bytes : Text) (c : Cause) → tree_of bytes ≡ errs Shape c → IsDocument c
+of_tree : (bytes : Text) (c : Cause) → tree_of bytes ≡ errs Shape c → IsOfBytes c
 unfolding tree_of
 of_tree bytes c is = of_either bytes (begins_json bytes) c is
 
-of_document : (bytes : Text) (c : Cause) → document bytes ≡ errs Doc c → IsDocument c
+of_document : (bytes : Text) (c : Cause) → document bytes ≡ errs Doc c → IsOfBytes c
 unfolding document
 of_document bytes c is = of_both Shape Doc (tree_of bytes) (λ tree. with_fault Schema (document_of_tree tree)) (of_tree bytes) (λ tree. of_fault Doc _ Schema (document_of_tree tree)) c is
 
-of_hardware : (bytes : Text) (c : Cause) → hardware_list bytes ≡ errs (List Link) c → IsDocument c
+of_hardware : (bytes : Text) (c : Cause) → hardware_list bytes ≡ errs (List Link) c → IsOfBytes c
 unfolding hardware_list
 of_hardware bytes c is = of_both Shape (List Link) (tree_of bytes) (λ tree. with_fault Schema (hardware_of_tree tree)) (of_tree bytes) (λ tree. of_fault (List Link) _ Schema (hardware_of_tree tree)) c is
 
+of_batch : (x : Result (List Call) BatchFault) (c : Cause) → with_batch x ≡ errs (List Call) c → IsOfBytes c
+of_batch (Ok calls) c is = absurd (ok_err (List Call) calls c is)
+of_batch (Err (batch.Line n)) c is = subst IsOfBytes (same_cause (List Call) (BatchLine n) c is) tt
+of_batch (Err batch.TooLarge) c is = subst IsOfBytes (same_cause (List Call) BatchLarge c is) tt
+of_batch (Err batch.OutOfMemory) c is = subst IsOfBytes (same_cause (List Call) OutOfMemory c is) tt
+
+of_calls : (bytes : Text) (c : Cause) → calls_of bytes ≡ errs (List Call) c → IsOfBytes c
+of_calls bytes c is = of_batch (batch_of bytes) c is
+
 -- what an input holds is refused, or there is no such name
 abbrev IsUnmade : Inputs → Option Text → Cause → Type 0
-IsUnmade inputs file c = IsDocument c ⊎ ((c ≡ NoSuchName) × (inputs (unwrap_or file stdin) ≡ None))
+IsUnmade inputs file c = IsOfBytes c ⊎ ((c ≡ NoSuchName) × (inputs (unwrap_or file stdin) ≡ None))
 
-module _ (A : Type 0) (make : Text → Result A Cause) (makes : (bytes : Text) (c : Cause) → make bytes ≡ errs A c → IsDocument c) where
-  of_found : (bytes : Option Text) (c : Cause) → and_then (found bytes) make ≡ errs A c → IsDocument c ⊎ ((c ≡ NoSuchName) × (bytes ≡ None))
+module _ (A : Type 0) (make : Text → Result A Cause) (makes : (bytes : Text) (c : Cause) → make bytes ≡ errs A c → IsOfBytes c) where
+  of_found : (bytes : Option Text) (c : Cause) → and_then (found bytes) make ≡ errs A c → IsOfBytes c ⊎ ((c ≡ NoSuchName) × (bytes ≡ None))
   of_found None c is = inr (sym (same_cause A NoSuchName c is), refl)
   of_found (Some bytes) c is = inl (makes (take read_limit bytes) c is)
 
@@ -105,8 +121,11 @@ named_refused : (in_script : Bool) (inputs : Inputs) (command : Option Command) 
     → (c : Cause) → order_named in_script inputs command ≡ errs Order c → IsUnmade inputs file c
 named_refused in_script inputs None file there c is = absurd (none_some file there)
 named_refused in_script inputs (Some (Show only json)) file there c is = absurd (none_some file there)
-named_refused in_script inputs (Some (Plan name)) file there c is =
-    of_input Doc document of_document in_script inputs name file there c (of_order Doc document of_document (and_then (input in_script inputs name) document) planning c is)
+named_refused in_script inputs (Some (Plan name in_batch)) file there c is =
+    of_input Doc document of_document in_script inputs name file there c
+    (of_order Doc document of_document (and_then (input in_script inputs name) document) (λ doc. planning doc in_batch) c is)
+named_refused in_script inputs (Some (Simulate name)) file there c is =
+    of_input (List Call) calls_of of_calls in_script inputs name file there c (of_order (List Call) calls_of of_calls (and_then (input in_script inputs name) calls_of) simulating c is)
 named_refused in_script inputs (Some (Apply name no_commit no_verify timeout)) file there c is =
     of_input Doc document of_document in_script inputs name file there c
     (of_order Doc document of_document (and_then (input in_script inputs name) document) (λ doc. applying doc (opts no_commit no_verify timeout)) c is)
@@ -118,6 +137,8 @@ named_refused in_script inputs (Some (Init name)) file there c is =
     of_input (List Link) hardware_list of_hardware in_script inputs name file there c (of_order (List Link) hardware_list of_hardware (and_then (input in_script inputs name) hardware_list) making c is)
 named_refused in_script inputs (Some (Script name)) file there c is = absurd (none_some file there)
 named_refused in_script inputs (Some (Generate count seed)) file there c is = absurd (none_some file there)
+named_refused in_script inputs (Some (Service dir)) file there c is = absurd (none_some file there)
+named_refused in_script inputs (Some (Rollout limit name dirs)) file there c is = absurd (none_some file there)
 
 -- ---- of a run that was refused
 
@@ -151,6 +172,8 @@ module _ (r : Run) (untouched : Type 0) where
       inr (inl (λ t. ap (λ (inputs : Inputs). inputs (unwrap_or file stdin)) (sym (reads.1 t)) ∙ no_name reads.0 file (named_refused r.in_script reads.0 (command_of r.words) file there NoSuchName reads.2)))
   of_file file there (DocRefused fault) taken reads told = inl taken
   of_file file there (BadLine n) taken reads told = inl taken
+  of_file file there (BatchLine n) taken reads told = inl taken
+  of_file file there BatchLarge taken reads told = inl taken
   of_file file there ReadFault taken reads told = inr (inr (inl reads.0))
   of_file file there OutOfMemory taken reads told = inr (inr (inr told))
   of_file file there c taken reads told = absurd reads

@@ -3,6 +3,7 @@ use Rattle.std.proofs.Common.{◌≡◌, ◌∙◌, inl, inr, refl, sym, ap, Boo
 use Rattle.std.specs.Prelude.{◌≢◌, ℕ, true, false, List, IsSome, Result, Ok, Err}
 use Rattle.net_model.specs.NetData.{NetData}
 use Rattle.net_model.specs.declared.Link.{Link}
+use Rattle.net_model.specs.declared.Call.{Call}
 use Rattle.document_model.specs.declared.Doc.{Doc}
 use Rattle.host_core.specs.HostView.{IsLawfulHost}
 use Rattle.host_core.proofs.lemmas.Moments.{stays}
@@ -12,10 +13,10 @@ use Rattle.engine_model.specs.Stations.{Stands, Entry, Near, Within, Before, Onl
 use Rattle.engine_model.specs.declared.ApplyOpts.{ApplyOpts}
 use Rattle.engine_model.proofs.lemmas.Leading.{kept_stays, near_wider}
 use Rattle.command_words.specs.declared.Command.{Command}
-use Rattle.command_words.specs.declared.Command.TheVariants.{Show, Plan, Apply, Commit, Rollback, Recover, Check, Init, Script, Generate}
+use Rattle.command_words.specs.declared.Command.TheVariants.{Show, Plan, Simulate, Apply, Commit, Rollback, Recover, Check, Init, Script, Generate, Service, Rollout}
 use Rattle.order_reading.specs.Asked.{file_read}
 use Rattle.top_model.specs.Said.{Said}
-use Rattle.top_model.specs.Orders.{Inputs, Order, showing, planning, applying, committing, rolling_back, recovering, checking, making, generating, and_then, input, document, hardware_list, opts, order_named}
+use Rattle.top_model.specs.Orders.{Inputs, Order, showing, planning, simulating, applying, committing, rolling_back, recovering, checking, making, generating, and_then, input, document, hardware_list, calls_of, opts, order_named}
 use Rattle.top_model.specs.Runs.{Run, Gives, Alone, SourceRose, HostRose, HostRoseTwice, reads, entry, left_at_exit}
 use Rattle.top_model.specs.Told.{Answer, Told}
 use Rattle.top_model.specs.Causes.{MayWant, Refuses, MayAnswer, Comes, Expects, ExactlyOf}
@@ -34,7 +35,8 @@ still r = record r { host_after = r.host }
 
 abbrev pub ReadsInput : Result Order Cause → Type 0
 ReadsInput (Ok (showing only json)) = ⊥
-ReadsInput (Ok (planning doc)) = Unit {0}
+ReadsInput (Ok (planning doc in_batch)) = Unit {0}
+ReadsInput (Ok (simulating calls)) = Unit {0}
 ReadsInput (Ok (applying doc how)) = Unit {0}
 ReadsInput (Ok committing) = ⊥
 ReadsInput (Ok rolling_back) = ⊥
@@ -47,9 +49,13 @@ ReadsInput (Err refusal) = Unit {0}
 abbrev asks : Order → Result Order Cause
 asks order = Ok order
 
-plans : (x : Result Doc Cause) → ReadsInput (and_then x (λ doc. asks (planning doc)))
-plans (Ok doc) = tt
-plans (Err c) = tt
+plans : (in_batch : Bool) (x : Result Doc Cause) → ReadsInput (and_then x (λ doc. asks (planning doc in_batch)))
+plans in_batch (Ok doc) = tt
+plans in_batch (Err c) = tt
+
+simulates : (x : Result (List Call) Cause) → ReadsInput (and_then x (λ calls. asks (simulating calls)))
+simulates (Ok calls) = tt
+simulates (Err c) = tt
 
 applies : (how : ApplyOpts) (x : Result Doc Cause) → ReadsInput (and_then x (λ doc. asks (applying doc how)))
 applies how (Ok doc) = tt
@@ -66,7 +72,8 @@ never e = cc
 pub reads_input : (in_script : Bool) (inputs : Inputs) (command : Option Command) → IsSome (file_read in_script command) → ReadsInput (order_named in_script inputs command)
 reads_input in_script inputs None file = tt
 reads_input in_script inputs (Some (Show only json)) file = absurd (never file)
-reads_input in_script inputs (Some (Plan name)) file = plans (and_then (input in_script inputs name) document)
+reads_input in_script inputs (Some (Plan name in_batch)) file = plans in_batch (and_then (input in_script inputs name) document)
+reads_input in_script inputs (Some (Simulate name)) file = simulates (and_then (input in_script inputs name) calls_of)
 reads_input in_script inputs (Some (Apply name no_commit no_verify timeout)) file = applies (opts no_commit no_verify timeout) (and_then (input in_script inputs name) document)
 reads_input in_script inputs (Some Commit) file = absurd (never file)
 reads_input in_script inputs (Some Rollback) file = absurd (never file)
@@ -75,6 +82,8 @@ reads_input in_script inputs (Some Check) file = absurd (never file)
 reads_input in_script inputs (Some (Init name)) file = makes (and_then (input in_script inputs name) hardware_list)
 reads_input in_script inputs (Some (Script name)) file = tt
 reads_input in_script inputs (Some (Generate count seed)) file = absurd (never file)
+reads_input in_script inputs (Some (Service dir)) file = tt
+reads_input in_script inputs (Some (Rollout limit name dirs)) file = tt
 
 -- ---- what stops leave
 
@@ -88,7 +97,8 @@ module _ (now : ℕ) (entry : Entry) (left : Stands) (within : Within left (Befo
 
   exit_memory : (order : Result Order Cause) → AtExit now entry left rose twice order (Err OutOfMemory)
   exit_memory (Ok (showing only json)) = within
-  exit_memory (Ok (planning doc)) = within
+  exit_memory (Ok (planning doc in_batch)) = within
+  exit_memory (Ok (simulating calls)) = within
   exit_memory (Ok (applying doc how)) = inl within
   exit_memory (Ok committing) = within
   exit_memory (Ok rolling_back) = more _ (λ s is. inl is)
@@ -100,7 +110,8 @@ module _ (now : ℕ) (entry : Entry) (left : Stands) (within : Within left (Befo
 
   exit_unread : (order : Result Order Cause) → ReadsInput order → AtExit now entry left rose twice order (Err ReadFault)
   exit_unread (Ok (showing only json)) file = absurd file
-  exit_unread (Ok (planning doc)) file = within
+  exit_unread (Ok (planning doc in_batch)) file = within
+  exit_unread (Ok (simulating calls)) file = within
   exit_unread (Ok (applying doc how)) file = within
   exit_unread (Ok committing) file = absurd file
   exit_unread (Ok rolling_back) file = absurd file
@@ -118,7 +129,8 @@ ok_err said c e = cc
 kept : (r : Run) (order : Result Order Cause) (c : Cause) → Rests r order → KeptBy (still r) order (Err c)
 kept r (Ok (making links)) c rests = record { during = inl (stays r.host.stops); sound = λ clear sound. sound; made = λ said e. absurd (ok_err said c e) }
 kept r (Ok (showing only json)) c rests = kept_stays (Reaches r.now (entry r) (Ok (showing only json))) r.host r.host rests.sound (stays r.host.stops)
-kept r (Ok (planning doc)) c rests = kept_stays (Reaches r.now (entry r) (Ok (planning doc))) r.host r.host rests.sound (stays r.host.stops)
+kept r (Ok (planning doc in_batch)) c rests = kept_stays (Reaches r.now (entry r) (Ok (planning doc in_batch))) r.host r.host rests.sound (stays r.host.stops)
+kept r (Ok (simulating calls)) c rests = kept_stays (Reaches r.now (entry r) (Ok (simulating calls))) r.host r.host rests.sound (stays r.host.stops)
 kept r (Ok (applying doc how)) c rests = kept_stays (Reaches r.now (entry r) (Ok (applying doc how))) r.host r.host rests.sound (stays r.host.stops)
 kept r (Ok committing) c rests = kept_stays (Reaches r.now (entry r) (Ok committing)) r.host r.host rests.sound (stays r.host.stops)
 kept r (Ok rolling_back) c rests = kept_stays (Reaches r.now (entry r) (Ok rolling_back)) r.host r.host rests.sound (stays r.host.stops)
@@ -145,7 +157,8 @@ leaves_alone r lawful tells alone from to stood s left =
 spares : (r : Run) (order : Result Order Cause) (answer : Answer) → IsLawfulHost r.host_tells r.host → (r.honest → r.host_tells) → Rests r order → Spares (still r) order answer
 spares r (Ok (applying doc how)) answer lawful tells rests = λ from to stood merges quiet other. leaves_alone r lawful tells rests from to stood
 spares r (Ok (showing only json)) answer lawful tells rests = tt
-spares r (Ok (planning doc)) answer lawful tells rests = tt
+spares r (Ok (planning doc in_batch)) answer lawful tells rests = tt
+spares r (Ok (simulating calls)) answer lawful tells rests = tt
 spares r (Ok committing) answer lawful tells rests = tt
 spares r (Ok rolling_back) answer lawful tells rests = tt
 spares r (Ok recovering) answer lawful tells rests = tt
@@ -162,7 +175,8 @@ alone r a = record { honest = a.honest; sound = a.sound }
 rests_still : (r : Run) (order : Result Order Cause) → Rests (still r) order → Rests r order
 rests_still r (Ok (making links)) rests = rests
 rests_still r (Ok (showing only json)) rests = alone r rests
-rests_still r (Ok (planning doc)) rests = alone r rests
+rests_still r (Ok (planning doc in_batch)) rests = alone r rests
+rests_still r (Ok (simulating calls)) rests = alone r rests
 rests_still r (Ok (applying doc how)) rests = alone r rests
 rests_still r (Ok committing) rests = alone r rests
 rests_still r (Ok rolling_back) rests = alone r rests
@@ -175,7 +189,8 @@ rests_still r (Err refusal) rests = alone r rests
 
 may_memory : (order : Result Order Cause) → MayAnswer order (Err OutOfMemory)
 may_memory (Ok (showing only json)) = tt
-may_memory (Ok (planning doc)) = tt
+may_memory (Ok (planning doc in_batch)) = tt
+may_memory (Ok (simulating calls)) = tt
 may_memory (Ok (applying doc how)) = tt
 may_memory (Ok committing) = tt
 may_memory (Ok rolling_back) = tt
@@ -187,7 +202,8 @@ may_memory (Err refusal) = tt
 
 may_unread : (order : Result Order Cause) → ReadsInput order → MayAnswer order (Err ReadFault)
 may_unread (Ok (showing only json)) file = absurd file
-may_unread (Ok (planning doc)) file = tt
+may_unread (Ok (planning doc in_batch)) file = tt
+may_unread (Ok (simulating calls)) file = tt
 may_unread (Ok (applying doc how)) file = tt
 may_unread (Ok committing) file = absurd file
 may_unread (Ok rolling_back) file = absurd file
@@ -211,7 +227,8 @@ comes_unread r (Err refusal) untouched rose other = (untouched, (rose, λ is. ot
 -- nothing was tried
 tried_memory : (r : Run) (order : Result Order Cause) → Tried (still r) order (Err OutOfMemory)
 tried_memory r (Ok (showing only json)) = tt
-tried_memory r (Ok (planning doc)) = tt
+tried_memory r (Ok (planning doc in_batch)) = tt
+tried_memory r (Ok (simulating calls)) = tt
 tried_memory r (Ok (applying doc how)) = tt
 tried_memory r (Ok committing) = tt
 tried_memory r (Ok rolling_back) = tt
@@ -223,7 +240,8 @@ tried_memory r (Err refusal) = tt
 
 tried_unread : (r : Run) (order : Result Order Cause) → Tried (still r) order (Err ReadFault)
 tried_unread r (Ok (showing only json)) = tt
-tried_unread r (Ok (planning doc)) = tt
+tried_unread r (Ok (planning doc in_batch)) = tt
+tried_unread r (Ok (simulating calls)) = tt
 tried_unread r (Ok (applying doc how)) = tt
 tried_unread r (Ok committing) = tt
 tried_unread r (Ok rolling_back) = tt
@@ -235,7 +253,8 @@ tried_unread r (Err refusal) = tt
 
 exactly_memory : (r : Run) (order : Result Order Cause) → MayWant r → ExactlyOf (still r) order (Err OutOfMemory)
 exactly_memory r (Ok (showing only json)) wants = record { commit = wants.commit; rollback = wants.rollback; recover = wants.recover }
-exactly_memory r (Ok (planning doc)) wants = record { commit = wants.commit; rollback = wants.rollback; recover = wants.recover }
+exactly_memory r (Ok (planning doc in_batch)) wants = record { commit = wants.commit; rollback = wants.rollback; recover = wants.recover }
+exactly_memory r (Ok (simulating calls)) wants = record { commit = wants.commit; rollback = wants.rollback; recover = wants.recover }
 exactly_memory r (Ok (applying doc how)) wants = record { commit = wants.commit; rollback = wants.rollback; recover = wants.recover }
 exactly_memory r (Ok committing) wants = record { commit = wants.commit; rollback = wants.rollback; recover = wants.recover }
 exactly_memory r (Ok rolling_back) wants = record { commit = wants.commit; rollback = wants.rollback; recover = wants.recover }
@@ -247,7 +266,8 @@ exactly_memory r (Err refusal) wants = tt
 
 exactly_unread : (r : Run) (order : Result Order Cause) → SourceRose r → ExactlyOf (still r) order (Err ReadFault)
 exactly_unread r (Ok (showing only json)) rose = rose
-exactly_unread r (Ok (planning doc)) rose = rose
+exactly_unread r (Ok (planning doc in_batch)) rose = rose
+exactly_unread r (Ok (simulating calls)) rose = rose
 exactly_unread r (Ok (applying doc how)) rose = rose
 exactly_unread r (Ok committing) rose = rose
 exactly_unread r (Ok rolling_back) rose = rose

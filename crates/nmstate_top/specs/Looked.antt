@@ -1,15 +1,17 @@
 -- What a command that only looks at the network answers.
-use Rattle.std.specs.Prelude.{◌≡◌, ◌≤◌, ℕ, Vec, None, Some, Result, Ok, Err}
+use Rattle.std.specs.Prelude.{◌≡◌, ◌≤◌, ℕ, List, Vec, None, Some, Result, Ok, Err}
 use Rattle.std.specs.declared.alloc.Global.{Global}
 use Rattle.net_model.specs.NetData.{NetData}
+use Rattle.net_model.specs.declared.Call.{Call}
 use Rattle.host_core.specs.Faults.{Rose}
 use Rattle.host_core.specs.HostView.{HostView}
 use Rattle.host_core.specs.Stops.{Steps, Stays}
 use Rattle.engine_model.specs.declared.Left.TheVariants.{NotBegun}
 use Rattle.top_model.specs.Said.{Said, Says}
+use Rattle.top_model.specs.Machine.{simulated}
 use Rattle.top_model.specs.Told.{Answer}
 use Rattle.top_model.specs.declared.report.Cause.{Cause}
-use Rattle.top_model.specs.declared.report.Cause.TheVariants.{MergeRefused, HostFault, Damaged, OutOfMemory}
+use Rattle.top_model.specs.declared.report.Cause.TheVariants.{MergeRefused, CallRefused, HostFault, Damaged, OutOfMemory}
 
 -- nothing is changed
 pub record ChangesNothing (tells : Type 0) (old new : HostView) : Type 0 where
@@ -34,6 +36,7 @@ Finds tells honest old new (Err _) = ⊥
 abbrev pub Looked : Type 0 → Type 0 → (NetData → Answer) → HostView → HostView → Answer → Type 0
 Looked tells honest say old new (Ok said) = (net : NetData) × IsFound tells honest old new net × (say net ≡ Ok said)
 Looked tells honest say old new (Err (MergeRefused refused)) = (net : NetData) × IsFound tells honest old new net × (say net ≡ Err (MergeRefused refused))
+Looked tells honest say old new (Err (CallRefused n k)) = (net : NetData) × IsFound tells honest old new net × (say net ≡ Err (CallRefused n k))
 Looked tells honest say old new (Err (HostFault NotBegun)) = Rose old.faults new.faults
 Looked tells honest say old new (Err (Damaged area)) = (area ≡ 0) × (tells → old.state.net ≡ None)
 Looked tells honest say old new (Err OutOfMemory) = Unit {0}
@@ -54,5 +57,13 @@ pub record LooksAs (tells honest : Type 0) (say : NetData → Answer) (old new :
 abbrev pub TextOf : (NetData → Answer) → NetData → Result (Vec ℕ Global) Cause → Type 0
 TextOf say net (Ok text) = (said : Said) × (say net ≡ Ok said) × Says said text.items
 TextOf say net (Err (MergeRefused refused)) = say net ≡ Err (MergeRefused refused)
+TextOf say net (Err (CallRefused n k)) = say net ≡ Err (CallRefused n k)
 TextOf say net (Err OutOfMemory) = Unit {0}
 TextOf say net (Err _) = ⊥
+
+-- the network that the calls lead to from another one, or the first of them that is refused, or out of memory
+abbrev pub LeadsTo : List Call → NetData → Result NetData Cause → Type 0
+LeadsTo calls from (Ok to) = simulated 1 calls from ≡ Ok to
+LeadsTo calls from (Err (CallRefused n k)) = simulated 1 calls from ≡ Err (CallRefused n k)
+LeadsTo calls from (Err OutOfMemory) = Unit {0}
+LeadsTo calls from (Err _) = ⊥

@@ -15,7 +15,8 @@ use host_core::{Host, Sink, Source};
 use std::alloc::Global;
 use top_model::{Cause, Report};
 
-fn apply_cause(fault: ApplyFault) -> Cause
+/// The cause that a fault of the engine's `apply` is.
+pub fn apply_cause(fault: ApplyFault) -> Cause
     ensures { result ≡ apply_cause fault }
 {
     match fault {

@@ -100,7 +100,8 @@ pub(crate) fn generate_run<H: Host, S: Source, W: Sink>(
     requires hardware { is_hardware devices.now ≡ true }
     requires first { is_document first.now ≡ true }
     requires second { is_document second.now ≡ true }
-    ensures { (now : ℕ) (host : H) → Carried H.Host S.Source W.Sink (generating devices.now first.now second.now) now host host out.old out.new err.old err.new result }
+    ensures { (now : ℕ) (host : H) → Carried H.Host S.Source W.Sink (generating devices.now first.now second.now) now
+        host host out.old out.new err.old err.new result }
 {
     match worked(alloc, devices, first, second) {
         Ok(summary) => tell_done(b"", summary_lines(&summary).as_bytes(), out, err),

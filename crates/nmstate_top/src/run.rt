@@ -1,18 +1,15 @@
 //! One command, at the prompt or as a step of a script.
-ghost use Rattle.std.specs.Prelude.{◌≡◌, ℕ, List, Option, Some, None, true, false, map, string_bytes};
+ghost use Rattle.std.specs.Prelude.{◌≡◌, true, false, map, string_bytes};
 ghost use Rattle.command_words.specs.Words.{command_of};
 ghost use Rattle.order_reading.specs.Asked.{asked, has_right_document};
 ghost use Rattle.top_model.specs.Answered.{Answered};
-ghost use Rattle.top_model.specs.Headline.{Headline};
-ghost use Rattle.top_model.specs.Moments.{AtMoment};
-ghost use Rattle.top_model.specs.Promises.{Complete, DoneOnly, RefusedExactly, CommitTakesNone, StandsApart, Statuses, Texts};
+ghost use Rattle.top_model.specs.Commands.{Promised, Commanded};
+ghost use Rattle.top_model.specs.Promises.{StandsApart};
 ghost use Rattle.top_model.specs.Runs.{run_of};
-ghost use Rattle.top_model.specs.Scripts.{IsScript, ScriptAnswered, file_of};
-ghost use Rattle.top_model.specs.StepsRun.{world};
-ghost use Rattle.top_model.specs.ScriptRuns.{RanFrom};
-ghost use Rattle.top_model.specs.Undisturbed.{Undisturbed};
+ghost use Rattle.top_model.specs.Scripts.{file_of};
 ghost use Rattle.nmstate_top.specs.Carried.{Carried};
 ghost use Rattle.nmstate_top.specs.First.{has_hardware};
+ghost use Rattle.nmstate_top.specs.Words.{RanWords};
 ghost use Rattle.nmstate_top.specs.Worked.{works_apart};
 
 use crate::apply::apply_run;
@@ -25,6 +22,7 @@ use crate::recover::recover_run;
 use crate::rollback::rollback_run;
 use crate::script::run_file;
 use crate::show::show_run;
+use crate::simulate::simulate_run;
 use answer_text::tell_refused;
 use base_model::{OutOfMemory, Str};
 use host_core::{Clock, Host, Sink, Source};
@@ -48,7 +46,10 @@ fn run_order<H: Host, S: Source, W: Sink>(
 {
     match order {
         Order::Show { only, json } => show_run::<H, S, W>(alloc, &only, json, host, out, err),
-        Order::Plan { doc } => plan_run::<H, S, W>(alloc, &doc, host, out, err),
+        Order::Plan { doc, batch } => plan_run::<H, S, W>(alloc, &doc, batch, host, out, err),
+        Order::Simulate { calls } => {
+            simulate_run::<H, S, W>(alloc, calls.items(), host, out, err)
+        }
         Order::Apply { doc, opts } => {
             apply_run::<H, S, W>(alloc, &doc, &opts, host, out, err, now)
         }
@@ -76,8 +77,10 @@ pub(crate) fn run_one<H: Host, S: Source, W: Sink>(
     err: &mut W,
     now: u64,
 ) -> Report
-    ensures answered { Answered (run_of H.Host S.Source W.Sink words.now.items in_script now host.old host.new src.old src.new out.old out.new err.old err.new result) }
-    ensures apart { StandsApart (run_of H.Host S.Source W.Sink words.now.items in_script now host.old host.new src.old src.new out.old out.new err.old err.new result) }
+    ensures answered { Answered (run_of H.Host S.Source W.Sink words.now.items in_script now
+        host.old host.new src.old src.new out.old out.new err.old err.new result) }
+    ensures apart { StandsApart (run_of H.Host S.Source W.Sink words.now.items in_script now
+        host.old host.new src.old src.new out.old out.new err.old err.new result) }
 {
     match read_order(alloc, words.as_slice(), in_script, src) {
         Ok(order) => run_order::<H, S, W>(alloc, order, host, out, err, now),
@@ -86,7 +89,7 @@ pub(crate) fn run_one<H: Host, S: Source, W: Sink>(
 }
 
 /// Answers one command at a moment, in seconds, and tells the answer to the sinks. The words are those after the
-/// program's name; for `script` it answers `Usage`.
+/// program's name; for `script`, `service` and `rollout` it answers `Usage`.
 pub fn run_at<H: Host, S: Source, W: Sink>(
     alloc: Global,
     words: &Vec<String>,
@@ -96,22 +99,8 @@ pub fn run_at<H: Host, S: Source, W: Sink>(
     err: &mut W,
     now: u64,
 ) -> Report
-    // Every valid running state, document and pattern of faults, in one sentence.
-    ensures headline { Headline (run_of H.Host S.Source W.Sink words.now.items false now host.old host.new src.old src.new out.old out.new err.old err.new result) }
-    // The answer, when it comes, what it leaves, and how it is told.
-    ensures answered { Answered (run_of H.Host S.Source W.Sink words.now.items false now host.old host.new src.old src.new out.old out.new err.old err.new result) }
-    // What the report says of it: where no fault came, and with faults.
-    ensures complete { Complete (run_of H.Host S.Source W.Sink words.now.items false now host.old host.new src.old src.new out.old out.new err.old err.new result) }
-    ensures done { DoneOnly (run_of H.Host S.Source W.Sink words.now.items false now host.old host.new src.old src.new out.old out.new err.old err.new result) }
-    ensures refused { RefusedExactly (run_of H.Host S.Source W.Sink words.now.items false now host.old host.new src.old src.new out.old out.new err.old err.new result) }
-    ensures memory { CommitTakesNone (run_of H.Host S.Source W.Sink words.now.items false now host.old host.new src.old src.new out.old out.new err.old err.new result) }
-    ensures status { Statuses (run_of H.Host S.Source W.Sink words.now.items false now host.old host.new src.old src.new out.old out.new err.old err.new result) }
-    // What is written, on every host.
-    ensures texts { Texts (run_of H.Host S.Source W.Sink words.now.items false now host.old host.new src.old src.new out.old out.new err.old err.new result) }
-    // What an apply leaves alone on its way.
-    ensures undisturbed { Undisturbed (run_of H.Host S.Source W.Sink words.now.items false now host.old host.new src.old src.new out.old out.new err.old err.new result) }
-    // A workload has a host of its own.
-    ensures apart { StandsApart (run_of H.Host S.Source W.Sink words.now.items false now host.old host.new src.old src.new out.old out.new err.old err.new result) }
+    ensures promised { Promised (run_of H.Host S.Source W.Sink words.now.items false now
+        host.old host.new src.old src.new out.old out.new err.old err.new result) }
 {
     run_one(alloc, words, false, host, src, out, err, now)
 }
@@ -128,15 +117,8 @@ fn run_named<H: Host, S: Source, W: Sink>(
     now: u64,
 ) -> Report
     requires { script.now ≡ file_of (command_of (map string_bytes words.now.items)) }
-    ensures answered { file_of (command_of (map string_bytes words.now.items)) ≡ None
-        → Answered (run_of H.Host S.Source W.Sink words.now.items false now host.old host.new src.old src.new out.old out.new err.old err.new result) }
-    ensures apart { file_of (command_of (map string_bytes words.now.items)) ≡ None
-        → StandsApart (run_of H.Host S.Source W.Sink words.now.items false now host.old host.new src.old src.new out.old out.new err.old err.new result) }
-    ensures script { IsScript (run_of H.Host S.Source W.Sink words.now.items false 0 host.old host.new src.old src.new out.old out.new err.old err.new result)
-        (RanFrom H.Host S.Source W.Sink (map string_bytes words.now.items) (world host.old src.old out.old err.old) (world host.new src.new out.new err.new) result) }
-    ensures ran { (file : Option (List ℕ)) → file_of (command_of (map string_bytes words.now.items)) ≡ Some file
-        → ScriptAnswered (run_of H.Host S.Source W.Sink words.now.items false 0 host.old host.new src.old src.new out.old out.new err.old err.new result)
-        (RanFrom H.Host S.Source W.Sink (map string_bytes words.now.items) (world host.old src.old out.old err.old) (world host.new src.new out.new err.new) result) }
+    ensures { RanWords H.Host S.Source W.Sink words.now.items now
+        host.old host.new src.old src.new out.old out.new err.old err.new result }
 {
     match script {
         Some(file) => run_file(alloc, file, host, src, out, err),
@@ -154,15 +136,8 @@ fn run_words<H: Host, S: Source, W: Sink>(
     err: &mut W,
     now: u64,
 ) -> Report
-    ensures answered { file_of (command_of (map string_bytes words.now.items)) ≡ None
-        → Answered (run_of H.Host S.Source W.Sink words.now.items false now host.old host.new src.old src.new out.old out.new err.old err.new result) }
-    ensures apart { file_of (command_of (map string_bytes words.now.items)) ≡ None
-        → StandsApart (run_of H.Host S.Source W.Sink words.now.items false now host.old host.new src.old src.new out.old out.new err.old err.new result) }
-    ensures script { IsScript (run_of H.Host S.Source W.Sink words.now.items false 0 host.old host.new src.old src.new out.old out.new err.old err.new result)
-        (RanFrom H.Host S.Source W.Sink (map string_bytes words.now.items) (world host.old src.old out.old err.old) (world host.new src.new out.new err.new) result) }
-    ensures ran { (file : Option (List ℕ)) → file_of (command_of (map string_bytes words.now.items)) ≡ Some file
-        → ScriptAnswered (run_of H.Host S.Source W.Sink words.now.items false 0 host.old host.new src.old src.new out.old out.new err.old err.new result)
-        (RanFrom H.Host S.Source W.Sink (map string_bytes words.now.items) (world host.old src.old out.old err.old) (world host.new src.new out.new err.new) result) }
+    ensures { RanWords H.Host S.Source W.Sink words.now.items now
+        host.old host.new src.old src.new out.old out.new err.old err.new result }
 {
     match script_file(alloc, words.as_slice()) {
         Ok(script) => run_named(alloc, &script, words, host, src, out, err, now),
@@ -181,29 +156,8 @@ pub fn run_command<H: Host, S: Source, W: Sink, C: Clock>(
     err: &mut W,
     clock: &mut C,
 ) -> Report
-    // Every valid running state, document and pattern of faults, in one sentence.
-    ensures headline { AtMoment C.Clock clock.old clock.new words.now.items (λ now. Headline (run_of H.Host S.Source W.Sink words.now.items false now host.old host.new src.old src.new out.old out.new err.old err.new result)) }
-    // The answer, when it comes, what it leaves, and how it is told.
-    ensures answered { AtMoment C.Clock clock.old clock.new words.now.items (λ now. Answered (run_of H.Host S.Source W.Sink words.now.items false now host.old host.new src.old src.new out.old out.new err.old err.new result)) }
-    // What the report says of it: where no fault came, and with faults.
-    ensures complete { AtMoment C.Clock clock.old clock.new words.now.items (λ now. Complete (run_of H.Host S.Source W.Sink words.now.items false now host.old host.new src.old src.new out.old out.new err.old err.new result)) }
-    ensures done { AtMoment C.Clock clock.old clock.new words.now.items (λ now. DoneOnly (run_of H.Host S.Source W.Sink words.now.items false now host.old host.new src.old src.new out.old out.new err.old err.new result)) }
-    ensures refused { AtMoment C.Clock clock.old clock.new words.now.items (λ now. RefusedExactly (run_of H.Host S.Source W.Sink words.now.items false now host.old host.new src.old src.new out.old out.new err.old err.new result)) }
-    ensures memory { AtMoment C.Clock clock.old clock.new words.now.items (λ now. CommitTakesNone (run_of H.Host S.Source W.Sink words.now.items false now host.old host.new src.old src.new out.old out.new err.old err.new result)) }
-    ensures status { AtMoment C.Clock clock.old clock.new words.now.items (λ now. Statuses (run_of H.Host S.Source W.Sink words.now.items false now host.old host.new src.old src.new out.old out.new err.old err.new result)) }
-    // What is written, on every host.
-    ensures texts { AtMoment C.Clock clock.old clock.new words.now.items (λ now. Texts (run_of H.Host S.Source W.Sink words.now.items false now host.old host.new src.old src.new out.old out.new err.old err.new result)) }
-    // What an apply leaves alone on its way.
-    ensures undisturbed { AtMoment C.Clock clock.old clock.new words.now.items (λ now. Undisturbed (run_of H.Host S.Source W.Sink words.now.items false now host.old host.new src.old src.new out.old out.new err.old err.new result)) }
-    // A workload has a host of its own.
-    ensures apart { AtMoment C.Clock clock.old clock.new words.now.items (λ now. StandsApart (run_of H.Host S.Source W.Sink words.now.items false now host.old host.new src.old src.new out.old out.new err.old err.new result)) }
-    // A script reads all its lines, and is then the fold of its steps; what its steps may leave, whatever fails in them.
-    ensures script { IsScript (run_of H.Host S.Source W.Sink words.now.items false 0 host.old host.new src.old src.new out.old out.new err.old err.new result)
-        (RanFrom H.Host S.Source W.Sink (map string_bytes words.now.items) (world host.old src.old out.old err.old) (world host.new src.new out.new err.new) result) }
-    // The words of a script read its FILE and run its steps, also where the source doesn't tell what it holds.
-    ensures ran { (file : Option (List ℕ)) → file_of (command_of (map string_bytes words.now.items)) ≡ Some file
-        → ScriptAnswered (run_of H.Host S.Source W.Sink words.now.items false 0 host.old host.new src.old src.new out.old out.new err.old err.new result)
-        (RanFrom H.Host S.Source W.Sink (map string_bytes words.now.items) (world host.old src.old out.old err.old) (world host.new src.new out.new err.new) result) }
+    ensures commanded { Commanded H.Host S.Source W.Sink C.Clock words.now.items clock.old clock.new
+        host.old host.new src.old src.new out.old out.new err.old err.new result }
 {
     let now = clock.now();
     run_words(alloc, words, host, src, out, err, now)

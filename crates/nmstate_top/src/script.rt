@@ -34,11 +34,15 @@ pub fn run_script<H: Host, S: Source, W: Sink>(
     out: &mut W,
     err: &mut W,
 ) -> Report
-    ensures folded { Folded (map timed_of steps.now.items) (run_of H.Host S.Source W.Sink [] true 0 host.old host.new src.old src.new out.old out.new err.old err.new result) }
+    ensures folded { Folded (map timed_of steps.now.items)
+        (run_of H.Host S.Source W.Sink [] true 0 host.old host.new src.old src.new out.old out.new err.old err.new
+        result) }
     ensures ends { EndsSteps result.cause }
     // Each step is answered as a command of its own; what all of them may leave, whatever fails in them and wherever they
     // are stopped, and how many of them faults can spoil.
-    ensures steps { ScriptRun H.Host S.Source W.Sink (map timed_of steps.now.items) (world host.old src.old out.old err.old) (world host.new src.new out.new err.new) result }
+    ensures steps { ScriptRun H.Host S.Source
+        W.Sink (map timed_of steps.now.items) (world host.old src.old out.old err.old)
+        (world host.new src.new out.new err.new) result }
 {
     for step in steps {
         let report = run_one(alloc, &step.words, true, host, src, out, err, step.at);

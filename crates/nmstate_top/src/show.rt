@@ -24,7 +24,12 @@ fn name_of(only: &Option<Str>) -> Option<&[u8]>
 }
 
 // The printed state of a network.
-fn printed_of(alloc: Global, net: &Net, only: &Option<Str>, json: bool) -> Result<Vec<u8>, Cause>
+pub(crate) fn printed_of(
+    alloc: Global,
+    net: &Net,
+    only: &Option<Str>,
+    json: bool,
+) -> Result<Vec<u8>, Cause>
     ensures { TextOf (λ net. Ok (printed only.now json net)) net.now result }
 {
     match shown_text(alloc, net, name_of(only), json) {

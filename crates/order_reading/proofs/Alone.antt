@@ -1,10 +1,10 @@
 -- The single words that take no memory.
-use Rattle.std.proofs.Common.{◌≡◌, ◌⊎◌, inl, inr, List, [], ◌∷◌, Bool, true, false, refl, codes, Option, Some, None}
+use Rattle.std.proofs.Common.{◌≡◌, inl, inr, List, [], ◌∷◌, refl, codes, Option, Some, None}
 use Rattle.std.specs.Option.{option_or}
 use Rattle.std.specs.Str.{bytes_eq}
 use Rattle.std.proofs.lemmas.Bool.{cases_Bool}
 use Rattle.top_model.specs.Orders.{Text}
-use Rattle.command_words.specs.Words.{lone_word, lone, by_clap, command_of}
+use Rattle.command_words.specs.Words.{lone_word, lone, unescaped, command_of}
 use Rattle.command_words.specs.declared.Command.{Command}
 use Rattle.order_reading.specs.Asked.{TakesMemory}
 
@@ -35,4 +35,4 @@ other (Some command) more none takes = absurd (none takes)
 -- words for which memory is taken are none of these
 pub takes_more : (words : List Text) → TakesMemory (command_of words) → lone words ≡ None
 unfolding command_of
-takes_more words takes = other (lone words) (by_clap words) (lone_takes_none words) takes
+takes_more words takes = other (lone words) (unescaped words) (lone_takes_none words) takes

@@ -1,5 +1,5 @@
 -- What is made of the bytes of a document or of a hardware list.
-use Rattle.std.proofs.Common.{◌≡◌, ◌∙◌, Bool, true, false, refl, sym, ap, Result, Ok, Err}
+use Rattle.std.proofs.Common.{◌≡◌, ◌∙◌, true, false, refl, Result, Ok, Err}
 use Rattle.doc_tree.specs.Shape.{Shape, shape}
 use Rattle.doc_tree.specs.JsonTree.{json_tree, Gives}
 use Rattle.doc_tree.specs.declared.Tree.{Tree}
@@ -19,7 +19,7 @@ use Rattle.top_model.specs.Orders.{Text, begins_json, with_fault, tree_of, docum
 use Rattle.top_model.specs.declared.DocFault.{DocFault}
 use Rattle.top_model.specs.declared.DocFault.TheVariants.{Json, Yaml, Schema}
 use Rattle.top_model.specs.declared.Cause.{Cause}
-use Rattle.top_model.specs.declared.Cause.TheVariants.{DocRefused, BadLine, OutOfMemory}
+use Rattle.top_model.specs.declared.Cause.TheVariants.{DocRefused, BadLine, BatchLine, BatchLarge, OutOfMemory}
 use Rattle.order_reading.specs.Reading.{Answers, itself}
 use Rattle.order_reading.specs.Faults.{json_cause, yaml_cause, schema_cause}
 
@@ -83,12 +83,16 @@ hardware_refused bytes cause is = rw is refl
 pub no_document : (bytes : Text) (cause : Cause) → Answers shape (tree_of bytes) (Err cause) → Answers itself (document bytes) (Err cause)
 no_document bytes (DocRefused fault) is = document_refused bytes (DocRefused fault) is
 no_document bytes (BadLine n) is = document_refused bytes (BadLine n) is
+no_document bytes (BatchLine n) is = document_refused bytes (BatchLine n) is
+no_document bytes BatchLarge is = document_refused bytes BatchLarge is
 no_document bytes OutOfMemory is = tt
 no_document bytes _ is = absurd is
 
 pub no_hardware : (bytes : Text) (cause : Cause) → Answers shape (tree_of bytes) (Err cause) → Answers itself (hardware_list bytes) (Err cause)
 no_hardware bytes (DocRefused fault) is = hardware_refused bytes (DocRefused fault) is
 no_hardware bytes (BadLine n) is = hardware_refused bytes (BadLine n) is
+no_hardware bytes (BatchLine n) is = hardware_refused bytes (BatchLine n) is
+no_hardware bytes BatchLarge is = hardware_refused bytes BatchLarge is
 no_hardware bytes OutOfMemory is = tt
 no_hardware bytes _ is = absurd is
 

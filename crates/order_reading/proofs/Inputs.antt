@@ -1,6 +1,6 @@
 -- What was read of an input, and the inputs that a source may have then.
-use Rattle.std.proofs.Common.{◌≡◌, ◌≢◌, ◌≤◌, ◌<◌, ◌++◌, ◌&&◌, ◌∙◌, ◌⊎◌, inl, inr, ℕ, List, [], Bool, true, false, length, take, refl, sym, ap, arith, Option, Some, None, Result, Ok, Err}
-use Rattle.std.specs.Prelude.{nat_lt, if◌then◌else◌, is_none, unwrap_or, Vec}
+use Rattle.std.proofs.Common.{◌≡◌, ◌≢◌, ◌≤◌, ◌<◌, ◌++◌, ◌&&◌, ◌∙◌, inl, inr, ℕ, [], Bool, true, false, length, refl, sym, ap, arith, Option, Some, None, Result, Ok, Err}
+use Rattle.std.specs.Prelude.{if◌then◌else◌, is_none, unwrap_or, Vec}
 use Rattle.std.specs.declared.alloc.Global.{Global}
 use Rattle.std.specs.Str.{bytes_eq}
 use Rattle.std.proofs.Math.Path.{fun_ext}
@@ -11,8 +11,8 @@ use Rattle.std.proofs.lemmas.Slice.Eq.{bytes_eq-Decides}
 use Rattle.host_core.specs.Streams.{SourceView}
 use Rattle.top_model.specs.Orders.{Text, Inputs, found, input, read_limit, stdin}
 use Rattle.top_model.specs.declared.Cause.{Cause}
-use Rattle.top_model.specs.declared.Cause.TheVariants.{DocRefused, Usage, BadLine, NoSuchName, ReadFault, OutOfMemory}
-use Rattle.order_reading.specs.Reading.{MayRead, Gives, GoesOn, Reads, Takes}
+use Rattle.top_model.specs.declared.Cause.TheVariants.{DocRefused, Usage, BadLine, BatchLine, BatchLarge, NoSuchName, ReadFault, OutOfMemory}
+use Rattle.order_reading.specs.Reading.{Gives, GoesOn, Reads, Takes}
 use Rattle.order_reading.specs.Pieces.{Front, ReadsPiece, ReadsName, bytes_seen}
 
 -- ---- the loop
@@ -120,4 +120,6 @@ pub file_taken : (tells : Type 0) (file : Option Text) (old new : SourceView) (r
 file_taken tells file old new (Ok bytes) name = λ told. record { all = bytes.items ++ new.left; taken = bytes.items; is_all = name.outcome.whole told; whole = refl; within = name.outcome.within }
 file_taken tells file old new (Err (DocRefused fault)) name = absurd name.outcome
 file_taken tells file old new (Err (BadLine n)) name = absurd name.outcome
+file_taken tells file old new (Err (BatchLine n)) name = absurd name.outcome
+file_taken tells file old new (Err BatchLarge) name = absurd name.outcome
 file_taken tells file old new (Err _) name = tt

@@ -1,6 +1,6 @@
 -- The lines of a text and the words of a line, one after the other.
-use Rattle.std.proofs.Common.{◌≡◌, ◌<◌, ◌≤◌, ◌+◌, ◌-◌, ◌^◌, ◌∙◌, ◌⊎◌, inl, inr, ℕ, suc, List, [], ◌∷◌, ◌++◌, Bool, true, false, length, take, drop, refl, sym, ap, ap₂, arith, Option, Some, None, append_assoc, length-drop}
-use Rattle.std.specs.Prelude.{◌==◌, ◌&&◌, String, map, string_bytes, nat_lt, nat_le, not, option_map, if◌then◌else◌, MatchOption, nat_eq as eqb, Result, Ok, Err}
+use Rattle.std.proofs.Common.{◌≡◌, ◌<◌, ◌≤◌, ◌+◌, ◌-◌, ◌^◌, ◌∙◌, inl, inr, ℕ, suc, List, [], ◌∷◌, ◌++◌, Bool, true, false, length, take, drop, refl, sym, ap, arith, Option, Some, None, append_assoc, length-drop}
+use Rattle.std.specs.Prelude.{◌==◌, ◌&&◌, String, map, string_bytes, nat_lt, nat_le, not, option_map, MatchOption, nat_eq as eqb, Result, Ok, Err}
 use Rattle.std.specs.Borrow.{Bor}
 use Rattle.std.specs.declared.alloc.Global.{Global}
 use Rattle.std.specs.Str.{is_utf8, IsUtf8}
@@ -18,7 +18,6 @@ use Rattle.top_model.specs.Orders.{Text}
 use Rattle.top_model.specs.Lines.{onto_first, lines_of, words_in, is_digit, begins_well, is_moment, Timed, timed, step_of, is_skipped, and_rest, steps_from, steps_of, timed_of}
 use Rattle.top_model.specs.Scripts.{as_steps}
 use Rattle.top_model.specs.declared.Step.{Step}
-use Rattle.top_model.specs.declared.Cause.{Cause}
 use Rattle.top_model.specs.declared.Cause.TheVariants.{BadLine}
 
 take_more : (n x : ℕ) (xs : Text) → take (1 + n) (x ∷ xs) ≡ x ∷ take n xs

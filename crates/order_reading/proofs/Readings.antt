@@ -1,5 +1,5 @@
 -- How the reading of an input, and what is made of its bytes, come together.
-use Rattle.std.proofs.Common.{◌≡◌, ◌≢◌, ◌∙◌, ℕ, List, Bool, true, false, refl, sym, ap, subst, Option, Some, None, Result, Ok, Err}
+use Rattle.std.proofs.Common.{◌≡◌, ◌≢◌, ◌∙◌, ℕ, List, true, false, refl, ap, subst, Result, Ok, Err}
 use Rattle.std.specs.Prelude.{Vec, IsErrOf, if◌then◌else◌}
 use Rattle.std.specs.declared.alloc.Global.{Global}
 use Rattle.host_core.specs.Streams.{SourceView}
@@ -11,7 +11,7 @@ use Rattle.top_model.specs.declared.DocFault.TheVariants.{Json, Yaml}
 use Rattle.doc_tree.specs.JsonTree.{json_tree}
 use Rattle.yaml_read.specs.Reading.{reading}
 use Rattle.top_model.specs.declared.Cause.{Cause}
-use Rattle.top_model.specs.declared.Cause.TheVariants.{Done, DocRefused, Usage, BadLine, NoSuchName, ReadFault, OutOfMemory}
+use Rattle.top_model.specs.declared.Cause.TheVariants.{Done, DocRefused, Usage, BadLine, BatchLine, BatchLarge, NoSuchName, ReadFault, OutOfMemory}
 use Rattle.order_reading.specs.Reading.{Gives, Reads, Answers}
 use Rattle.order_reading.specs.Pieces.{bytes_seen}
 
@@ -70,6 +70,8 @@ module _ {A : Type 0} (tells : Type 0) (first : Inputs → Result Text Cause) (n
   unread view old new NoSuchName never h = refusal_given old NoSuchName h
   unread view old new (DocRefused fault) never h = refusal_given old (DocRefused fault) h
   unread view old new (BadLine n) never h = refusal_given old (BadLine n) h
+  unread view old new (BatchLine n) never h = refusal_given old (BatchLine n) h
+  unread view old new BatchLarge never h = refusal_given old BatchLarge h
   unread view old new ReadFault never h = (h.0, (λ inputs. no_usage_then (first inputs) next (h.1 inputs) never))
   unread view old new OutOfMemory never h = tt
   unread view old new _ never h = absurd h
@@ -80,6 +82,8 @@ module _ {A : Type 0} (tells : Type 0) (first : Inputs → Result Text Cause) (n
   looked_at view old new bytes (Ok x) read h = next_given old bytes.items (Ok (view x)) read h
   looked_at view old new bytes (Err (DocRefused fault)) read h = next_given old bytes.items (Err (DocRefused fault)) read h
   looked_at view old new bytes (Err (BadLine n)) read h = next_given old bytes.items (Err (BadLine n)) read h
+  looked_at view old new bytes (Err (BatchLine n)) read h = next_given old bytes.items (Err (BatchLine n)) read h
+  looked_at view old new bytes (Err BatchLarge) read h = next_given old bytes.items (Err BatchLarge) read h
   looked_at view old new bytes (Err OutOfMemory) read h = tt
   looked_at view old new bytes (Err _) read h = absurd h
 
@@ -94,6 +98,8 @@ pub known : {A B : Type 0} (tells : Type 0) (view : B → A) (defined : Inputs �
 known tells view defined value old new (Ok x) is h = always tells old defined (Ok (view x)) (λ inputs. is inputs ∙ h)
 known tells view defined value old new (Err (DocRefused fault)) is h = always tells old defined (Err (DocRefused fault)) (λ inputs. is inputs ∙ h)
 known tells view defined value old new (Err (BadLine n)) is h = always tells old defined (Err (BadLine n)) (λ inputs. is inputs ∙ h)
+known tells view defined value old new (Err (BatchLine n)) is h = always tells old defined (Err (BatchLine n)) (λ inputs. is inputs ∙ h)
+known tells view defined value old new (Err BatchLarge) is h = always tells old defined (Err BatchLarge) (λ inputs. is inputs ∙ h)
 known tells view defined value old new (Err OutOfMemory) is h = tt
 known tells view defined value old new (Err _) is h = absurd h
 
@@ -105,5 +111,7 @@ no_fault view value result h is = subst (λ r. Answers view value r) is h
 pub refusal_as : {A B C : Type 0} (view : B → A) (other : C → A) (value : Result A Cause) (cause : Cause) → Answers view value (Err cause) → Answers other value (Err cause)
 refusal_as view other value (DocRefused fault) h = h
 refusal_as view other value (BadLine n) h = h
+refusal_as view other value (BatchLine n) h = h
+refusal_as view other value BatchLarge h = h
 refusal_as view other value OutOfMemory h = tt
 refusal_as view other value _ h = absurd h

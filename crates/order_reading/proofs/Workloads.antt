@@ -1,6 +1,6 @@
 -- Trees that are printed and read again, and the workload that they make up.
-use Rattle.std.proofs.Common.{◌≡◌, ◌∙◌, ◌≤◌, ℕ, Bool, true, false, refl, sym, ap, subst, length, Result, Ok, Err, inl, inr, ◌⊎◌}
-use Rattle.std.specs.Prelude.{List, nat_lt, if◌then◌else◌}
+use Rattle.std.proofs.Common.{◌≡◌, ◌≤◌, ℕ, true, false, refl, sym, ap, subst, length, Result, Ok, Err, inl, inr}
+use Rattle.std.specs.Prelude.{List, nat_lt}
 use Rattle.std.proofs.lemmas.Bool.{cases_Bool, ltb-false}
 use Rattle.doc_tree.specs.Shape.{Shape, shape}
 use Rattle.doc_tree.specs.declared.limits.TheConstants.{MAX_BYTES}
@@ -12,10 +12,10 @@ use Rattle.yaml_text.specs.Layout.{is_filled_map, yaml_text_of}
 use Rattle.tree_schema.specs.declared.SchemaFault.{SchemaFault}
 use Rattle.scenario_model.specs.Draws.{devices}
 use Rattle.scenario_model.specs.Trees.{hardware_tree, first_tree, second_tree, IsPlain}
-use Rattle.top_model.specs.Orders.{Text, Order, and_then, with_fault, reprinted, reread, hardware_of_tree, document_of_tree, generating, generated_devices, generated_first, generated_second, generated}
+use Rattle.top_model.specs.Orders.{Text, Order, with_fault, reprinted, reread, hardware_of_tree, document_of_tree, generating, generated_devices, generated_first, generated_second, generated}
 use Rattle.top_model.specs.declared.DocFault.TheVariants.{Yaml, Schema}
 use Rattle.top_model.specs.declared.Cause.{Cause}
-use Rattle.top_model.specs.declared.Cause.TheVariants.{DocRefused, BadLine, OutOfMemory}
+use Rattle.top_model.specs.declared.Cause.TheVariants.{DocRefused, BadLine, BatchLine, BatchLarge, OutOfMemory}
 use Rattle.order_reading.specs.Reading.{Answers, itself}
 use Rattle.order_reading.specs.Workload.{IsPrinted}
 
@@ -53,6 +53,8 @@ module _ {A : Type 0} (schema : Shape → Result A SchemaFault) where
   pub unread : (tree : Shape) (cause : Cause) → Answers shape (reprinted tree) (Err cause) → Answers itself (reread schema tree) (Err cause)
   unread tree (DocRefused fault) is = refused tree (DocRefused fault) is
   unread tree (BadLine n) is = refused tree (BadLine n) is
+  unread tree (BatchLine n) is = refused tree (BatchLine n) is
+  unread tree BatchLarge is = refused tree BatchLarge is
   unread tree OutOfMemory is = tt
   unread tree _ is = absurd is
 
@@ -97,6 +99,8 @@ module _ (count seed : ℕ) where
     pub devices_refused : (cause : Cause) → Answers itself (generated_devices count seed) (Err cause) → Answers view (generated count seed) (Err cause)
     devices_refused (DocRefused fault) is = no_devices (DocRefused fault) is
     devices_refused (BadLine n) is = no_devices (BadLine n) is
+    devices_refused (BatchLine n) is = no_devices (BatchLine n) is
+    devices_refused BatchLarge is = no_devices BatchLarge is
     devices_refused OutOfMemory is = tt
     devices_refused _ is = absurd is
 
@@ -104,6 +108,8 @@ module _ (count seed : ℕ) where
         → Answers view (generated count seed) (Err cause)
     first_refused links (DocRefused fault) one is = no_first links (DocRefused fault) one is
     first_refused links (BadLine n) one is = no_first links (BadLine n) one is
+    first_refused links (BatchLine n) one is = no_first links (BatchLine n) one is
+    first_refused links BatchLarge one is = no_first links BatchLarge one is
     first_refused links OutOfMemory one is = tt
     first_refused links _ one is = absurd is
 
@@ -111,6 +117,8 @@ module _ (count seed : ℕ) where
         → Answers itself (generated_second count seed) (Err cause) → Answers view (generated count seed) (Err cause)
     second_refused links a (DocRefused fault) one two is = no_second links a (DocRefused fault) one two is
     second_refused links a (BadLine n) one two is = no_second links a (BadLine n) one two is
+    second_refused links a (BatchLine n) one two is = no_second links a (BatchLine n) one two is
+    second_refused links a BatchLarge one two is = no_second links a BatchLarge one two is
     second_refused links a OutOfMemory one two is = tt
     second_refused links a _ one two is = absurd is
 

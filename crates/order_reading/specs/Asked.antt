@@ -1,24 +1,24 @@
 -- The order that is handed over, and what is known of it.
-use Rattle.std.specs.Prelude.{◌≡◌, List, Bool, true, false, not, ◌&&◌, is_none, Option, Some, None, map, Result, Ok, Err}
+use Rattle.std.specs.Prelude.{List, Bool, true, ◌&&◌, Option, Some, None, map, Result}
 use Rattle.document_model.specs.Entries.{is_document, has_short_doc}
-use Rattle.document_model.specs.declared.Doc.{Doc}
 use Rattle.host_core.specs.Streams.{SourceView}
 use Rattle.command_words.specs.declared.Command.{Command}
 use Rattle.command_words.specs.declared.Command.TheVariants as command
-use Rattle.top_model.specs.Orders.{Text, showing, planning, applying, committing, rolling_back, recovering, checking, making, generating}
+use Rattle.top_model.specs.Orders.{Text, showing, planning, simulating, applying, committing, rolling_back, recovering, checking, making, generating}
 use Rattle.top_model.specs.Orders as model
 use Rattle.top_model.specs.Lines.{Timed, timed_of}
 use Rattle.top_model.specs.declared.Step.{Step}
 use Rattle.top_model.specs.declared.Cause.{Cause}
 use Rattle.order_reading.specs.declared.order.Order.{Order}
-use Rattle.order_reading.specs.declared.order.Order.TheVariants.{Show, Plan, Apply, Commit, Rollback, Recover, Check, Init, Generate}
+use Rattle.order_reading.specs.declared.order.Order.TheVariants.{Show, Plan, Simulate, Apply, Commit, Rollback, Recover, Check, Init, Generate}
 pub use Rattle.top_model.specs.Taking.{read_there, file_read}
 use Rattle.order_reading.specs.Reading.{Takes}
 
 -- the order as the definitions have it
 abbrev pub asked : Order → model.Order
 asked (Show only json) = showing only json
-asked (Plan doc) = planning doc
+asked (Plan doc in_batch) = planning doc in_batch
+asked (Simulate calls) = simulating calls
 asked (Apply doc opts) = applying doc opts
 asked Commit = committing
 asked Rollback = rolling_back
@@ -29,14 +29,14 @@ asked (Generate devices first second) = generating devices first second
 
 -- the document of an order is right: what holds of each document that was read holds of it
 abbrev pub has_right_document : Order → Bool
-has_right_document (Plan doc) = is_document doc && has_short_doc doc
+has_right_document (Plan doc in_batch) = is_document doc && has_short_doc doc
 has_right_document (Apply doc opts) = is_document doc && has_short_doc doc
 has_right_document (Generate devices first second) = is_document first && has_short_doc first && is_document second && has_short_doc second
 has_right_document _ = true
 
 -- ---- the FILE of a command
 
--- nothing but that FILE is read, and of it no more than the limit of a document and one byte
+-- nothing but that FILE is read, and of it no more than the limit and one byte
 abbrev pub TakesFile : {A : Type 0} → Type 0 → Type 0 → SourceView → SourceView → Option (Option Text) → Result A Cause → Type 0
 TakesFile untouched tells old new None result = untouched
 TakesFile untouched tells old new (Some file) result = Takes tells old new file result
@@ -45,7 +45,8 @@ TakesFile untouched tells old new (Some file) result = Takes tells old new file 
 
 -- a command for which memory is taken before any call on the host: it reads an input, or makes a workload
 abbrev pub TakesMemory : Option Command → Type 0
-TakesMemory (Some (command.Plan file)) = Unit {0}
+TakesMemory (Some (command.Plan file in_batch)) = Unit {0}
+TakesMemory (Some (command.Simulate file)) = Unit {0}
 TakesMemory (Some (command.Apply file no_commit no_verify timeout)) = Unit {0}
 TakesMemory (Some (command.Init file)) = Unit {0}
 TakesMemory (Some (command.Generate count seed)) = Unit {0}

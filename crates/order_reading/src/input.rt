@@ -12,7 +12,7 @@ use host_core::{Failed, Source, StartFault};
 use std::alloc::Global;
 use top_model::Cause;
 
-/// A document has at least one byte less, so that one that passes its limit is seen to.
+/// A document, a script or a text of calls has at least one byte less, so that one that passes its limit is seen to.
 const READ_LIMIT: usize = MAX_BYTES + 1;
 
 /// The bytes that are asked of the source at once.
@@ -73,7 +73,7 @@ fn is_refused(in_script: bool, file: &Option<Str>) -> bool
     in_script && file.is_none()
 }
 
-/// The bytes of a command's FILE, up to the limit of a document and one. Standard input may not be read in a script.
+/// The bytes of a command's FILE, up to the limit and one. Standard input may not be read in a script.
 pub fn read_input<S: Source>(
     alloc: Global,
     in_script: bool,

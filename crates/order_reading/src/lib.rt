@@ -1,4 +1,5 @@
-//! What the words ask for: the command's order, with the document, the hardware list or the script that was read for it.
+//! What the words ask for: the command's order, with what was read for it: a document, a hardware list, a text of calls, or
+//! a script.
 //!
 //! No call on the host is made here.
 #![tactic(auto)]
@@ -7,14 +8,20 @@
 mod input;
 // Documents and hardware lists.
 mod document;
+// Texts of calls.
+mod calls;
 // Generated workloads, as they are read again where they are printed.
 mod workload;
 // The order of the words.
 mod order;
+// The document of a FILE that may be nothing else.
+mod named;
 // One line of a script.
 mod line;
 // The lines of a script.
 mod script;
 
+pub use document::document_in;
+pub use named::read_document;
 pub use order::{Order, read_order};
 pub use script::{read_script, script_file, steps_of};

@@ -101,7 +101,8 @@ pub fn read_script<S: Source>(
     file: &Option<Str>,
     src: &mut S,
 ) -> Result<Vec<Step>, Cause>
-    ensures steps { Reads seen (λ inputs. and_then (input false inputs file.now) (λ bytes. as_steps (steps_of bytes))) S.tells (S.told src.old) (S.told src.new) result }
+    ensures steps { Reads seen (λ inputs. and_then (input false inputs file.now) (λ bytes. as_steps (steps_of bytes)))
+        S.tells (S.told src.old) (S.told src.new) result }
     ensures source { GoesOn S.tells (S.told src.old) (S.told src.new) }
     // It is read up to the limit and one byte.
     ensures taken { Takes S.tells (S.told src.old) (S.told src.new) file.now result }

@@ -29,7 +29,7 @@ either_done false a net = refl
 
 leaves : (net : NetData) (doc : Doc) → merge net doc ≡ Ok net → LeavesAsIs net doc
 leaves net doc same = record {
-  plan = λ now. ap (plan_to net) same;
+  plan = λ now in_batch. ap (plan_to in_batch net) same;
   done = λ now opts.
       let a = asked doc opts now in
       ap (λ (r : Result NetData Refused). is_ok (told_of said_applied apply_cause (merged_as a net r)).answer) same ∙ either_done opts.no_commit a net;

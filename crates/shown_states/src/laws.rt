@@ -29,7 +29,8 @@ pub fn state_laws()
     // Each order keeps it, of the network that stands and of the one in the checkpoint.
     ensures kept { (now : ℕ) (order : Order) (e : Standing) → IsRight order → PrintableStanding e → PrintableStanding (machine now order e).after }
     // So has each of those that a command which is stopped, or kept from its end, may lead to beside its entry.
-    ensures stopped { (now : ℕ) (order : Result Order Cause) (e stands : Standing) → IfOk order IsRight → PrintableStanding e → Reaches now (at e) order stands → PrintableStanding stands }
+    ensures stopped { (now : ℕ) (order : Result Order Cause) (e stands : Standing) → IfOk order IsRight
+        → PrintableStanding e → Reaches now (at e) order stands → PrintableStanding stands }
     // The order that words and inputs give, if any, is right.
     ensures read { (in_script : Bool) (inputs : Inputs) (words : List Text) → IfOk (order_of in_script inputs words) IsRight }
     // Each state that the commands reach from nothing has it.

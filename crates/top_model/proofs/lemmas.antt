@@ -22,3 +22,5 @@ pub mod Spoiling
 pub mod Explaining
 pub mod ScriptRan
 pub mod Taken
+pub mod Simulating
+pub mod Commanding

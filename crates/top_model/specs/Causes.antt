@@ -1,6 +1,7 @@
 -- When each answer comes.
 use Rattle.std.specs.Prelude.{◌≡◌, ◌≢◌, ◌⊎◌, ℕ, List, [], Bool, false, Option, Some, None, Result, Ok, Err}
 use Rattle.net_model.specs.NetData.{NetData}
+use Rattle.net_model.specs.declared.Call.{Call}
 use Rattle.document_model.specs.declared.Refused.{Refused}
 use Rattle.host_core.specs.HostView.{HasNet, IsMade, WasRefused, NoneRefused}
 use Rattle.engine_model.specs.Merge.{merge}
@@ -14,13 +15,13 @@ use Rattle.engine_model.specs.declared.Left.{Left}
 use Rattle.engine_model.specs.declared.Left.TheVariants.{NotBegun, RolledBack, Pending as Unknown}
 use Rattle.command_words.specs.Words.{lone}
 use Rattle.command_words.specs.declared.Command.TheVariants.{Commit, Rollback, Recover}
-use Rattle.top_model.specs.Said.{Said, printed, planned, committed, restored}
-use Rattle.top_model.specs.Orders.{Order, showing, planning, applying, committing, rolling_back, recovering, checking, making, generating}
-use Rattle.top_model.specs.Machine.{first_net, machine_of}
+use Rattle.top_model.specs.Said.{Said, printed, committed, restored}
+use Rattle.top_model.specs.Orders.{Order, showing, planning, simulating, applying, committing, rolling_back, recovering, checking, making, generating}
+use Rattle.top_model.specs.Machine.{first_net, said_plan, simulated, machine_of}
 use Rattle.top_model.specs.Runs.{Run, reads, reads_after, HostRose, SourceRose}
 use Rattle.top_model.specs.Told.{Answer}
 use Rattle.top_model.specs.declared.report.Cause.{Cause}
-use Rattle.top_model.specs.declared.report.Cause.TheVariants.{DocRefused, MergeRefused, Usage, BadLine, Pending, NoCheckpoint, Unfinished, Expired, Exists, NoSuchName, ReadFault, HostFault, InDoubt, KernelRefused, NotVerified, Damaged, HardwareDiffers, OutOfMemory}
+use Rattle.top_model.specs.declared.report.Cause.TheVariants.{DocRefused, MergeRefused, Usage, BadLine, BatchLine, BatchLarge, CallRefused, Pending, NoCheckpoint, Unfinished, Expired, Exists, NoSuchName, ReadFault, HostFault, InDoubt, KernelRefused, NotVerified, Damaged, HardwareDiffers, OutOfMemory}
 
 -- the command machine's answer to what the host reads as
 abbrev pub expected : Run → Result Order Cause → Answer
@@ -84,7 +85,7 @@ RefusedAs r order cause = r.host_tells → expected r order ≡ Err cause
 
 -- the document of a plan or an apply
 abbrev pub document_in : Order → Option Doc
-document_in (planning doc) = Some doc
+document_in (planning doc in_batch) = Some doc
 document_in (applying doc opts) = Some doc
 document_in _ = None
 
@@ -124,6 +125,8 @@ Refuses r refusal (Err Usage) = refusal ≡ Usage
 Refuses r refusal (Err NoSuchName) = refusal ≡ NoSuchName
 Refuses r refusal (Err (DocRefused fault)) = refusal ≡ DocRefused fault
 Refuses r refusal (Err (BadLine n)) = refusal ≡ BadLine n
+Refuses r refusal (Err (BatchLine n)) = refusal ≡ BatchLine n
+Refuses r refusal (Err BatchLarge) = refusal ≡ BatchLarge
 Refuses r refusal (Err ReadFault) = SourceRose r × (refusal ≢ Usage)
 Refuses r refusal (Err OutOfMemory) = MayWant r
 Refuses r refusal answer = ⊥
@@ -151,6 +154,11 @@ abbrev pub OfPlan : Cause → Type 0
 OfPlan ReadFault = Unit {0}
 OfPlan (MergeRefused refused) = Unit {0}
 OfPlan cause = OfShow cause
+
+abbrev pub OfSimulate : Cause → Type 0
+OfSimulate ReadFault = Unit {0}
+OfSimulate (CallRefused n k) = Unit {0}
+OfSimulate cause = OfShow cause
 
 abbrev pub OfApply : Cause → Type 0
 OfApply ReadFault = Unit {0}
@@ -209,7 +217,8 @@ OfGenerate cause = ⊥
 abbrev pub MayAnswer : Result Order Cause → Answer → Type 0
 MayAnswer order (Ok said) = Unit {0}
 MayAnswer (Ok (showing only json)) (Err cause) = OfShow cause
-MayAnswer (Ok (planning doc)) (Err cause) = OfPlan cause
+MayAnswer (Ok (planning doc in_batch)) (Err cause) = OfPlan cause
+MayAnswer (Ok (simulating calls)) (Err cause) = OfSimulate cause
 MayAnswer (Ok (applying doc opts)) (Err cause) = OfApply cause
 MayAnswer (Ok committing) (Err cause) = OfCommit cause
 MayAnswer (Ok rolling_back) (Err cause) = OfRollback cause
@@ -231,13 +240,29 @@ pub record Prints (r : Run) (only : Option (List ℕ)) (json : Bool) (said : Sai
   pub dumped : WasDumped r net
   pub is_said : said ≡ printed only json net
 
--- the calls lead to the merge of the document
-pub record Plans (r : Run) (doc : Doc) (said : Said) : Type 0 where
+-- the calls lead to the merge of the document, and are said as it was asked for
+pub record Plans (r : Run) (doc : Doc) (in_batch : Bool) (said : Said) : Type 0 where
   pub from : NetData
   pub to : NetData
   pub dumped : WasDumped r from
   pub merges : merge from doc ≡ Ok to
-  pub is_said : said ≡ planned from to
+  pub is_said : said ≡ said_plan in_batch from to
+
+-- the network is printed that the calls lead to from the one that was dumped
+pub record Simulates (r : Run) (calls : List Call) (said : Said) : Type 0 where
+  pub from : NetData
+  pub to : NetData
+  pub dumped : WasDumped r from
+  pub leads : simulated 1 calls from ≡ Ok to
+  pub is_said : said ≡ printed None false to
+
+-- on a run from the network that was dumped the calls before this one are accepted, and it is refused with this number
+pub record IsFirstRefused (r : Run) (order : Order) (n k : ℕ) : Type 0 where
+  pub calls : List Call
+  pub from : NetData
+  pub is_order : order ≡ simulating calls
+  pub dumped : WasDumped r from
+  pub refused : simulated 1 calls from ≡ Err (CallRefused n k)
 
 -- what a check says is the machine's of the checkpoint as it reads and of the network that was dumped
 abbrev pub Checks : Run → Said → Type 0
@@ -260,7 +285,8 @@ NoCallRefused r = NoneRefused r.host.kernel r.host_after.kernel
 -- apply that verifies dumped the merge of the network that was saved
 abbrev pub IsDoneAs : Run → Order → Said → Type 0
 IsDoneAs r (showing only json) said = Prints r only json said
-IsDoneAs r (planning doc) said = Plans r doc said
+IsDoneAs r (planning doc in_batch) said = Plans r doc in_batch said
+IsDoneAs r (simulating calls) said = Simulates r calls said
 IsDoneAs r committing said = r.host_tells → expected r (Ok committing) ≡ Ok said
 IsDoneAs r checking said = Checks r said × (r.honest → SaysSound r)
 IsDoneAs r (generating devices first second) said = expected r (Ok (generating devices first second)) ≡ Ok said
@@ -274,7 +300,7 @@ abbrev pub StaysRead : Run → Type 0
 StaysRead r = r.host_tells → reads_after r ≡ reads r
 
 abbrev pub LooksOnly : Run → Order → Type 0
-LooksOnly r (planning doc) = StaysRead r
+LooksOnly r (planning doc in_batch) = StaysRead r
 LooksOnly r (applying doc opts) = r.honest → settled r.now (reads r) ≡ Some (reads_after r)
 LooksOnly r order = Unit {0}
 
@@ -298,6 +324,7 @@ Ends r order (Err NoCheckpoint) = RefusedAs r (Ok order) NoCheckpoint
 Ends r order (Err (Unfinished since deadline)) = RefusedAs r (Ok order) (Unfinished since deadline)
 Ends r order (Err (Expired since deadline)) = RefusedAs r (Ok order) (Expired since deadline)
 Ends r order (Err (MergeRefused refused)) = BrokeRule r order refused
+Ends r order (Err (CallRefused n k)) = IsFirstRefused r order n k × StaysRead r
 Ends r order (Err (HostFault left)) = HostRose r × IsLeft r order left
 Ends r order (Err InDoubt) = HostRose r × (r.host_tells → IsDoubted r (Ok order))
 Ends r order (Err (KernelRefused k n left)) = WasRefused k n r.host.kernel r.host_after.kernel × IsLeftRefused r order left

@@ -21,3 +21,5 @@ pub mod StepsRun
 pub mod WholeRuns
 pub mod ScriptFaults
 pub mod ScriptRuns
+pub mod Simulated
+pub mod Commands

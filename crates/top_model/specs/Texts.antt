@@ -15,10 +15,11 @@ use Rattle.top_model.specs.declared.report.DocFault.{DocFault}
 use Rattle.top_model.specs.declared.report.DocFault.TheVariants.{Json, Yaml, Schema}
 use Rattle.engine_model.specs.declared.Left.{Left}
 use Rattle.engine_model.specs.declared.Left.TheVariants as left
+use Rattle.rollout_model.specs.declared.Event.{Event}
 use Rattle.top_model.specs.Orders.{Text}
 use Rattle.top_model.specs.Said.{line, times}
 use Rattle.top_model.specs.declared.report.Cause.{Cause}
-use Rattle.top_model.specs.declared.report.Cause.TheVariants.{Done, DocRefused, MergeRefused, Usage, BadLine, Pending, NoCheckpoint, Unfinished, Expired, Exists, NoSuchName, ReadFault, WriteFault, HostFault, InDoubt, KernelRefused, NotVerified, Damaged, HardwareDiffers, OutOfMemory}
+use Rattle.top_model.specs.declared.report.Cause.TheVariants.{Done, DocRefused, MergeRefused, Usage, BadLine, BatchLine, BatchLarge, CallRefused, FolderFault, Halted, Pending, NoCheckpoint, Unfinished, Expired, Exists, NoSuchName, ReadFault, WriteFault, HostFault, InDoubt, KernelRefused, NotVerified, Damaged, HardwareDiffers, OutOfMemory}
 
 -- ---- statuses
 
@@ -33,6 +34,11 @@ status_of (DocRefused fault) = 1
 status_of (MergeRefused refused) = 1
 status_of Usage = 2
 status_of (BadLine n) = 2
+status_of (BatchLine n) = 1
+status_of BatchLarge = 1
+status_of (CallRefused n k) = 13
+status_of FolderFault = 12
+status_of (Halted event) = 14
 status_of (Pending deadline) = 3
 status_of NoCheckpoint = 3
 status_of (Unfinished since deadline) = 3
@@ -125,13 +131,18 @@ area_words area = if area == 0 then codes "kernel area damaged" else codes "chec
 abbrev pub error : Text → Text
 error text = line (codes "error: " ++ text)
 
--- nothing where it is done, or where a sink failed
+-- nothing where it is done, where a sink failed, or where a rollout was halted, of which its own lines tell
 abbrev pub error_line : Cause → Text
 error_line Done = []
 error_line (DocRefused fault) = error (codes "document: " ++ document_words fault)
 error_line (MergeRefused refused) = error (merge_words refused)
 error_line Usage = error (codes "usage: nmstatectl [--state DIR] COMMAND")
 error_line (BadLine n) = error (codes "script line " ++ decimal n)
+error_line (BatchLine n) = error (codes "batch line " ++ decimal n)
+error_line BatchLarge = error (codes "batch too large")
+error_line (CallRefused n k) = error (codes "call " ++ decimal n ++ codes " refused " ++ decimal k)
+error_line FolderFault = error (codes "folder fault")
+error_line (Halted event) = []
 error_line (Pending deadline) = error (codes "pending until " ++ decimal deadline)
 error_line NoCheckpoint = error (codes "no checkpoint")
 error_line (Unfinished since deadline) = error (codes "unfinished change, " ++ times since deadline)

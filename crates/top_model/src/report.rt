@@ -5,6 +5,7 @@ use doc_tree::JsonFault;
 use document_model::Refused;
 use engine_model::Left;
 use net_model::{Name, Net};
+use rollout_model::Event;
 use std::alloc::{AllocError, AllocFailed};
 use tree_schema::SchemaFault;
 use yaml_read::YamlFault;
@@ -30,6 +31,16 @@ pub enum Cause {
     Usage,
     /// The line of a script, from 1, that is none.
     BadLine(u64),
+    /// The line of a text of calls, from 1, that is no spelling of a call.
+    BatchLine(u64),
+    /// The text of calls has too many bytes.
+    BatchLarge,
+    /// Of calls that are tried out the one of this number, from 1, is refused, with the number of the refusal.
+    CallRefused(u64, u8),
+    /// A folder of documents failed. A single command has none, so it never ends so.
+    FolderFault,
+    /// A rollout was halted by this event. A single command never ends so.
+    Halted(Event),
     /// A change waits until this moment.
     Pending(u64),
     /// There is no checkpoint.
@@ -73,6 +84,7 @@ impl Cause {
         match self {
             Cause::Done => 0,
             Cause::DocRefused(_) | Cause::MergeRefused(_) => 1,
+            Cause::BatchLine(_) | Cause::BatchLarge => 1,
             Cause::Usage | Cause::BadLine(_) => 2,
             Cause::Pending(_) | Cause::NoCheckpoint | Cause::Unfinished(_, _) => 3,
             Cause::Expired(_, _) | Cause::Exists => 3,
@@ -84,6 +96,9 @@ impl Cause {
             Cause::NotVerified(_, _) => 9,
             Cause::InDoubt => 10,
             Cause::Damaged(_) | Cause::HardwareDiffers(_) => 11,
+            Cause::FolderFault => 12,
+            Cause::CallRefused(_, _) => 13,
+            Cause::Halted(_) => 14,
         }
     }
 }

@@ -1,6 +1,6 @@
 //! The command of words.
 
-use base_model::{OutOfMemory, Str, push_decimal};
+use base_model::{Items, OutOfMemory, Str, push_decimal};
 use command_words::{Command, command_of, lone};
 use std::alloc::Global;
 
@@ -33,7 +33,10 @@ fn name_of(command: &Command) -> &'static str {
     match command {
         Command::Show { .. } => "show",
         Command::Plan { .. } => "plan",
+        Command::Simulate { .. } => "simulate",
         Command::Apply { .. } => "apply",
+        Command::Service { .. } => "service",
+        Command::Rollout { .. } => "rollout",
         Command::Commit => "commit",
         Command::Rollback => "rollback",
         Command::Recover => "recover",
@@ -57,6 +60,23 @@ fn push_apply(
     push_text(" file=", file, out)
 }
 
+fn push_rollout(
+    limit: u32,
+    file: &Str,
+    dirs: &Items<Str>,
+    out: &mut Vec<u8>,
+) -> Result<(), OutOfMemory> {
+    out.extend_from_slice(b" limit=")?;
+    push_decimal(limit, out)?;
+    out.extend_from_slice(b" file=")?;
+    out.extend_from_slice(file.as_str().as_bytes())?;
+    for dir in dirs.items() {
+        out.extend_from_slice(b" dir=")?;
+        out.extend_from_slice(dir.as_str().as_bytes())?;
+    }
+    Ok(())
+}
+
 fn push_command(command: &Command, out: &mut Vec<u8>) -> Result<(), OutOfMemory> {
     out.extend_from_slice(name_of(command).as_bytes())?;
     match command {
@@ -64,9 +84,18 @@ fn push_command(command: &Command, out: &mut Vec<u8>) -> Result<(), OutOfMemory>
             push_flag(" json", *json, out)?;
             push_text(" only=", only, out)
         }
-        Command::Plan { file } | Command::Init { file } | Command::Script { file } => {
+        Command::Plan { file, batch } => {
+            push_flag(" batch", *batch, out)?;
             push_text(" file=", file, out)
         }
+        Command::Simulate { file } | Command::Init { file } | Command::Script { file } => {
+            push_text(" file=", file, out)
+        }
+        Command::Service { dir } => {
+            out.extend_from_slice(b" dir=")?;
+            Ok(out.extend_from_slice(dir.as_str().as_bytes())?)
+        }
+        Command::Rollout { limit, file, dirs } => push_rollout(*limit, file, dirs, out),
         Command::Apply {
             file,
             no_commit,

@@ -29,6 +29,8 @@ fn name_of_refusal(cause: &Cause) -> &'static str {
         Cause::DocRefused(DocFault::Json(_)) => "json",
         Cause::DocRefused(DocFault::Yaml(_)) => "yaml",
         Cause::DocRefused(DocFault::Schema(_)) => "schema",
+        Cause::BatchLine(_) => "batch line",
+        Cause::BatchLarge => "batch too large",
         _ => "another",
     }
 }
@@ -37,6 +39,7 @@ fn name_of(answer: &Result<Order, Cause>) -> &'static str {
     match answer {
         Ok(Order::Show { .. }) => "show",
         Ok(Order::Plan { .. }) => "plan",
+        Ok(Order::Simulate { .. }) => "simulate",
         Ok(Order::Apply { .. }) => "apply",
         Ok(Order::Commit) => "commit",
         Ok(Order::Rollback) => "rollback",

@@ -6,6 +6,7 @@ use document_model::{Place, Refused};
 use engine_model::Left;
 use host_memory::MemorySink;
 use net_model::Net;
+use rollout_model::Event;
 use scenario_model::Summary;
 use std::alloc::Global;
 use top_model::Cause;
@@ -30,14 +31,19 @@ fn left(word: &str) -> Left {
     }
 }
 
-// `bad-line N`, `limit N`, `unfinished MADE DEADLINE`, `expired MADE DEADLINE`, `kernel-refused N CALL LEFT`,
-// `not-verified LEFT`, `out-of-memory`.
+// `bad-line N`, `batch-line N`, `batch-large`, `call-refused CALL N`, `folder-fault`, `halted`, `limit N`,
+// `unfinished MADE DEADLINE`, `expired MADE DEADLINE`, `kernel-refused N CALL LEFT`, `not-verified LEFT`, `out-of-memory`.
 fn cause_of(alloc: Global, case: &str) -> Cause {
     let (word, rest) = first_word(case);
     let (first, rest) = first_word(rest);
     let (second, third) = first_word(rest);
     match word {
         "bad-line" => Cause::BadLine(number(first)),
+        "batch-line" => Cause::BatchLine(number(first)),
+        "batch-large" => Cause::BatchLarge,
+        "call-refused" => Cause::CallRefused(number(first), small(second)),
+        "folder-fault" => Cause::FolderFault,
+        "halted" => Cause::Halted(Event::Bad(0)),
         "limit" => Cause::MergeRefused(Refused {
             rule: 21,
             which: small(first),

@@ -7,7 +7,7 @@ use Rattle.top_model.specs.Texts.{error_line, note_lines}
 use Rattle.top_model.specs.Runs.{Run}
 use Rattle.top_model.specs.Told.{Answer, cause_of, noted, ErrText, IsWhole, IsCut, Told}
 use Rattle.top_model.specs.declared.report.Cause.{Cause}
-use Rattle.top_model.specs.declared.report.Cause.TheVariants.{Done, DocRefused, MergeRefused, Usage, BadLine, Pending, NoCheckpoint, Unfinished, Expired, Exists, NoSuchName, ReadFault, WriteFault, HostFault, InDoubt, KernelRefused, NotVerified, Damaged, HardwareDiffers, OutOfMemory}
+use Rattle.top_model.specs.declared.report.Cause.TheVariants.{Done, DocRefused, MergeRefused, Usage, BadLine, BatchLine, BatchLarge, CallRefused, FolderFault, Halted, Pending, NoCheckpoint, Unfinished, Expired, Exists, NoSuchName, ReadFault, WriteFault, HostFault, InDoubt, KernelRefused, NotVerified, Damaged, HardwareDiffers, OutOfMemory}
 use Rattle.answer_text.specs.Speaking.{Spoken}
 
 -- what was spoken in a run is whole or cut
@@ -23,6 +23,11 @@ err_noted order (DocRefused fault) other = refl
 err_noted order (MergeRefused refused) other = refl
 err_noted order Usage other = refl
 err_noted order (BadLine n) other = refl
+err_noted order (BatchLine n) other = refl
+err_noted order BatchLarge other = refl
+err_noted order (CallRefused n k) other = refl
+err_noted order FolderFault other = refl
+err_noted order (Halted event) other = refl
 err_noted order (Pending deadline) other = refl
 err_noted order NoCheckpoint other = refl
 err_noted order (Unfinished since deadline) other = refl

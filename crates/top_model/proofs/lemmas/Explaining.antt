@@ -30,7 +30,7 @@ use Rattle.engine_model.specs.declared.CommitFault.{CommitFault}
 use Rattle.engine_model.specs.declared.CommitFault.TheVariants as co
 use Rattle.engine_model.specs.declared.Left.TheVariants as side
 use Rattle.top_model.specs.Said.{committed as said_committed, rolled_back, checked, said_applied, said_recovered}
-use Rattle.top_model.specs.Orders.{Order, showing, planning, applying, committing, rolling_back, recovering, checking, making, generating}
+use Rattle.top_model.specs.Orders.{Order, showing, planning, simulating, applying, committing, rolling_back, recovering, checking, making, generating}
 use Rattle.top_model.specs.Machine.{told, apply_cause, commit_cause, back_cause, check_cause, make_on, machine_of, first_net}
 use Rattle.top_model.specs.Texts.{status_of}
 use Rattle.top_model.specs.Runs.{Run, reads}
@@ -126,7 +126,8 @@ module _ (now : ℕ) (e : Standing) (firm : Firm e) (rose : Type 0) where
   by_order (Ok (making links)) = let P : Option NetData → Type 0 = OfMake links in subst P (sym firm.is_net) refl
   by_order (Ok checking) = refl
   by_order (Ok (showing only json)) = refl
-  by_order (Ok (planning doc)) = refl
+  by_order (Ok (planning doc in_batch)) = refl
+  by_order (Ok (simulating calls)) = refl
   by_order (Ok (generating devices first second)) = refl
   by_order (Err refusal) = refl
 
@@ -218,7 +219,8 @@ module _ (now : ℕ) (e r : Standing) (firm : Firm e) (other : Firm r) (like : A
   closed_status saved closed_r closed_e (Ok checking) = inr (check_zero now r saved other closed_r ∙ sym (check_zero now e saved firm closed_e))
   closed_status saved closed_r closed_e (Ok (making links)) = inr (make_three now r saved other closed_r links ∙ sym (make_three now e saved firm closed_e links))
   closed_status saved closed_r closed_e (Ok (showing only json)) = inl tt
-  closed_status saved closed_r closed_e (Ok (planning doc)) = inl tt
+  closed_status saved closed_r closed_e (Ok (planning doc in_batch)) = inl tt
+  closed_status saved closed_r closed_e (Ok (simulating calls)) = inl tt
   closed_status saved closed_r closed_e (Ok (generating devices first second)) = inr refl
   closed_status saved closed_r closed_e (Err refusal) = inr refl
 

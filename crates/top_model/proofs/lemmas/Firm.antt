@@ -26,7 +26,7 @@ use Rattle.engine_model.specs.Stations.{at}
 use Rattle.engine_model.specs.Exit.{Unsettled}
 use Rattle.engine_model.proofs.lemmas.Leading.{alike_is}
 use Rattle.engine_model.proofs.lemmas.SameDevices.{differing_none}
-use Rattle.top_model.specs.Orders.{Order, showing, planning, applying, committing, rolling_back, recovering, checking, making, generating}
+use Rattle.top_model.specs.Orders.{Order, showing, planning, simulating, applying, committing, rolling_back, recovering, checking, making, generating}
 use Rattle.top_model.specs.Machine.{make_on, machine_of}
 use Rattle.top_model.specs.declared.report.Cause.{Cause}
 use Rattle.top_model.proofs.lemmas.Settles.{same_some}
@@ -212,7 +212,8 @@ module _ (now : ℕ) (e r : Standing) (firm : Firm e) (other : Firm r) (like : A
       λ m. ap (settled m) (make_stays links r other.net other.is_net) ∙ like m ∙ sym (ap (settled m) (make_stays links e firm.net firm.is_net))
   closed_after saved closed_r closed_e (Ok checking) = like
   closed_after saved closed_r closed_e (Ok (showing only json)) = like
-  closed_after saved closed_r closed_e (Ok (planning doc)) = like
+  closed_after saved closed_r closed_e (Ok (planning doc in_batch)) = like
+  closed_after saved closed_r closed_e (Ok (simulating calls)) = like
   closed_after saved closed_r closed_e (Ok (generating devices first second)) = like
   closed_after saved closed_r closed_e (Err refusal) = like
 

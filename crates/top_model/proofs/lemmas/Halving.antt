@@ -20,7 +20,7 @@ use Rattle.engine_model.specs.declared.BackFault.{BackFault}
 use Rattle.engine_model.specs.declared.CommitFault.{CommitFault}
 use Rattle.engine_model.specs.declared.CommitFault.TheVariants as co
 use Rattle.engine_model.specs.declared.Left.TheVariants as side
-use Rattle.top_model.specs.Orders.{Order, showing, planning, applying, committing, rolling_back, recovering, checking, making, generating}
+use Rattle.top_model.specs.Orders.{Order, showing, planning, simulating, applying, committing, rolling_back, recovering, checking, making, generating}
 use Rattle.top_model.specs.Machine.{first_net}
 use Rattle.top_model.specs.Told.{Answer}
 use Rattle.top_model.specs.Exits.{Stations}
@@ -170,7 +170,8 @@ module _ (ran : Ran) (e : Standing) where
   grown_exit rose (Ok (making links)) is x ends = make_ends (first_net links) ran.answer x ends
   grown_exit rose (Ok checking) is x ends = inr (inl ends)
   grown_exit rose (Ok (showing only json)) is x ends = inr (inl ends)
-  grown_exit rose (Ok (planning doc)) is x ends = inr (inl ends)
+  grown_exit rose (Ok (planning doc in_batch)) is x ends = inr (inl ends)
+  grown_exit rose (Ok (simulating calls)) is x ends = inr (inl ends)
   grown_exit rose (Ok (generating devices first second)) is x ends = inr (inl ends)
   grown_exit rose (Err refusal) is x ends = inr (inl ends)
 
@@ -190,8 +191,10 @@ module _ (ran : Ran) (e : Standing) where
   grown_station has (Ok checking) is x (inr stood) = inr (inl stood)
   grown_station has (Ok (showing only json)) is x (inl stood) = inr (inl stood)
   grown_station has (Ok (showing only json)) is x (inr stood) = inr (inl stood)
-  grown_station has (Ok (planning doc)) is x (inl stood) = inr (inl stood)
-  grown_station has (Ok (planning doc)) is x (inr stood) = inr (inl stood)
+  grown_station has (Ok (planning doc in_batch)) is x (inl stood) = inr (inl stood)
+  grown_station has (Ok (simulating calls)) is x (inl stood) = inr (inl stood)
+  grown_station has (Ok (planning doc in_batch)) is x (inr stood) = inr (inl stood)
+  grown_station has (Ok (simulating calls)) is x (inr stood) = inr (inl stood)
   grown_station has (Ok (generating devices first second)) is x (inl stood) = inr (inl stood)
   grown_station has (Ok (generating devices first second)) is x (inr stood) = inr (inl stood)
   grown_station has (Err refusal) is x (inl stood) = inr (inl stood)

@@ -9,7 +9,7 @@ use Rattle.engine_model.specs.Stations.{Stands, Entry, Near, Within, Only, Befor
 use Rattle.engine_model.specs.Exit.{OnWay, Unsettled, Marked}
 use Rattle.engine_model.specs.declared.Left.TheVariants as side
 use Rattle.top_model.specs.Said.{Said}
-use Rattle.top_model.specs.Orders.{Order, showing, planning, applying, committing, rolling_back, recovering, checking, making, generating}
+use Rattle.top_model.specs.Orders.{Order, showing, planning, simulating, applying, committing, rolling_back, recovering, checking, making, generating}
 use Rattle.top_model.specs.Machine.{first_net}
 use Rattle.top_model.specs.Told.{Answer}
 use Rattle.top_model.specs.Exits.{ApplyLeaves, CommitLeaves, BackLeaves, CheckLeaves, MakeLeaves, MaybeMade, AtExit}
@@ -218,6 +218,7 @@ module _ (now : ℕ) (entry : Entry) (reached : Stands) (begins : (x : Standing)
   led_exit (Ok (making links)) done x p l = led_make now entry reached begins here firm (first_net links) left answer x p l
   led_exit (Ok checking) done x p l = only_kept (Ok checking) (λ e. refl) (check_within answer x) p l
   led_exit (Ok (showing only json)) done x p l = only_kept (Ok (showing only json)) (λ e. refl) x p l
-  led_exit (Ok (planning doc)) done x p l = only_kept (Ok (planning doc)) (λ e. refl) x p l
+  led_exit (Ok (planning doc in_batch)) done x p l = only_kept (Ok (planning doc in_batch)) (λ e. refl) x p l
+  led_exit (Ok (simulating calls)) done x p l = only_kept (Ok (simulating calls)) (λ e. refl) x p l
   led_exit (Ok (generating devices first second)) done x p l = only_kept (Ok (generating devices first second)) (λ e. refl) x p l
   led_exit (Err refusal) done x p l = only_kept (Err refusal) (λ e. refl) x p l

@@ -12,7 +12,7 @@ use Rattle.top_model.specs.Answered.{Rests, Answered}
 use Rattle.top_model.specs.Promises.{CommitTakesNone, RefusedExactly, Statuses}
 use Rattle.top_model.specs.declared.report.Report.{Report}
 use Rattle.top_model.specs.declared.report.Cause.{Cause}
-use Rattle.top_model.specs.declared.report.Cause.TheVariants.{Done, DocRefused, Usage, BadLine, NoSuchName, ReadFault, WriteFault, HostFault, KernelRefused, OutOfMemory}
+use Rattle.top_model.specs.declared.report.Cause.TheVariants.{Done, DocRefused, Usage, BadLine, BatchLine, BatchLarge, NoSuchName, ReadFault, WriteFault, HostFault, KernelRefused, OutOfMemory}
 
 -- the order that was asked is the one that was answered
 pub order_is : (r : Run) (a : Answered r) (order : Result Order Cause) → Asks r order → a.order ≡ order
@@ -135,6 +135,8 @@ refuses r refusal (Err Usage) quiet is told = inl (subst (λ c. Told r (Err refu
 refuses r refusal (Err NoSuchName) quiet is told = inl (subst (λ c. Told r (Err refusal) (Err c)) (sym is) told)
 refuses r refusal (Err (DocRefused fault)) quiet is told = inl (subst (λ c. Told r (Err refusal) (Err c)) (sym is) told)
 refuses r refusal (Err (BadLine n)) quiet is told = inl (subst (λ c. Told r (Err refusal) (Err c)) (sym is) told)
+refuses r refusal (Err (BatchLine n)) quiet is told = inl (subst (λ c. Told r (Err refusal) (Err c)) (sym is) told)
+refuses r refusal (Err BatchLarge) quiet is told = inl (subst (λ c. Told r (Err refusal) (Err c)) (sym is) told)
 refuses r refusal (Err ReadFault) quiet is told = absurd (quiet.source is.0)
 refuses r refusal (Err OutOfMemory) quiet is told = inr told
 refuses r refusal answer quiet is told = absurd is

@@ -9,7 +9,7 @@ use Rattle.engine_model.specs.Machine.{asked, apply}
 use Rattle.engine_model.specs.Sound.{Fit, Sound}
 use Rattle.engine_model.specs.Stations.{Stands, Near, Kept, Only, Settled, Either, at, left_by}
 use Rattle.top_model.specs.Said.{Said}
-use Rattle.top_model.specs.Orders.{Order, showing, planning, applying, committing, rolling_back, recovering, checking, making, generating}
+use Rattle.top_model.specs.Orders.{Order, showing, planning, simulating, applying, committing, rolling_back, recovering, checking, making, generating}
 use Rattle.top_model.specs.Runs.{Run, Alone, reads, entry, left_at_exit, HostRose, HostRoseTwice}
 use Rattle.top_model.specs.Told.{Answer}
 use Rattle.top_model.specs.Causes.{Expects}
@@ -33,7 +33,8 @@ firm_order now e firm (Ok recovering) backed = firm_recover now e firm
 firm_order now e firm (Ok (making links)) backed = subst Firm (sym (make_stays links e firm.net firm.is_net)) firm
 firm_order now e firm (Ok checking) backed = firm
 firm_order now e firm (Ok (showing only json)) backed = firm
-firm_order now e firm (Ok (planning doc)) backed = firm
+firm_order now e firm (Ok (planning doc in_batch)) backed = firm
+firm_order now e firm (Ok (simulating calls)) backed = firm
 firm_order now e firm (Ok (generating devices first second)) backed = firm
 firm_order now e firm (Err refusal) backed = firm
 
@@ -46,7 +47,8 @@ keeps_sound r (Ok rolling_back) answer sound has kept = kept.sound
 keeps_sound r (Ok recovering) answer sound has kept = kept.sound
 keeps_sound r (Ok checking) answer sound has kept = kept.sound
 keeps_sound r (Ok (showing only json)) answer sound has kept = kept.sound
-keeps_sound r (Ok (planning doc)) answer sound has kept = kept.sound
+keeps_sound r (Ok (planning doc in_batch)) answer sound has kept = kept.sound
+keeps_sound r (Ok (simulating calls)) answer sound has kept = kept.sound
 keeps_sound r (Ok (generating devices first second)) answer sound has kept = kept.sound
 keeps_sound r (Err refusal) answer sound has kept = kept.sound
 
@@ -59,7 +61,8 @@ station_self now (Ok rolling_back) e = inl refl
 station_self now (Ok recovering) e = inl refl
 station_self now (Ok checking) e = inl refl
 station_self now (Ok (showing only json)) e = inl refl
-station_self now (Ok (planning doc)) e = inl refl
+station_self now (Ok (planning doc in_batch)) e = inl refl
+station_self now (Ok (simulating calls)) e = inl refl
 station_self now (Ok (generating devices first second)) e = inl refl
 station_self now (Err refusal) e = inl refl
 
@@ -231,7 +234,8 @@ module _ (r : Run) (a : Answered r) (honest : r.honest) (after_lawful : IsLawful
   way (Ok recovering) kept = plain (Ok recovering) (λ e. inr refl) kept
   way (Ok checking) kept = plain (Ok checking) (λ e. inr refl) kept
   way (Ok (showing only json)) kept = plain (Ok (showing only json)) (λ e. inr refl) kept
-  way (Ok (planning doc)) kept = plain (Ok (planning doc)) (λ e. inr refl) kept
+  way (Ok (planning doc in_batch)) kept = plain (Ok (planning doc in_batch)) (λ e. inr refl) kept
+  way (Ok (simulating calls)) kept = plain (Ok (simulating calls)) (λ e. inr refl) kept
   way (Ok (generating devices first second)) kept = plain (Ok (generating devices first second)) (λ e. inr refl) kept
   way (Err refusal) kept = plain (Err refusal) (λ e. inr refl) kept
 

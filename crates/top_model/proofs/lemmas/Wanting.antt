@@ -3,7 +3,7 @@ use Rattle.std.proofs.Common.{◌≡◌, ◌∙◌, refl, sym, ap, List, Option,
 use Rattle.std.specs.Prelude.{◌≢◌, Result, Ok}
 use Rattle.std.specs.Option.{option_or}
 use Rattle.engine_model.specs.Faults.{HasSet, HasTaken}
-use Rattle.command_words.specs.Words.{lone, by_clap, command_of}
+use Rattle.command_words.specs.Words.{lone, unescaped, command_of}
 use Rattle.command_words.specs.declared.Command.{Command}
 use Rattle.command_words.specs.declared.Command.TheVariants.{Commit, Rollback, Recover}
 use Rattle.top_model.specs.Orders.{Text, Inputs, Order, committing, rolling_back, recovering, order_named, order_of}
@@ -39,7 +39,7 @@ asks order = Ok order
 -- a lone word is its command
 pub lone_is : (words : List Text) (c : Command) → lone words ≡ Some c → command_of words ≡ Some c
 unfolding command_of
-lone_is words c is = ap (λ (x : Option Command). option_or x (by_clap words)) is
+lone_is words c is = ap (λ (x : Option Command). option_or x (unescaped words)) is
 
 -- words that are no lone one
 pub may_want_words : (r : Run) → lone r.words ≡ None → MayWant r

@@ -6,6 +6,15 @@ use Rattle.answer_text.proofs.refusals.write_error.Goals as goal
 pub returns-in-BadLine : goal.returns-in-BadLine
 returns-in-BadLine g c = same g.W.Sink.tells c.numbered_error.result (error_line c.args.cause.now) (g.W.Sink.told c.args.err.now) (g.W.Sink.told c.write_line-in-BadLine.new.sink) c.write_line-in-BadLine.result (c.numbered_error.ensures ∙ sym (ap error_line c.in-BadLine.is)) c.write_line-in-BadLine.ensures
 
+pub returns-in-BatchLine : goal.returns-in-BatchLine
+returns-in-BatchLine g c = same g.W.Sink.tells c.numbered_error-in-BatchLine.result (error_line c.args.cause.now) (g.W.Sink.told c.args.err.now) (g.W.Sink.told c.write_line-in-BatchLine.new.sink) c.write_line-in-BatchLine.result (c.numbered_error-in-BatchLine.ensures ∙ sym (ap error_line c.in-BatchLine.is)) c.write_line-in-BatchLine.ensures
+
+pub returns-in-BatchLarge : goal.returns-in-BatchLarge
+returns-in-BatchLarge g c = same g.W.Sink.tells (codes "error: batch too large\n") (error_line c.args.cause.now) (g.W.Sink.told c.args.err.now) (g.W.Sink.told c.write_text-in-BatchLarge.new.sink) c.write_text-in-BatchLarge.result (sym (ap error_line c.in-BatchLarge.is)) c.write_text-in-BatchLarge.ensures
+
+pub returns-in-FolderFault : goal.returns-in-FolderFault
+returns-in-FolderFault g c = same g.W.Sink.tells (codes "error: folder fault\n") (error_line c.args.cause.now) (g.W.Sink.told c.args.err.now) (g.W.Sink.told c.write_text-in-FolderFault.new.sink) c.write_text-in-FolderFault.result (sym (ap error_line c.in-FolderFault.is)) c.write_text-in-FolderFault.ensures
+
 pub returns-in-Pending : goal.returns-in-Pending
 returns-in-Pending g c = same g.W.Sink.tells c.numbered_error-in-Pending.result (error_line c.args.cause.now) (g.W.Sink.told c.args.err.now) (g.W.Sink.told c.write_line-in-Pending.new.sink) c.write_line-in-Pending.result (c.numbered_error-in-Pending.ensures ∙ sym (ap error_line c.in-Pending.is)) c.write_line-in-Pending.ensures
 

@@ -1,5 +1,5 @@
 use Rattle.std.proofs.Common.{◌≡◌, inl, refl, subst, arith, List, None}
-use Rattle.std.specs.Prelude.{[], false, Err, String, map, string_bytes}
+use Rattle.std.specs.Prelude.{ℕ, [], false, Err, String, map, string_bytes}
 use Rattle.std.specs.declared.alloc.Global.{Global}
 use Rattle.command_words.specs.Words.{lone, command_of}
 use Rattle.top_model.specs.Runs.{run_of}
@@ -16,23 +16,14 @@ use Rattle.nmstate_top.proofs.run.run_words.Goals as goal
 pub run_named-requires : goal.run_named-requires
 run_named-requires g c = subst (λ (words : List (String Global)). c.in-Ok.script ≡ file_of (command_of (map string_bytes words))) c.as_slice.ensures.value c.in-Ok.ensures.file
 
-pub returns-in-Err-clause-answered : goal.returns-in-Err-clause-answered
-returns-in-Err-clause-answered g c = λ none.
+pub returns-in-Err : goal.returns-in-Err
+returns-in-Err g c =
     let t = c.tell_refused.ensures in
     let alone : lone (map string_bytes c.args.words.now.items) ≡ None = subst (λ (words : List (String Global)). lone (map string_bytes words) ≡ None) c.as_slice.ensures.value c.in-Err.ensures.memory in
-    let r = run_of g.H.Host g.S.Source g.W.Sink c.args.words.now.items false c.args.now c.args.host.now c.args.host.now c.args.src.now c.args.src.now c.args.out.now c.tell_refused.new.out c.args.err.now c.tell_refused.new.err c.tell_refused.result in
-    ran_out r refl (record { host = omega arith; source = omega arith; out = t.out; err = t.err; inputs = λ told. refl; takes = nothing_taken r refl (told_of _ OutOfMemory _ _ _ _ _ _ c.tell_refused.result t.told) _; lawful = g.met.H.Host.lawful c.args.host.now; tells = g.met.H.Host.honest_tells }) alone t.told
-
-pub returns-in-Err-clause-script : goal.returns-in-Err-clause-script
-returns-in-Err-clause-script g c =
-    let alone : lone (map string_bytes c.args.words.now.items) ≡ None = subst (λ (words : List (String Global)). lone (map string_bytes words) ≡ None) c.as_slice.ensures.value c.in-Err.ensures.memory in
-    let r = run_of g.H.Host g.S.Source g.W.Sink c.args.words.now.items false 0 c.args.host.now c.args.host.now c.args.src.now c.args.src.now c.args.out.now c.tell_refused.new.out c.args.err.now c.tell_refused.new.err c.tell_refused.result in
-    script_ran_out r _ (may_want_words r alone) refl (told_refused r (Err OutOfMemory) OutOfMemory [] (inl refl) c.tell_refused.ensures.told)
-
-pub returns-in-Err-clause-apart : goal.returns-in-Err-clause-apart
-returns-in-Err-clause-apart g c = λ none count seed is. (refl, refl)
-
-pub returns-in-Err-clause-ran : goal.returns-in-Err-clause-ran
-returns-in-Err-clause-ran g c = λ file is.
-    let r = run_of g.H.Host g.S.Source g.W.Sink c.args.words.now.items false 0 c.args.host.now c.args.host.now c.args.src.now c.args.src.now c.args.out.now c.tell_refused.new.out c.args.err.now c.tell_refused.new.err c.tell_refused.result in
-    refused r _ file is refl OutOfMemory tt c.tell_refused.ensures.told
+    let of = λ (now : ℕ). run_of g.H.Host g.S.Source g.W.Sink c.args.words.now.items false now c.args.host.now c.args.host.now c.args.src.now c.args.src.now c.args.out.now c.tell_refused.new.out c.args.err.now c.tell_refused.new.err c.tell_refused.result in
+    record {
+      answered = λ none. ran_out (of c.args.now) refl (record { host = omega arith; source = omega arith; out = t.out; err = t.err; inputs = λ told. refl; takes = nothing_taken (of c.args.now) refl (told_of _ OutOfMemory _ _ _ _ _ _ c.tell_refused.result t.told) _; lawful = g.met.H.Host.lawful c.args.host.now; tells = g.met.H.Host.honest_tells }) alone t.told;
+      apart = λ none count seed is. (refl, refl);
+      script = script_ran_out (of 0) _ (may_want_words (of 0) alone) refl (told_refused (of 0) (Err OutOfMemory) OutOfMemory [] (inl refl) t.told);
+      ran = λ file is. refused (of 0) _ file is refl OutOfMemory tt t.told;
+    }

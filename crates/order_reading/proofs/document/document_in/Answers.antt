@@ -1,4 +1,3 @@
-use Rattle.std.proofs.Common.{◌∙◌, sym}
 use Rattle.std.proofs.lemmas.Result.{err_from_is_err_and}
 use Rattle.doc_tree.specs.Shape.{shape}
 use Rattle.route_schema.specs.Document.{document as parts_of, doc as with_notes}

@@ -1,5 +1,4 @@
-use Rattle.std.proofs.Common.{◌≡◌, ◌∙◌, ◌&&◌, Bool, true, false, sym, is_none}
-use Rattle.order_reading.specs.Pieces.{ReadsName}
+use Rattle.std.proofs.Common.{◌∙◌, sym}
 use Rattle.order_reading.proofs.Inputs.{refused_there, file_read, file_taken}
 use Rattle.order_reading.proofs.input.read_input.Goals as goal
 

@@ -1,6 +1,4 @@
-use Rattle.std.proofs.Common.{◌∙◌, sym, true}
-use Rattle.std.specs.List.{list_all}
-use Rattle.top_model.specs.Lines.{is_digit, begins_well}
+use Rattle.std.proofs.Common.{sym}
 use Rattle.order_reading.proofs.Parts.{no_moment}
 use Rattle.order_reading.proofs.line.moment_of.Goals as goal
 

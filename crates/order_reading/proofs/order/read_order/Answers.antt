@@ -1,6 +1,4 @@
 use Rattle.std.proofs.Common.{map, string_bytes}
-use Rattle.command_words.specs.Words.{command_of}
-use Rattle.order_reading.specs.Asked.{TakesMemory}
 use Rattle.order_reading.proofs.Alone.{takes_more}
 use Rattle.order_reading.proofs.order.read_order.Goals as goal
 

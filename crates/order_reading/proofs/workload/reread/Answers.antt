@@ -1,4 +1,4 @@
-use Rattle.std.proofs.Common.{◌∙◌, sym, subst, ap, Result}
+use Rattle.std.proofs.Common.{◌∙◌, subst, Result}
 use Rattle.doc_tree.specs.Shape.{Shape, shape}
 use Rattle.top_model.specs.declared.Cause.{Cause}
 use Rattle.order_reading.specs.Reading.{Answers}
