@@ -1,0 +1,6 @@
+pub mod lemmas
+mod InOrder
+mod Merging
+mod Landing
+mod Serving
+mod Memories

@@ -1,0 +1,9 @@
+mod Pieces
+mod Readings
+mod Causes
+mod Documents
+mod Walks
+mod Steps
+mod Refusals
+mod Ends
+mod Wholes
