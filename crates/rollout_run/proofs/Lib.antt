@@ -1,0 +1,3 @@
+mod Prints
+mod Going
+mod Rolling
