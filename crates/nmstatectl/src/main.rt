@@ -1,22 +1,30 @@
-//! Declarative network state at the command line. What it does is `run_command`; here are the folder of the state, and
+//! Declarative network state at the command line. What it does is `run_program`; here are the folders that its words name, and
 //! the adapters over files, the standard streams and the clock.
 #![tactic(auto)]
 
+// The system's clock.
 mod clock;
+// The files of a folder of documents.
+mod folder;
+// The standard streams as sinks.
 mod sink;
+// Files and standard input as a source.
 mod source;
+// The folders that the words name.
 mod state;
 
 ghost use Rattle.std.specs.Prelude.{◌≡◌};
 ghost use Rattle.std.specs.Process.{exit_status};
 
 use crate::clock::SystemClock;
+use crate::folder::FileFolder;
 use crate::sink::{Stream, StreamSink};
 use crate::source::FileSource;
-use crate::state::take_folder;
+use crate::state::{node_folders, service_folder, take_folder};
 use disk_host::DiskHost;
 use file_disk::FileDisk;
-use nmstate_top::{Report, run_command};
+use program_top::{Report, run_program};
+use std::alloc::AllocError;
 use std::env;
 use std::io::{self, Write};
 use std::process::ExitCode;
@@ -60,22 +68,37 @@ fn host_in(rt: &HostRuntime, named: &Option<String>) -> DiskHost<FileDisk> {
     DiskHost::new(FileDisk::open(rt, folder))
 }
 
+/// A node of a rollout for each of these folders, in their order.
+fn nodes_in(rt: &HostRuntime, folders: &[String]) -> Result<Vec<DiskHost<FileDisk>>, AllocError> {
+    let mut nodes = Vec::new(rt.alloc());
+    for folder in folders {
+        nodes.push(DiskHost::new(FileDisk::open(rt, folder.as_str())))?;
+    }
+    Ok(nodes)
+}
+
 fn main(rt: HostRuntime) -> ExitCode {
     let alloc = rt.alloc();
     let Ok(mut words) = words(&rt) else {
         return out_of_memory(&rt);
     };
     let named = take_folder(&mut words);
+    let Ok(mut nodes) = nodes_in(&rt, node_folders(words.as_slice())) else {
+        return out_of_memory(&rt);
+    };
     let mut host = host_in(&rt, &named);
+    let mut folder = FileFolder::new(&rt, service_folder(words.as_slice()));
     let mut source = FileSource::new(&rt);
     let mut out = StreamSink::new(Stream::Out(rt.stdout()));
     let mut err = StreamSink::new(Stream::Err(rt.stderr()));
     let mut clock = SystemClock::new(&rt);
-    let report = run_command(
+    let report = run_program(
         alloc,
         &words,
         &mut host,
+        &mut nodes,
         &mut source,
+        &mut folder,
         &mut out,
         &mut err,
         &mut clock,
