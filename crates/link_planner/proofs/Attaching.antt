@@ -1,10 +1,10 @@
 -- A port that is attached to the controller that it has in target.
-use Rattle.std.proofs.Common.{◌≡◌, ℕ, Bool, true, false, not, ◌&&◌, ◌==◌, List, [], ◌∷◌, Option, Some, None, Ok, refl, sym, ap, ◌∙◌}
+use Rattle.std.proofs.Common.{◌≡◌, ℕ, Bool, true, false, not, ◌&&◌, ◌==◌, List, [], ◌∷◌, Option, Some, None, Ok, refl, sym, ap, ◌∙◌, lit<}
 use Rattle.std.specs.List.{list_any}
 use Rattle.net_model.specs.Address.{Block}
 use Rattle.net_model.specs.Links.{find_link, is_bond, is_bond_or_bridge, takes}
 use Rattle.net_model.specs.Valid.{same_block}
-use Rattle.net_model.specs.NetData.{NetData, IsNet}
+use Rattle.net_model.specs.NetData.{NetData}
 use Rattle.net_model.specs.Options.{default_port, is_default_port}
 use Rattle.net_model.specs.Facts.{ControllerFacts}
 use Rattle.net_model.specs.declared.link.Link.{Link}
@@ -21,15 +21,17 @@ use Rattle.kernel_model.specs.Addresses.{has_block}
 use Rattle.kernel_model.specs.Kernel.{step, after}
 use Rattle.kernel_laws.specs.Frames.{Leads}
 use Rattle.kernel_laws.specs.Laws.{StandsWithin}
-use Rattle.net_model.proofs.lemmas.ByName.{or_left, some_same}
+use Rattle.net_model.proofs.lemmas.ByName.{or_left}
 use Rattle.kernel_laws.proofs.lemmas.StepKeeps.{attaches_within}
 use Rattle.kernel_laws.proofs.lemmas.Leading.{has_frame}
 use Rattle.kernel_laws.proofs.lemmas.Taking.{is_accepted}
-use Rattle.plan_model.specs.Undisturbed.{IsUndisturbed}
-use Rattle.link_planner.specs.Drafts.{IsSafe}
-use Rattle.link_planner.specs.Growing.{IsOnWay, IsToward, IsNearer, IsWhole, Reaches, SameController}
-use Rattle.link_planner.proofs.Sparing.{spares_name, touched_where_differs}
-use Rattle.link_planner.proofs.Editing.{edit_quiet, edit_toward, edit_nearer, edit_reaches, way_of}
+use Rattle.link_planner.specs.declared.phase.Phase.TheVariants.{AttachPorts}
+use Rattle.link_planner.specs.Drafts.{DraftData, Holds}
+use Rattle.link_planner.specs.Pairs.{ArePair}
+use Rattle.link_planner.specs.Phases.{CanGrow, IsNext}
+use Rattle.link_planner.specs.Growing.{IsOnWay, IsToward, SameController}
+use Rattle.link_planner.proofs.Editing.{IsEdit, edited, way_of}
+use Rattle.link_planner.proofs.Phasing.{whole_at}
 
 block_itself : (b : Block) → same_block b b ≡ true
 block_itself b =
@@ -51,25 +53,25 @@ port_default o h =
 within_target : (target net : NetData) → IsToward target net → StandsWithin net.links target.links
 within_target target net toward = record { each = λ n l found. let w = toward.links n l found in (w.0, w.1, w.2.kind, w.2.controller) }
 
-module _ (start target net : NetData) (good : IsNet target) (is : IsNet net) (quiet : IsUndisturbed start target net) (toward : IsToward target net) (whole : IsWhole target net) (n c : List ℕ) (link there : Link) (found : find_link n net.links ≡ Some link) (at : find_link n target.links ≡ Some there) (has : there.controller ≡ Some c) (other : link.controller ≡ Some c → ⊥) where
-  way : IsOnWay target link there
-  way = way_of target net toward n link there found at
+module _ (d : DraftData) (h : Holds d) (stands : CanGrow 9 d) (n c : List ℕ) (link there : Link) (pair : ArePair d n link there) (has : there.controller ≡ Some c) (other : link.controller ≡ Some c → ⊥) where
+  way : IsOnWay d.target link there
+  way = way_of d.target d.net stands.toward n link there pair.here pair.at
 
-  control : ControllerFacts target.links there c
-  control = (facts target good).controller n there c at has
+  control : ControllerFacts d.target.links there c
+  control = (facts d.target h.target).controller n there c pair.at has
 
-  now : (l : Link) × (find_link c net.links ≡ Some l)
-  now = whole c control.link control.there
+  now : (l : Link) × (find_link c d.net.links ≡ Some l)
+  now = whole_at 9 d (lit< tt) stands c control.link control.there
 
-  now_way : IsOnWay target now.0 control.link
-  now_way = way_of target net toward c now.0 control.link now.1 control.there
+  now_way : IsOnWay d.target now.0 control.link
+  now_way = way_of d.target d.net stands.toward c now.0 control.link now.1 control.there
 
   free : link.controller ≡ None
   free = of link.controller refl
     where
       of : (o : Option (List ℕ)) → link.controller ≡ o → o ≡ None
       of None e = refl
-      of (Some d) e = let same : Some d ≡ Some c = sym (way.controller d e) ∙ has in absurd (other (e ∙ same))
+      of (Some o) e = let same : Some o ≡ Some c = sym (way.controller o e) ∙ has in absurd (other (e ∙ same))
 
   down : is_bond now.0.kind ≡ true → link.up ≡ false
   down bond = elim link.up as (λ v. link.up ≡ v → v ≡ false) [
@@ -84,41 +86,30 @@ module _ (start target net : NetData) (good : IsNet target) (is : IsNet net) (qu
       none [] all = refl
       none (b ∷ bs) all = absurd (let no : false ≡ true = all b (or_left (same_block b b) (list_any (same_block b) bs) (block_itself b)) in cc)
 
-  taken : step (Attach n c) net ≡ Ok (after (Attach n c) net)
-  taken = is_accepted (Attach n c) net is (record {
+  taken : step (Attach n c) d.net ≡ Ok (after (Attach n c) d.net)
+  taken = is_accepted (Attach n c) d.net h.net (record {
     link = link;
-    there = found;
+    there = pair.here;
     control = now.0;
     controller_there = now.1;
-    off_cycle = attaches_within n c there net target is good (within_target target net toward) at has;
+    off_cycle = attaches_within n c there d.net d.target h.net h.target (within_target d.target d.net stands.toward) pair.at has;
     free = free;
     takes_it = ap (λ k. takes k link.kind) (sym now_way.kind) ∙ ap (takes control.link.kind) (sym way.kind) ∙ control.takes_it;
     down = down;
     without_addresses = empty;
   })
 
-  leads : Leads (Attach n c) net (after (Attach n c) net)
-  leads = has_frame (Attach n c) net (after (Attach n c) net) is taken
+  leads : Leads (Attach n c) d.net (after (Attach n c) d.net)
+  leads = has_frame (Attach n c) d.net (after (Attach n c) d.net) h.net taken
 
-  differs : find_link n net.links ≡ find_link n target.links → ⊥
-  differs same = other (ap (λ (l : Link). l.controller) (some_same link there (sym found ∙ same ∙ at)) ∙ has)
+  -- a link without a controller has the options of a port at their defaults
+  plain : link.port ≡ default_port
+  plain = port_default link.port (((facts d.net h.net).link n link pair.here).port_unused free)
 
-  pub attach_safe : IsSafe start target (Attach n c) net
-  attach_safe = record {
-    accepted = taken;
-    spares = spares_name start target (Attach n c) n refl (touched_where_differs start target net quiet n differs);
-    undisturbed = edit_quiet target net (after (Attach n c) net) n (attached c) leads.0 leads.1 link there found at start (touched_where_differs start target net quiet n differs) quiet;
-  }
-
-  pub attach_toward : IsToward target (after (Attach n c) net)
-  attach_toward = edit_toward target net (after (Attach n c) net) n (attached c) leads.0 leads.1 link there found at (record { kind = way.kind; up = way.up; controller = λ d e. has ∙ e; bond_port = λ u d b h fb bond. sym has ∙ h; addrs = way.addrs }) toward
-
-  pub attach_nearer : IsNearer target net (after (Attach n c) net)
-  attach_nearer = edit_nearer target net (after (Attach n c) net) n (attached c) leads.0 leads.1 link there found at (record { mtu = λ h. h; enough_mtu = λ h. h; mac = λ h. h; near_bond = λ h. h; bond = λ h. h; bridge = λ h. h; controller = λ _. sym has; port = λ h. sym plain ∙ h; up = λ h. h })
-    where
-      -- a link without a controller has the options of a port at their defaults
-      plain : link.port ≡ default_port
-      plain = port_default link.port (((facts net is).link n link found).port_unused free)
-
-  pub attach_reached : Reaches SameController target (after (Attach n c) net) n
-  attach_reached = edit_reaches target net (after (Attach n c) net) n (attached c) leads.0 leads.1 link there found at SameController (sym has)
+  pub attach_next : IsNext AttachPorts d n (Attach n c)
+  attach_next =
+      let e : IsEdit SameController d n (Attach n c) =
+      edited SameController d h n link there pair stands.toward (Attach n c) (attached c) taken refl leads.0 leads.1 (λ same. other (ap (λ (l : Link). l.controller) same ∙ has))
+      (record { kind = way.kind; up = way.up; controller = λ d e. has ∙ e; bond_port = λ u d b h fb bond. sym has ∙ h; addrs = way.addrs })
+      (record { mtu = λ h. h; enough_mtu = λ h. h; mac = λ h. h; near_bond = λ h. h; bond = λ h. h; bridge = λ h. h; controller = λ _. sym has; port = λ h. sym plain ∙ h; up = λ h. h }) (sym has) in
+      record { safe = e.safe; moves = e.grows; done = e.done; counted = refl }

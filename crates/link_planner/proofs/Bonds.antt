@@ -1,86 +1,78 @@
 -- Options of a bond that are set.
-use Rattle.std.proofs.Common.{◌≡◌, ℕ, true, List, [], ◌∷◌, Some, Ok, refl, sym, ap, ◌∙◌}
-use Rattle.net_model.specs.Links.{find_link, named_passes, is_bond, ports_of}
+use Rattle.std.proofs.Common.{◌≡◌, inl, ℕ, true, List, Some, Ok, refl, sym, ap, ◌∙◌, lit<}
+use Rattle.net_model.specs.Links.{is_bond, ports_of}
 use Rattle.net_model.specs.Options.{bond_ok}
-use Rattle.net_model.specs.NetData.{NetData, IsNet}
 use Rattle.net_model.specs.declared.link.Link.{Link}
 use Rattle.net_model.specs.declared.link.Kind.TheVariants.{Bond}
 use Rattle.net_model.specs.declared.call.Call.TheVariants.{SetBond}
 use Rattle.net_model.specs.declared.options.BondMode.{BondMode}
 use Rattle.net_model.specs.declared.options.BondOpts.{BondOpts}
+use Rattle.net_model.proofs.lemmas.ByName.{found_passing}
 use Rattle.net_model.proofs.lemmas.FactsHold.{facts}
 use Rattle.kernel_model.specs.Settings.{with_bond}
 use Rattle.kernel_model.specs.Kernel.{step, after}
 use Rattle.kernel_laws.specs.Frames.{Leads}
-use Rattle.net_model.proofs.lemmas.ByName.{some_same, found_passing}
 use Rattle.kernel_laws.proofs.lemmas.Leading.{has_frame}
 use Rattle.kernel_laws.proofs.lemmas.Taking.{is_accepted}
-use Rattle.plan_model.specs.Touched.{IsCalm}
-use Rattle.plan_model.specs.Undisturbed.{IsUndisturbed}
-use Rattle.link_planner.specs.Drafts.{IsSafe}
-use Rattle.link_planner.specs.Counts.{bonds_among}
-use Rattle.link_planner.specs.Growing.{IsOnWay, IsToward, IsNearer, IsWhole, Reaches, HasPort, NearBond, AlmostSameBond, SameBond, SameController}
-use Rattle.link_planner.proofs.Sparing.{spares_name, touched_where_differs}
-use Rattle.link_planner.proofs.Editing.{edit_quiet, edit_toward, edit_nearer, edit_reaches, way_of}
-use Rattle.link_planner.proofs.Counting.{one_counts}
+use Rattle.link_planner.specs.declared.phase.Phase.TheVariants.{AttachPorts, SetBonds, SetPrimaries}
+use Rattle.link_planner.specs.Drafts.{DraftData, Holds}
+use Rattle.link_planner.specs.Pairs.{ArePair}
+use Rattle.link_planner.specs.Growing.{IsOnWay, IsToward, HasPort, NearBond, Fits, AlmostSameBond, SameBond}
+use Rattle.link_planner.specs.Phases.{CanGrow, IsNext}
+use Rattle.link_planner.proofs.Editing.{IsEdit, edited, way_of}
+use Rattle.link_planner.proofs.Phasing.{whole_at}
+use Rattle.link_planner.proofs.Primaries.{bond_mode, bond_still, fitting_stays, port_among, primary_port}
 use Rattle.link_planner.proofs.Unused.{shown, unused_bond}
-use Rattle.link_planner.proofs.Primaries.{bond_mode, bond_still, port_among, primary_port}
 
 -- of options near target's, whose primary is a port of the bond already, and which are target's where the bond has those
-module _ (start target net : NetData) (good : IsNet target) (is : IsNet net) (quiet : IsUndisturbed start target net) (toward : IsToward target net) (n : List ℕ) (link there : Link) (found : find_link n net.links ≡ Some link) (at : find_link n target.links ≡ Some there)
-    (o : BondOpts) (near : NearBond there.bond o) (ready : (p : List ℕ) → o.primary ≡ Some p → HasPort net n p) (stays : link.bond ≡ there.bond → o ≡ there.bond) (differs : link.bond ≡ o → ⊥) where
-  way : IsOnWay target link there
-  way = way_of target net toward n link there found at
+module _ (d : DraftData) (h : Holds d) (toward : IsToward d.target d.net) (n : List ℕ) (l t : Link) (pair : ArePair d n l t)
+    (o : BondOpts) (near : NearBond t.bond o) (ready : (p : List ℕ) → o.primary ≡ Some p → HasPort d.net n p) (stays : l.bond ≡ t.bond → o ≡ t.bond) (differs : l.bond ≡ o → ⊥) where
+  way : IsOnWay d.target l t
+  way = way_of d.target d.net toward n l t pair.here pair.at
 
-  other : link.bond ≡ there.bond → ⊥
+  other : l.bond ≡ t.bond → ⊥
   other same = differs (same ∙ sym (stays same))
 
-  pub differing_bond : is_bond link.kind ≡ true
-  differing_bond = shown (is_bond link.kind) (λ off. other (unused_bond target net good is toward n link there found at off))
+  differing_bond : is_bond l.kind ≡ true
+  differing_bond = shown (is_bond l.kind) (λ off. other (unused_bond d.target d.net h.target h.net toward n l t pair.here pair.at off))
 
-  mode : (m : BondMode) × (link.kind ≡ Bond m)
-  mode = bond_mode link.kind differing_bond
+  mode : (m : BondMode) × (l.kind ≡ Bond m)
+  mode = bond_mode l.kind differing_bond
 
-  right : bond_ok mode.0 o (ports_of net.links n) ≡ true
+  right : bond_ok mode.0 o (ports_of d.net.links n) ≡ true
   right =
-      bond_still mode.0 there.bond o (ports_of target.links there.name) (ports_of net.links n) (((facts target good).link n there at).bond_right mode.0 (way.kind ∙ mode.1)) near
-      (λ p has. let l = ready p has in port_among net.links n p l.0 l.1 l.2)
+      bond_still mode.0 t.bond o (ports_of d.target.links t.name) (ports_of d.net.links n) (((facts d.target h.target).link n t pair.at).bond_right mode.0 (way.kind ∙ mode.1)) near
+      (λ p has. let k = ready p has in port_among d.net.links n p k.0 k.1 k.2)
 
-  taken : step (SetBond n o) net ≡ Ok (after (SetBond n o) net)
-  taken = is_accepted (SetBond n o) net is (link, found, (mode.0, mode.1, right))
+  taken : step (SetBond n o) d.net ≡ Ok (after (SetBond n o) d.net)
+  taken = is_accepted (SetBond n o) d.net h.net (l, pair.here, (mode.0, mode.1, right))
 
-  leads : Leads (SetBond n o) net (after (SetBond n o) net)
-  leads = has_frame (SetBond n o) net (after (SetBond n o) net) is taken
+  leads : Leads (SetBond n o) d.net (after (SetBond n o) d.net)
+  leads = has_frame (SetBond n o) d.net (after (SetBond n o) d.net) h.net taken
 
-  touched : IsCalm start target n → ⊥
-  touched = touched_where_differs start target net quiet n (λ same. other (ap (λ (l : Link). l.bond) (some_same link there (sym found ∙ same ∙ at))))
+  bond_edit : (R : Link → Link → Type 0) → R (with_bond o l) t → IsEdit R d n (SetBond n o)
+  bond_edit R reached =
+      edited R d h n l t pair toward (SetBond n o) (with_bond o) taken refl leads.0 leads.1 (λ same. other (ap (λ (x : Link). x.bond) same))
+      (record { kind = way.kind; up = way.up; controller = way.controller; bond_port = way.bond_port; addrs = way.addrs })
+      (record { mtu = λ h. h; enough_mtu = λ h. h; mac = λ h. h; near_bond = λ _. near; bond = stays; bridge = λ h. h; controller = λ h. h; port = λ h. h; up = λ h. h }) reached
 
-  pub bond_safe : IsSafe start target (SetBond n o) net
-  bond_safe = record {
-    accepted = taken;
-    spares = spares_name start target (SetBond n o) n refl touched;
-    undisturbed = edit_quiet target net (after (SetBond n o) net) n (with_bond o) leads.0 leads.1 link there found at start touched quiet;
-  }
-
-  pub bond_toward : IsToward target (after (SetBond n o) net)
-  bond_toward = edit_toward target net (after (SetBond n o) net) n (with_bond o) leads.0 leads.1 link there found at (record { kind = way.kind; up = way.up; controller = way.controller; bond_port = way.bond_port; addrs = way.addrs }) toward
-
-  pub bond_nearer : IsNearer target net (after (SetBond n o) net)
-  bond_nearer = edit_nearer target net (after (SetBond n o) net) n (with_bond o) leads.0 leads.1 link there found at (record { mtu = λ h. h; enough_mtu = λ h. h; mac = λ h. h; near_bond = λ _. near; bond = stays; bridge = λ h. h; controller = λ h. h; port = λ h. h; up = λ h. h })
-
-  pub bond_almost : Reaches AlmostSameBond target (after (SetBond n o) net) n
-  bond_almost = edit_reaches target net (after (SetBond n o) net) n (with_bond o) leads.0 leads.1 link there found at AlmostSameBond near
-
-  pub bond_reached : o ≡ there.bond → Reaches SameBond target (after (SetBond n o) net) n
-  bond_reached whole = edit_reaches target net (after (SetBond n o) net) n (with_bond o) leads.0 leads.1 link there found at SameBond whole
-
-  pub bond_count : bonds_among target (n ∷ []) ≡ 1
-  bond_count = one_counts (named_passes (λ l. is_bond l.kind) target.links) n (found_passing (λ (l : Link). is_bond l.kind) target.links n there at (ap is_bond way.kind ∙ differing_bond))
+pub bond_next : (d : DraftData) → Holds d → (n : List ℕ) (l t : Link) → ArePair d n l t → CanGrow 7 d → (o : BondOpts) → Fits d.net n t.bond o → (l.bond ≡ o → ⊥) → IsNext SetBonds d n (SetBond n o)
+bond_next d h n l t pair stands o fits differs =
+    let stays : l.bond ≡ t.bond → o ≡ t.bond = fitting_stays d.net h.net n l pair.here t.bond o fits in
+    let e : IsEdit AlmostSameBond d n (SetBond n o) = bond_edit d h stands.toward n l t pair o fits.near fits.ready stays differs AlmostSameBond fits.near in
+    record {
+      safe = e.safe;
+      moves = e.grows;
+      done = e.done;
+      counted = found_passing (λ (x : Link). is_bond x.kind) d.target.links n t pair.at (ap is_bond (way d h stands.toward n l t pair o fits.near fits.ready stays differs).kind ∙ differing_bond d h stands.toward n l t pair o fits.near fits.ready stays differs);
+    }
 
 -- where all ports are attached, the primary of target is a port of the bond
-pub primary_attached : (target net : NetData) → IsNet target → IsWhole target net → ((m : List ℕ) → Reaches SameController target net m) → (n : List ℕ) (there : Link) → find_link n target.links ≡ Some there
-    → (p : List ℕ) → there.bond.primary ≡ Some p → HasPort net n p
-primary_attached target net good whole attached n there at p has =
-    let t = primary_port target good n there at p has in
-    let l = whole p t.0 t.1 in
-    (l.0, l.1, attached p l.0 t.0 l.1 t.1 ∙ t.2)
+pub primary_next : (d : DraftData) → Holds d → (n : List ℕ) (l t : Link) → ArePair d n l t → CanGrow 11 d → (l.bond ≡ t.bond → ⊥) → IsNext SetPrimaries d n (SetBond n t.bond)
+primary_next d h n l t pair stands differs =
+    let ready : (p : List ℕ) → t.bond.primary ≡ Some p → HasPort d.net n p = λ p has.
+    let there = primary_port d.target h.target n t pair.at p has in
+    let here = whole_at 11 d (lit< tt) stands p there.0 there.1 in
+    (here.0, here.1, stands.done AttachPorts refl (lit< tt) p here.0 there.0 here.1 there.1 ∙ there.2) in
+    let e : IsEdit SameBond d n (SetBond n t.bond) = bond_edit d h stands.toward n l t pair t.bond (inl refl) ready (λ _. refl) differs SameBond refl in
+    record { safe = e.safe; moves = e.grows; done = e.done; counted = refl }

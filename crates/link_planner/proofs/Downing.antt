@@ -27,7 +27,9 @@ use Rattle.kernel_laws.proofs.lemmas.Taking.{is_accepted}
 use Rattle.kernel_laws.proofs.lemmas.StepKeeps.{hangs_on_it}
 use Rattle.plan_model.specs.Touched.{IsCalm, must_fall, is_lowered}
 use Rattle.plan_model.specs.Undisturbed.{IsUndisturbed, has_route}
-use Rattle.link_planner.specs.Drafts.{IsSafe}
+use Rattle.link_planner.specs.declared.phase.Phase.TheVariants.{LowerLinks}
+use Rattle.link_planner.specs.Drafts.{DraftData, Holds, IsSafe}
+use Rattle.link_planner.specs.Phases.{CanShed, IsNext}
 use Rattle.link_planner.specs.Shrinking.{IsLess, IsShrunk, KeepsPorts, HasBonds, IsLow, MustFall}
 use Rattle.link_planner.proofs.Keeping.{kept_started}
 use Rattle.link_planner.proofs.Sparing.{spares_name}
@@ -124,7 +126,7 @@ module _ (start target net : NetData) (first : IsNet start) (good : IsNet target
       ] refl in
       any_kept (same_route r) (λ y. not (falls y.dev)) (λ y same. not_false (falls y.dev) (ap falls (sym (same_dev r y same)) ∙ off)) net.routes here
 
-  pub down_safe : IsSafe start target (Down n) net
+  down_safe : IsSafe start target (Down n) net
   down_safe = record {
     accepted = taken;
     spares = spares_name start target (Down n) n refl touched;
@@ -156,20 +158,20 @@ module _ (start target net : NetData) (first : IsNet start) (good : IsNet target
       of None e = absurd (let no : (let o : Option Link = None in o) ≡ Some l = ap (option_map (lowered falls)) (sym e) ∙ sym (leads.links m) ∙ found in cc)
       of (Some k) e = (k, e, some_same l (lowered falls k) (sym found ∙ leads.links m ∙ ap (option_map (lowered falls)) e))
 
-  pub down_shrinks : IsShrunk net (after (Down n) net)
+  down_shrinks : IsShrunk net (after (Down n) net)
   down_shrinks = record {
     links = λ m l found. let k = from m l found in (k.0, k.1, subst (IsLess k.0) (sym k.2) (less k.0));
     routes = λ r h. any_was (same_route r) (λ y. not (falls y.dev)) net.routes h;
   }
 
-  pub down_keeps : KeepsPorts start target net → KeepsPorts start target (after (Down n) net)
+  down_keeps : KeepsPorts start target net → KeepsPorts start target (after (Down n) net)
   down_keeps ports = record {
     each = λ m c k t l fk ft fl hk ht.
         let w = from m l fl in
         ap (λ (x : Link). x.controller) w.2 ∙ ports.each m c k t w.0 fk ft w.1 hk ht;
   }
 
-  pub down_lowers : IsLow start target (after (Down n) net) n
+  down_lowers : IsLow start target (after (Down n) net) n
   down_lowers l t kept found there up =
       let w = from n l found in
       let name : falls w.0.name ≡ true = ap falls (found_named net.links n w.0 w.1) ∙ (hangs_on_it net n is).root must.link must.found in
@@ -177,8 +179,21 @@ module _ (start target net : NetData) (first : IsNet start) (good : IsNet target
       let no : not true ≡ true = ap not (sym name) ∙ and_right w.0.up (not (falls w.0.name)) wrong in
       absurd cc
 
-  pub low_still : (m : List ℕ) → IsLow start target net m → IsLow start target (after (Down n) net) m
+  low_still : (m : List ℕ) → IsLow start target net m → IsLow start target (after (Down n) net) m
   low_still m low l t kept found there up =
       let w = from m l found in
       let had = low w.0 t kept w.1 there (and_left w.0.up (not (falls w.0.name)) (ap (λ (x : Link). x.up) (sym w.2) ∙ up)) in
       (had.0, λ c b has at bond. let p = had.1 c b has at bond in (ap (λ (x : Link). x.controller) w.2 ∙ p.0, p.1))
+
+pub lower_next : (d : DraftData) → Holds d → (n : List ℕ) → CanShed 1 d → MustFall d.start d.target d.net n → IsNext LowerLinks d n (Down n)
+lower_next d h n stands must = record {
+  safe = down_safe d.start d.target d.net h.start h.target h.net h.draft.undisturbed stands.shrunk n must;
+  moves = record {
+    shrunk = down_shrinks d.start d.target d.net h.start h.target h.net h.draft.undisturbed stands.shrunk n must;
+    rest = record { rules = refl; dns = refl };
+    ports = λ lt. down_keeps d.start d.target d.net h.start h.target h.net h.draft.undisturbed stands.shrunk n must (stands.ports lt);
+    low = λ _. low_still d.start d.target d.net h.start h.target h.net h.draft.undisturbed stands.shrunk n must;
+  };
+  done = down_lowers d.start d.target d.net h.start h.target h.net h.draft.undisturbed stands.shrunk n must;
+  counted = refl;
+}

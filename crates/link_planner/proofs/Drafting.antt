@@ -1,10 +1,13 @@
 -- A draft with one more call.
-use Rattle.std.proofs.Common.{◌≡◌, ℕ, List, [], ◌∷◌, ◌++◌, Result, Ok, sym, subst, ◌∙◌}
-use Rattle.net_model.specs.Lists.{NetData}
+use Rattle.std.proofs.Common.{◌≡◌, ℕ, [], ◌∷◌, ◌++◌, Result, Ok, refl, sym, subst, ◌∙◌}
+use Rattle.net_model.specs.Hardware.{hardware}
+use Rattle.net_model.specs.NetData.{NetData, IsNet}
 use Rattle.net_model.specs.declared.call.Call.{Call}
 use Rattle.kernel_model.specs.Kernel.{step, after}
-use Rattle.plan_model.specs.Laws.{OneMore}
-use Rattle.link_planner.specs.Drafts.{IsDraft, IsSafe}
+use Rattle.kernel_laws.proofs.lemmas.StepKeeps.{run_keeps}
+use Rattle.plan_model.specs.Laws.{StartIsCalm, OneMore}
+use Rattle.plan_model.specs.Undisturbed.{IsUndisturbed}
+use Rattle.link_planner.specs.Drafts.{DraftData, IsDraft, IsSafe, draft_of}
 
 same_ok : (a b : NetData) → (let o : Result NetData ℕ = Ok a in o) ≡ Ok b → a ≡ b
 same_ok a b e = cc
@@ -13,9 +16,14 @@ same_ok a b e = cc
 pub made : (start target : NetData) (call : Call) (net next : NetData) → IsSafe start target call net → step call net ≡ Ok next → after call net ≡ next
 made start target call net next safe stepped = same_ok (after call net) next (sym safe.accepted ∙ stepped)
 
-pub drafted : OneMore → (start target : NetData) (call : Call) (calls : List Call) (net next : NetData) → IsDraft start target calls net → IsSafe start target call net → step call net ≡ Ok next → IsDraft start target (calls ++ call ∷ []) next
-drafted one_more start target call calls net next draft safe stepped =
-    subst (IsDraft start target (calls ++ call ∷ [])) (made start target call net next safe stepped) (record {
-      led = one_more start target calls call start net (after call net) draft.led safe.accepted safe.spares safe.undisturbed;
-      undisturbed = safe.undisturbed;
-    })
+-- the draft without a call is one
+pub begun : StartIsCalm → (start target : NetData) → hardware start.links ≡ hardware target.links → IsDraft (draft_of start target start [])
+begun calm start target devices = record { led = refl; undisturbed = calm start target; devices = devices }
+
+-- and so is one with a safe call more
+pub drafted : OneMore → (call : Call) (d : DraftData) (next : NetData) → IsNet d.net → IsDraft d → IsSafe d.start d.target call d.net → step call d.net ≡ Ok next → IsDraft (draft_of d.start d.target next (d.calls ++ call ∷ []))
+drafted one_more call d next is draft safe stepped = record {
+  led = one_more d.start d.target d.calls call d.start d.net next draft.led stepped safe.spares (subst (IsUndisturbed d.start d.target) (made d.start d.target call d.net next safe stepped) safe.undisturbed);
+  undisturbed = subst (IsUndisturbed d.start d.target) (made d.start d.target call d.net next safe stepped) safe.undisturbed;
+  devices = (run_keeps (call ∷ []) d.net next is (next, stepped, refl)).1 ∙ draft.devices;
+}

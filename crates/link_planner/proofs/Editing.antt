@@ -1,17 +1,23 @@
 -- A call that changes one link, towards target.
-use Rattle.std.proofs.Common.{◌≡◌, ℕ, true, false, List, Some, refl, sym, ap, subst, ◌∙◌}
+use Rattle.std.proofs.Common.{◌≡◌, ℕ, true, false, List, Some, Ok, refl, sym, ap, subst, ◌∙◌}
 use Rattle.std.specs.Prelude.{option_map}
 use Rattle.net_model.specs.Name.{same_bytes}
 use Rattle.net_model.specs.Links.{find_link}
 use Rattle.net_model.specs.Lists.{NetData}
 use Rattle.net_model.specs.declared.link.Link.{Link}
+use Rattle.net_model.specs.declared.call.Call.{Call}
 use Rattle.net_model.proofs.lemmas.Found.{one_name}
+use Rattle.kernel_model.specs.Kernel.{step, after}
 use Rattle.kernel_laws.specs.Frames.{ChangesLink, KeepsRest}
 use Rattle.net_model.proofs.lemmas.ByName.{some_same}
 use Rattle.plan_model.specs.Touched.{IsCalm}
-use Rattle.plan_model.specs.Undisturbed.{IsUndisturbed, has_route}
-use Rattle.link_planner.specs.Growing.{IsOnWay, IsToward, IsAsNear, IsNearer}
+use Rattle.plan_model.specs.Undisturbed.{acts_on, IsUndisturbed, has_route}
+use Rattle.link_planner.specs.Drafts.{DraftData, Holds, IsSafe, with_call}
+use Rattle.link_planner.specs.Pairs.{ArePair}
+use Rattle.link_planner.specs.Growing.{IsOnWay, IsToward, IsAsNear, IsNearer, Reaches}
+use Rattle.link_planner.specs.Phases.{Grows}
 use Rattle.link_planner.proofs.Nearer.{near_itself}
+use Rattle.link_planner.proofs.Sparing.{spares_name, touched_where_differs}
 
 module _ (target old new : NetData) (n : List ℕ) (change : Link → Link) (frame : ChangesLink n change old new) (rest : KeepsRest old new) (link there : Link) (found : find_link n old.links ≡ Some link) (at : find_link n target.links ≡ Some there) where
   here : find_link n new.links ≡ Some (change link)
@@ -68,3 +74,22 @@ pub way_of : (target net : NetData) → IsToward target net → (n : List ℕ) (
 way_of target net toward n l t found at =
     let w = toward.links n l found in
     subst (λ x. IsOnWay target l x) (some_same w.0 t (sym w.1 ∙ at)) w.2
+
+-- what such a call is in a draft
+pub record IsEdit (R : Link → Link → Type 0) (d : DraftData) (n : List ℕ) (call : Call) : Type 0 where
+  pub safe : IsSafe d.start d.target call d.net
+  pub grows : Grows d (with_call call d)
+  pub done : Reaches R d.target (after call d.net) n
+
+pub edited : (R : Link → Link → Type 0) (d : DraftData) → Holds d → (n : List ℕ) (l t : Link) → ArePair d n l t → IsToward d.target d.net → (call : Call) (change : Link → Link) → step call d.net ≡ Ok (after call d.net) → acts_on call ≡ Some n
+    → ChangesLink n change d.net (after call d.net) → KeepsRest d.net (after call d.net) → (l ≡ t → ⊥) → IsOnWay d.target (change l) t → IsAsNear t l (change l) → R (change l) t → IsEdit R d n call
+edited R d h n l t pair toward call change taken acts frame rest other way near reached =
+    let touched : IsCalm d.start d.target n → ⊥ = touched_where_differs d.start d.target d.net h.draft.undisturbed n (λ same. other (some_same l t (sym pair.here ∙ same ∙ pair.at))) in
+    record {
+      safe = record { accepted = taken; spares = spares_name d.start d.target call n acts touched; undisturbed = edit_quiet d.target d.net (after call d.net) n change frame rest l t pair.here pair.at d.start touched h.draft.undisturbed };
+      grows = record {
+        toward = edit_toward d.target d.net (after call d.net) n change frame rest l t pair.here pair.at way toward;
+        nearer = edit_nearer d.target d.net (after call d.net) n change frame rest l t pair.here pair.at near;
+      };
+      done = edit_reaches d.target d.net (after call d.net) n change frame rest l t pair.here pair.at R reached;
+    }

@@ -1,3 +1,4 @@
+pub mod lemmas
 pub mod Keeping
 pub mod Sparing
 pub mod Shrunk
@@ -9,6 +10,7 @@ pub mod Lost
 pub mod Downing
 pub mod Deleting
 pub mod Nearer
+pub mod Phasing
 pub mod Editing
 pub mod Macs
 pub mod Mtu

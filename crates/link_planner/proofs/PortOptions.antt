@@ -1,7 +1,6 @@
 -- Options of a bridge's port that are set.
-use Rattle.std.proofs.Common.{◌≡◌, ℕ, true, List, Some, Ok, refl, sym, ap, ◌∙◌}
-use Rattle.net_model.specs.Links.{find_link, is_bridge}
-use Rattle.net_model.specs.NetData.{NetData, IsNet}
+use Rattle.std.proofs.Common.{◌≡◌, ℕ, true, List, Some, Ok, refl, ap, lit<}
+use Rattle.net_model.specs.Links.{is_bridge}
 use Rattle.net_model.specs.declared.link.Link.{Link}
 use Rattle.net_model.specs.declared.call.Call.TheVariants.{SetPort}
 use Rattle.net_model.proofs.lemmas.FactsHold.{facts}
@@ -9,44 +8,26 @@ use Rattle.kernel_model.specs.Ports.{with_port}
 use Rattle.kernel_model.specs.Kernel.{step, after}
 use Rattle.kernel_laws.specs.Frames.{Leads}
 use Rattle.kernel_laws.specs.Takes.{IsThere}
-use Rattle.net_model.proofs.lemmas.ByName.{some_same}
 use Rattle.kernel_laws.proofs.lemmas.Leading.{has_frame}
 use Rattle.kernel_laws.proofs.lemmas.Taking.{is_accepted}
-use Rattle.plan_model.specs.Touched.{IsCalm}
-use Rattle.plan_model.specs.Undisturbed.{IsUndisturbed}
-use Rattle.link_planner.specs.Drafts.{IsSafe}
-use Rattle.link_planner.specs.Growing.{IsOnWay, IsToward, IsNearer, IsWhole, Reaches, SamePort}
-use Rattle.link_planner.proofs.Sparing.{spares_name, touched_where_differs}
-use Rattle.link_planner.proofs.Editing.{edit_quiet, edit_toward, edit_nearer, edit_reaches, way_of}
+use Rattle.link_planner.specs.declared.phase.Phase.TheVariants.{AttachPorts, SetPorts}
+use Rattle.link_planner.specs.Drafts.{DraftData, Holds}
+use Rattle.link_planner.specs.Pairs.{ArePair}
+use Rattle.link_planner.specs.Growing.{IsOnWay, SamePort}
+use Rattle.link_planner.specs.Phases.{CanGrow, IsNext}
+use Rattle.link_planner.proofs.Editing.{IsEdit, edited, way_of}
+use Rattle.link_planner.proofs.Phasing.{whole_at}
 use Rattle.link_planner.proofs.Unused.{port_bridge}
 
-module _ (start target net : NetData) (good : IsNet target) (is : IsNet net) (quiet : IsUndisturbed start target net) (toward : IsToward target net) (whole : IsWhole target net) (n : List ℕ) (link there : Link) (found : find_link n net.links ≡ Some link) (at : find_link n target.links ≡ Some there) (attached : link.controller ≡ there.controller) (differs : link.port ≡ there.port → ⊥) where
-  bridge : (c : List ℕ) × (link.controller ≡ Some c) × IsThere c net.links (λ b. is_bridge b.kind ≡ true)
-  bridge = port_bridge target net good is toward n link there found at whole attached differs
-
-  taken : step (SetPort n there.port) net ≡ Ok (after (SetPort n there.port) net)
-  taken = is_accepted (SetPort n there.port) net is (((facts target good).link n there at).port_right, (link, found, bridge))
-
-  leads : Leads (SetPort n there.port) net (after (SetPort n there.port) net)
-  leads = has_frame (SetPort n there.port) net (after (SetPort n there.port) net) is taken
-
-  touched : IsCalm start target n → ⊥
-  touched = touched_where_differs start target net quiet n (λ same. differs (ap (λ (l : Link). l.port) (some_same link there (sym found ∙ same ∙ at))))
-
-  pub port_safe : IsSafe start target (SetPort n there.port) net
-  port_safe = record {
-    accepted = taken;
-    spares = spares_name start target (SetPort n there.port) n refl touched;
-    undisturbed = edit_quiet target net (after (SetPort n there.port) net) n (with_port there.port) leads.0 leads.1 link there found at start touched quiet;
-  }
-
-  pub port_toward : IsToward target (after (SetPort n there.port) net)
-  port_toward =
-      let w : IsOnWay target link there = way_of target net toward n link there found at in
-      edit_toward target net (after (SetPort n there.port) net) n (with_port there.port) leads.0 leads.1 link there found at (record { kind = w.kind; up = w.up; controller = w.controller; bond_port = w.bond_port; addrs = w.addrs }) toward
-
-  pub port_nearer : IsNearer target net (after (SetPort n there.port) net)
-  port_nearer = edit_nearer target net (after (SetPort n there.port) net) n (with_port there.port) leads.0 leads.1 link there found at (record { mtu = λ h. h; enough_mtu = λ h. h; mac = λ h. h; near_bond = λ h. h; bond = λ h. h; bridge = λ h. h; controller = λ h. h; port = λ _. refl; up = λ h. h })
-
-  pub port_reached : Reaches SamePort target (after (SetPort n there.port) net) n
-  port_reached = edit_reaches target net (after (SetPort n there.port) net) n (with_port there.port) leads.0 leads.1 link there found at SamePort refl
+pub port_next : (d : DraftData) → Holds d → (n : List ℕ) (l t : Link) → ArePair d n l t → CanGrow 10 d → (l.port ≡ t.port → ⊥) → IsNext SetPorts d n (SetPort n t.port)
+port_next d h n l t pair stands differs =
+    let same : l.controller ≡ t.controller = stands.done AttachPorts refl (lit< tt) n l t pair.here pair.at in
+    let bridge : (c : List ℕ) × (l.controller ≡ Some c) × IsThere c d.net.links (λ b. is_bridge b.kind ≡ true) = port_bridge d.target d.net h.target h.net stands.toward n l t pair.here pair.at (whole_at 10 d (lit< tt) stands) same differs in
+    let taken : step (SetPort n t.port) d.net ≡ Ok (after (SetPort n t.port) d.net) = is_accepted (SetPort n t.port) d.net h.net (((facts d.target h.target).link n t pair.at).port_right, (l, pair.here, bridge)) in
+    let leads : Leads (SetPort n t.port) d.net (after (SetPort n t.port) d.net) = has_frame (SetPort n t.port) d.net (after (SetPort n t.port) d.net) h.net taken in
+    let w : IsOnWay d.target l t = way_of d.target d.net stands.toward n l t pair.here pair.at in
+    let e : IsEdit SamePort d n (SetPort n t.port) =
+    edited SamePort d h n l t pair stands.toward (SetPort n t.port) (with_port t.port) taken refl leads.0 leads.1 (λ same. differs (ap (λ (x : Link). x.port) same))
+    (record { kind = w.kind; up = w.up; controller = w.controller; bond_port = w.bond_port; addrs = w.addrs })
+    (record { mtu = λ h. h; enough_mtu = λ h. h; mac = λ h. h; near_bond = λ h. h; bond = λ h. h; bridge = λ h. h; controller = λ h. h; port = λ _. refl; up = λ h. h }) refl in
+    record { safe = e.safe; moves = e.grows; done = e.done; counted = refl }

@@ -52,3 +52,13 @@ pub record IsBaseFirst (links : List Link) (names : List (List ℕ)) : Type 0 wh
 -- each of the links is named
 abbrev pub NamesAll : List Link → List (List ℕ) → Type 0
 NamesAll links names = (n : List ℕ) (l : Link) → find_link n links ≡ Some l → is_among names n ≡ true
+
+-- the names of all links as often as there are links, in three orders, of which the second has each base before what stands on it
+pub record AreOrders (links : List Link) (names upward downward : List (List ℕ)) : Type 0 where
+  pub all : NamesAll links names
+  pub all_upward : NamesAll links upward
+  pub all_downward : NamesAll links downward
+  pub base_first : IsBaseFirst links upward
+  pub count : length names ≡ length links
+  pub count_upward : length upward ≡ length links
+  pub count_downward : length downward ≡ length links

@@ -12,7 +12,7 @@ fn is_same_kind(a: &Kind, b: &Kind) -> bool
 }
 
 /// Whether the link of a name is in both networks, with the same kind.
-pub fn is_kept(start: &Net, target: &Net, name: &Name) -> bool
+pub(crate) fn is_kept(start: &Net, target: &Net, name: &Name) -> bool
     ensures { result ≡ is_kept start.now target.now name.now }
 {
     start.laws();

@@ -2,7 +2,7 @@
 ghost use Rattle.std.specs.Prelude.{◌≡◌, ◌≤◌, ◌<◌, ℕ, List, length, map, slice_index_or, IfOk, OnOk, IsPermutation};
 ghost use Rattle.std.specs.List.Sorted.{IsNonDecreasingBy};
 ghost use Rattle.net_model.specs.declared.Link.{Link};
-ghost use Rattle.link_planner.specs.Depths.{IsBasePlace, IsDepthAt, AreDepths, by_base, by_top, IsBaseFirst, NamesAll};
+ghost use Rattle.link_planner.specs.Depths.{IsBasePlace, IsDepthAt, AreDepths, by_base, by_top, IsBaseFirst, NamesAll, AreOrders};
 
 use net_model::{Kind, Link, Name, Net, OutOfMemory, Place};
 use std::alloc::{AllocError, Global};
@@ -139,8 +139,8 @@ fn names_of(alloc: Global, places: &[(usize, Name)]) -> Result<Vec<Name>, AllocE
     places.iter().map(|place| place.1).collect(alloc)
 }
 
-/// The names of the links, by depth and then by name, so that each base comes before what stands on it.
-pub fn by_depth(alloc: Global, net: &Net) -> Result<Vec<Name>, OutOfMemory>
+// The names of the links, by depth and then by name, so that each base comes before what stands on it.
+fn by_depth(alloc: Global, net: &Net) -> Result<Vec<Name>, OutOfMemory>
     ensures order { IfOk result (λ names. IsBaseFirst net.now.links names.items) }
     ensures all { IfOk result (λ names. NamesAll net.now.links names.items) }
     ensures count { IfOk result (λ names. length names.items ≡ length net.now.links) }
@@ -152,8 +152,8 @@ pub fn by_depth(alloc: Global, net: &Net) -> Result<Vec<Name>, OutOfMemory>
     Ok(names)
 }
 
-/// The names of the links, the greatest depth first, and by name where depths are equal.
-pub fn from_top(alloc: Global, net: &Net) -> Result<Vec<Name>, OutOfMemory>
+// The names of the links, the greatest depth first, and by name where depths are equal.
+fn from_top(alloc: Global, net: &Net) -> Result<Vec<Name>, OutOfMemory>
     ensures all { IfOk result (λ names. NamesAll net.now.links names.items) }
     ensures count { IfOk result (λ names. length names.items ≡ length net.now.links) }
 {
@@ -169,11 +169,33 @@ fn names(alloc: Global, links: &[Link]) -> Result<Vec<Name>, AllocError>
     links.iter().map(|link| link.name).collect(alloc)
 }
 
-/// The names of the links, in their order.
-pub fn by_name(alloc: Global, net: &Net) -> Result<Vec<Name>, OutOfMemory>
+// The names of the links, in their order.
+fn by_name(alloc: Global, net: &Net) -> Result<Vec<Name>, OutOfMemory>
     ensures all { IfOk result (λ names. NamesAll net.now.links names.items) }
     ensures count { IfOk result (λ names. length names.items ≡ length net.now.links) }
 {
     let names = names(alloc, net.links())?;
     Ok(names)
+}
+
+/// The names of the links of a network, each once.
+#[derive(Drop)]
+pub struct Orders {
+    /// In their order.
+    pub names: Vec<Name>,
+    /// By depth and then by name, so that each base comes before what stands on it.
+    pub upward: Vec<Name>,
+    /// The greatest depth first, and by name where depths are equal.
+    pub downward: Vec<Name>,
+}
+
+/// The orders in which phases go over the links.
+pub fn orders_of(alloc: Global, net: &Net) -> Result<Orders, OutOfMemory>
+    ensures { IfOk result (λ orders. AreOrders net.now.links orders.names.items orders.upward.items orders.downward.items) }
+{
+    Ok(Orders {
+        names: by_name(alloc, net)?,
+        upward: by_depth(alloc, net)?,
+        downward: from_top(alloc, net)?,
+    })
 }

@@ -1,20 +1,14 @@
 //! A plan for links.
-ghost use Rattle.std.specs.Prelude.{◌≡◌, ◌+◌, ◌*◌, ◌≤◌, length, OnOk, IfOk};
-ghost use Rattle.net_model.specs.Hardware.{hardware};
+ghost use Rattle.std.specs.Prelude.{◌*◌, length, OnOk, IfOk};
 ghost use Rattle.plan_model.specs.Plans.{name_count};
-ghost use Rattle.link_planner.specs.Drafts.{IsDraft};
-ghost use Rattle.link_planner.specs.Growing.{IsToward, IsWhole};
+ghost use Rattle.link_planner.specs.Drafts.{Advances};
+ghost use Rattle.link_planner.specs.Growing.{IsToward};
 ghost use Rattle.link_planner.specs.LinkPlans.{MayPlanLinks, IsReady, ReachesLinks, IsLinkPlan};
+ghost use Rattle.link_planner.specs.Shrinking.{KeepsRules};
 
-use crate::create::create_links;
-use crate::delete::delete_links;
-use crate::detach::detach_ports;
-use crate::down::lower_links;
-use crate::mtus::{lower_mtus, raise_mtus};
-use crate::order::{by_depth, by_name, from_top};
-use crate::ports::{attach_ports, set_ports, set_primaries};
-use crate::raise::raise_links;
-use crate::settings::{set_bonds, set_bridges, set_macs};
+use crate::draft::Draft;
+use crate::order::orders_of;
+use crate::phase::{Phase, run};
 use net_model::{Call, Net, OutOfMemory};
 use plan_model::plan_laws;
 use std::alloc::Global;
@@ -27,83 +21,50 @@ pub struct LinkPlan {
 }
 
 // What is in the way goes: ports leave, links fall, links are deleted.
-fn take_away(
-    alloc: Global,
-    start: &Net,
-    target: &Net,
-    work: &mut Net,
-    calls: &mut Vec<Call>,
-) -> Result<(), OutOfMemory>
-    requires ready { IsReady start.now target.now work.old }
-    requires draft { IsDraft start.now target.now calls.old.items work.old }
-    ensures toward { OnOk result (IsToward target.now work.new) }
-    ensures rules { OnOk result (work.new.rules ≡ work.old.rules) }
-    ensures dns { OnOk result (work.new.dns ≡ work.old.dns) }
-    ensures draft { OnOk result (IsDraft start.now target.now calls.new.items work.new) }
-    ensures count { OnOk result (length calls.new.items ≤ length calls.old.items + 3 * length start.now.links) }
+fn take_away(alloc: Global, draft: &mut Draft) -> Result<(), OutOfMemory>
+    requires { IsReady draft.old.start draft.old.target draft.old.net }
+    ensures toward { OnOk result (IsToward draft.new.target draft.new.net) }
+    ensures rest { OnOk result (KeepsRules draft.old.net draft.new.net) }
+    ensures advances { OnOk result (Advances (3 * length draft.old.start.links) draft.old draft.new) }
 {
-    let names = by_name(alloc, start)?;
-    let upward = by_depth(alloc, start)?;
-    let downward = from_top(alloc, start)?;
-    detach_ports(start, target, &names, work, calls)?;
-    lower_links(start, target, &upward, work, calls)?;
-    delete_links(start, target, &downward, work, calls)?;
-    start.laws();
-    target.laws();
-    work.laws();
+    let orders = orders_of(alloc, draft.start())?;
+    run(draft, Phase::DetachPorts, &orders.names)?;
+    run(draft, Phase::LowerLinks, &orders.upward)?;
+    run(draft, Phase::DeleteLinks, &orders.downward)?;
+    draft.laws();
     Ok(())
 }
 
 // What is missing comes: links with their settings, ports and states.
-fn build_up(
-    alloc: Global,
-    start: &Net,
-    target: &Net,
-    work: &mut Net,
-    calls: &mut Vec<Call>,
-) -> Result<(), OutOfMemory>
-    requires devices { hardware start.now.links ≡ hardware target.now.links }
-    requires toward { IsToward target.now work.old }
-    requires draft { IsDraft start.now target.now calls.old.items work.old }
-    ensures reached { OnOk result (ReachesLinks work.old target.now work.new) }
-    ensures draft { OnOk result (IsDraft start.now target.now calls.new.items work.new) }
-    ensures count { OnOk result (length calls.new.items ≤ length calls.old.items + 9 * length target.now.links) }
+fn build_up(alloc: Global, draft: &mut Draft) -> Result<(), OutOfMemory>
+    requires { IsToward draft.old.target draft.old.net }
+    ensures reached { OnOk result (ReachesLinks draft.old.net draft.new.target draft.new.net) }
+    ensures advances { OnOk result (Advances (9 * length draft.old.target.links) draft.old draft.new) }
 {
-    let names = by_name(alloc, target)?;
-    let upward = by_depth(alloc, target)?;
-    let downward = from_top(alloc, target)?;
-    create_links(start, target, &upward, work, calls)?;
-    raise_mtus(start, target, &upward, work, calls)?;
-    lower_mtus(start, target, &downward, work, calls)?;
-    set_macs(start, target, &names, work, calls)?;
-    set_bonds(start, target, &names, work, calls)?;
-    set_bridges(start, target, &names, work, calls)?;
-    attach_ports(start, target, &names, work, calls)?;
-    set_ports(start, target, &names, work, calls)?;
-    set_primaries(start, target, &names, work, calls)?;
-    raise_links(start, target, &upward, work, calls)?;
-    target.laws();
-    work.laws();
+    let orders = orders_of(alloc, draft.target())?;
+    run(draft, Phase::CreateLinks, &orders.upward)?;
+    run(draft, Phase::RaiseMtus, &orders.upward)?;
+    run(draft, Phase::LowerMtus, &orders.downward)?;
+    run(draft, Phase::SetMacs, &orders.names)?;
+    run(draft, Phase::SetBonds, &orders.names)?;
+    run(draft, Phase::SetBridges, &orders.names)?;
+    run(draft, Phase::AttachPorts, &orders.names)?;
+    run(draft, Phase::SetPorts, &orders.names)?;
+    run(draft, Phase::SetPrimaries, &orders.names)?;
+    run(draft, Phase::RaiseLinks, &orders.upward)?;
+    draft.laws();
     Ok(())
 }
 
 /// All phases for links, from a network on that is ready for them.
-pub fn link_phases(
-    alloc: Global,
-    start: &Net,
-    target: &Net,
-    work: &mut Net,
-    calls: &mut Vec<Call>,
-) -> Result<(), OutOfMemory>
-    requires ready { IsReady start.now target.now work.old }
-    requires draft { IsDraft start.now target.now calls.old.items work.old }
-    ensures reached { OnOk result (ReachesLinks work.old target.now work.new) }
-    ensures draft { OnOk result (IsDraft start.now target.now calls.new.items work.new) }
-    ensures short { OnOk result (length calls.new.items ≤ length calls.old.items + 12 * name_count start.now target.now) }
+pub fn link_phases(alloc: Global, draft: &mut Draft) -> Result<(), OutOfMemory>
+    requires { IsReady draft.old.start draft.old.target draft.old.net }
+    ensures reached { OnOk result (ReachesLinks draft.old.net draft.new.target draft.new.net) }
+    ensures advances { OnOk result (Advances (12 * name_count draft.old.start draft.old.target) draft.old draft.new) }
 {
-    target.laws();
-    take_away(alloc, start, target, work, calls)?;
-    build_up(alloc, start, target, work, calls)?;
+    draft.laws();
+    take_away(alloc, draft)?;
+    build_up(alloc, draft)?;
     Ok(())
 }
 
@@ -112,9 +73,10 @@ pub fn plan_links(alloc: Global, now_net: &Net, to_net: &Net) -> Result<LinkPlan
     requires { MayPlanLinks now_net.now to_net.now }
     ensures { IfOk result (λ plan. IsLinkPlan now_net.now to_net.now plan.calls.items plan.after) }
 {
-    let mut after = now_net.copy()?;
-    let mut calls = Vec::new(alloc);
+    let mut draft = Draft::new(alloc, now_net, to_net)?;
+    link_phases(alloc, &mut draft)?;
+    draft.laws();
     plan_laws();
-    link_phases(alloc, now_net, to_net, &mut after, &mut calls)?;
+    let (calls, after) = draft.finish();
     Ok(LinkPlan { calls, after })
 }

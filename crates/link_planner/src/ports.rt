@@ -1,13 +1,13 @@
 //! Ports: attached, and their options; then the primaries of bonds.
-ghost use Rattle.std.specs.Prelude.{◌≡◌, ◌≢◌, ◌+◌, ◌≤◌, Some, ℕ, List, length, OnOk};
+ghost use Rattle.std.specs.Prelude.{◌≡◌, ◌≢◌, Some};
 ghost use Rattle.std.specs.Bool.{OnTrue, OnFalse};
-ghost use Rattle.link_planner.specs.Drafts.{IsDraft};
-ghost use Rattle.link_planner.specs.Kept.{EachOf};
-ghost use Rattle.link_planner.specs.Growing.{IsNearer, IsToward, IsWhole, Reaches, SameBond, SameController, SamePort};
+ghost use Rattle.link_planner.specs.Growing.{SamePort};
+ghost use Rattle.link_planner.specs.Phases.{IsDue, Serves};
 
-use crate::drafts::make;
+use crate::draft::Draft;
+use crate::phase::Phase;
 use crate::settings::has_other_bond;
-use net_model::{Call, Link, Name, Net, OutOfMemory};
+use net_model::{Call, Link, Name};
 
 fn has_other_controller(link: &Link, controller: &Name) -> bool
     ensures yes { OnTrue result (link.now.controller ≢ Some controller.now) }
@@ -16,63 +16,24 @@ fn has_other_controller(link: &Link, controller: &Name) -> bool
     link.controller != Some(*controller)
 }
 
-// Attaches the port to the target's controller.
-fn attach_one(
-    start: &Net,
-    target: &Net,
-    name: &Name,
-    work: &mut Net,
-    calls: &mut Vec<Call>,
-) -> Result<(), OutOfMemory>
-    requires whole { IsWhole target.now work.old }
-    requires toward { IsToward target.now work.old }
-    requires draft { IsDraft start.now target.now calls.old.items work.old }
-    ensures toward { OnOk result (IsToward target.now work.new) }
-    ensures nearer { OnOk result (IsNearer target.now work.old work.new) }
-    ensures done { OnOk result (Reaches SameController target.now work.new name.now) }
-    ensures draft { OnOk result (IsDraft start.now target.now calls.new.items work.new) }
-    ensures count { OnOk result (length calls.new.items ≤ length calls.old.items + 1) }
+/// The call that attaches the port to the target's controller, or none where it has it, or the target has none.
+pub fn attach_port(draft: &Draft, name: &Name) -> Option<Call>
+    requires { IsDue Phase.AttachPorts draft.now name.now }
+    ensures { Serves Phase.AttachPorts draft.now name.now result }
 {
-    let (Some(link), Some(there)) = (work.link(name), target.link(name)) else {
-        return Ok(());
-    };
+    draft.laws();
+    let (link, there) = draft.pair(name)?;
     let Some(controller) = there.controller else {
-        return Ok(());
+        return None;
     };
     if has_other_controller(link, &controller) {
-        target.laws();
-        work.laws();
-        let call = Call::Attach {
+        Some(Call::Attach {
             port: *name,
             controller,
-        };
-        make(start, target, call, work, calls)?;
+        })
+    } else {
+        None
     }
-    Ok(())
-}
-
-/// Attaches ports.
-pub fn attach_ports(
-    start: &Net,
-    target: &Net,
-    order: &[Name],
-    work: &mut Net,
-    calls: &mut Vec<Call>,
-) -> Result<(), OutOfMemory>
-    requires whole { IsWhole target.now work.old }
-    requires toward { IsToward target.now work.old }
-    requires draft { IsDraft start.now target.now calls.old.items work.old }
-    ensures whole { OnOk result (IsWhole target.now work.new) }
-    ensures toward { OnOk result (IsToward target.now work.new) }
-    ensures nearer { OnOk result (IsNearer target.now work.old work.new) }
-    ensures done { OnOk result (EachOf order.now (Reaches SameController target.now work.new)) }
-    ensures draft { OnOk result (IsDraft start.now target.now calls.new.items work.new) }
-    ensures count { OnOk result (length calls.new.items ≤ length calls.old.items + length order.now) }
-{
-    for name in order {
-        attach_one(start, target, name, work, calls)?;
-    }
-    Ok(())
 }
 
 fn has_other_port(link: &Link, there: &Link) -> bool
@@ -82,120 +43,36 @@ fn has_other_port(link: &Link, there: &Link) -> bool
     link.port != there.port
 }
 
-// Gives the port the target's options.
-fn set_one_port(
-    start: &Net,
-    target: &Net,
-    name: &Name,
-    work: &mut Net,
-    calls: &mut Vec<Call>,
-) -> Result<(), OutOfMemory>
-    requires whole { IsWhole target.now work.old }
-    requires attached { (n : List ℕ) → Reaches SameController target.now work.old n }
-    requires toward { IsToward target.now work.old }
-    requires draft { IsDraft start.now target.now calls.old.items work.old }
-    ensures toward { OnOk result (IsToward target.now work.new) }
-    ensures nearer { OnOk result (IsNearer target.now work.old work.new) }
-    ensures done { OnOk result (Reaches SamePort target.now work.new name.now) }
-    ensures draft { OnOk result (IsDraft start.now target.now calls.new.items work.new) }
-    ensures count { OnOk result (length calls.new.items ≤ length calls.old.items + 1) }
+/// The call that gives the port the target's options, or none where it has them.
+pub fn set_port(draft: &Draft, name: &Name) -> Option<Call>
+    requires { IsDue Phase.SetPorts draft.now name.now }
+    ensures { Serves Phase.SetPorts draft.now name.now result }
 {
-    let (Some(link), Some(there)) = (work.link(name), target.link(name)) else {
-        return Ok(());
-    };
+    draft.laws();
+    let (link, there) = draft.pair(name)?;
     if has_other_port(link, there) {
-        let call = Call::SetPort {
+        Some(Call::SetPort {
             port: *name,
             opts: there.port,
-        };
-        target.laws();
-        work.laws();
-        make(start, target, call, work, calls)?;
+        })
+    } else {
+        None
     }
-    Ok(())
 }
 
-/// Sets the options of ports.
-pub fn set_ports(
-    start: &Net,
-    target: &Net,
-    order: &[Name],
-    work: &mut Net,
-    calls: &mut Vec<Call>,
-) -> Result<(), OutOfMemory>
-    requires whole { IsWhole target.now work.old }
-    requires attached { (n : List ℕ) → Reaches SameController target.now work.old n }
-    requires toward { IsToward target.now work.old }
-    requires draft { IsDraft start.now target.now calls.old.items work.old }
-    ensures whole { OnOk result (IsWhole target.now work.new) }
-    ensures attached { OnOk result ((n : List ℕ) → Reaches SameController target.now work.new n) }
-    ensures toward { OnOk result (IsToward target.now work.new) }
-    ensures nearer { OnOk result (IsNearer target.now work.old work.new) }
-    ensures done { OnOk result (EachOf order.now (Reaches SamePort target.now work.new)) }
-    ensures draft { OnOk result (IsDraft start.now target.now calls.new.items work.new) }
-    ensures count { OnOk result (length calls.new.items ≤ length calls.old.items + length order.now) }
+/// The call that gives a bond all of the target's options, also the primary, or none where it has them.
+pub fn set_primary(draft: &Draft, name: &Name) -> Option<Call>
+    requires { IsDue Phase.SetPrimaries draft.now name.now }
+    ensures { Serves Phase.SetPrimaries draft.now name.now result }
 {
-    for name in order {
-        set_one_port(start, target, name, work, calls)?;
-    }
-    Ok(())
-}
-
-// Gives a bond the target's options, where the primary is missing.
-fn set_one_primary(
-    start: &Net,
-    target: &Net,
-    name: &Name,
-    work: &mut Net,
-    calls: &mut Vec<Call>,
-) -> Result<(), OutOfMemory>
-    requires whole { IsWhole target.now work.old }
-    requires attached { (n : List ℕ) → Reaches SameController target.now work.old n }
-    requires toward { IsToward target.now work.old }
-    requires draft { IsDraft start.now target.now calls.old.items work.old }
-    ensures toward { OnOk result (IsToward target.now work.new) }
-    ensures nearer { OnOk result (IsNearer target.now work.old work.new) }
-    ensures done { OnOk result (Reaches SameBond target.now work.new name.now) }
-    ensures draft { OnOk result (IsDraft start.now target.now calls.new.items work.new) }
-    ensures count { OnOk result (length calls.new.items ≤ length calls.old.items + 1) }
-{
-    let (Some(link), Some(there)) = (work.link(name), target.link(name)) else {
-        return Ok(());
-    };
+    draft.laws();
+    let (link, there) = draft.pair(name)?;
     if has_other_bond(link, &there.bond) {
-        let call = Call::SetBond {
+        Some(Call::SetBond {
             name: *name,
             opts: there.bond,
-        };
-        target.laws();
-        work.laws();
-        make(start, target, call, work, calls)?;
+        })
+    } else {
+        None
     }
-    Ok(())
-}
-
-/// Sets the primaries that are still missing.
-pub fn set_primaries(
-    start: &Net,
-    target: &Net,
-    order: &[Name],
-    work: &mut Net,
-    calls: &mut Vec<Call>,
-) -> Result<(), OutOfMemory>
-    requires whole { IsWhole target.now work.old }
-    requires attached { (n : List ℕ) → Reaches SameController target.now work.old n }
-    requires toward { IsToward target.now work.old }
-    requires draft { IsDraft start.now target.now calls.old.items work.old }
-    ensures whole { OnOk result (IsWhole target.now work.new) }
-    ensures attached { OnOk result ((n : List ℕ) → Reaches SameController target.now work.new n) }
-    ensures toward { OnOk result (IsToward target.now work.new) }
-    ensures nearer { OnOk result (IsNearer target.now work.old work.new) }
-    ensures done { OnOk result (EachOf order.now (Reaches SameBond target.now work.new)) }
-    ensures draft { OnOk result (IsDraft start.now target.now calls.new.items work.new) }
-    ensures count { OnOk result (length calls.new.items ≤ length calls.old.items + length order.now) }
-{
-    for name in order {
-        set_one_primary(start, target, name, work, calls)?;
-    }
-    Ok(())
 }

@@ -1,13 +1,12 @@
 //! MACs, and the options of bonds and bridges.
-ghost use Rattle.std.specs.Prelude.{◌≡◌, ◌≢◌, ◌+◌, ◌≤◌, ℕ, List, [], ◌∷◌, length, OnOk};
+ghost use Rattle.std.specs.Prelude.{◌≡◌, ◌≢◌};
 ghost use Rattle.std.specs.Bool.{OnTrue, OnFalse};
-ghost use Rattle.link_planner.specs.Drafts.{IsDraft};
-ghost use Rattle.link_planner.specs.Kept.{EachOf};
-ghost use Rattle.link_planner.specs.Counts.{bonds_among, bridges_among};
-ghost use Rattle.link_planner.specs.Growing.{AlmostSameBond, Fits, HasPort, IsNearer, IsToward, IsWhole, Reaches, SameBridge, SameMac};
+ghost use Rattle.link_planner.specs.Growing.{Fits, HasPort, SameBridge, SameMac};
+ghost use Rattle.link_planner.specs.Phases.{IsDue, Serves};
 
-use crate::drafts::make;
-use net_model::{BondOpts, Call, Link, Name, Net, OutOfMemory};
+use crate::draft::Draft;
+use crate::phase::Phase;
+use net_model::{BondOpts, Call, Link, Name, Net};
 
 fn has_other_mac(link: &Link, there: &Link) -> bool
     ensures yes { OnTrue result (link.now.mac ≢ there.now.mac) }
@@ -16,80 +15,41 @@ fn has_other_mac(link: &Link, there: &Link) -> bool
     link.mac != there.mac
 }
 
-// Gives the link the target's MAC.
-fn set_one_mac(
-    start: &Net,
-    target: &Net,
-    name: &Name,
-    work: &mut Net,
-    calls: &mut Vec<Call>,
-) -> Result<(), OutOfMemory>
-    requires whole { IsWhole target.now work.old }
-    requires toward { IsToward target.now work.old }
-    requires draft { IsDraft start.now target.now calls.old.items work.old }
-    ensures toward { OnOk result (IsToward target.now work.new) }
-    ensures nearer { OnOk result (IsNearer target.now work.old work.new) }
-    ensures done { OnOk result (Reaches SameMac target.now work.new name.now) }
-    ensures draft { OnOk result (IsDraft start.now target.now calls.new.items work.new) }
-    ensures count { OnOk result (length calls.new.items ≤ length calls.old.items + 1) }
+/// The call that gives the link the target's MAC, or none where it has it.
+pub fn set_mac(draft: &Draft, name: &Name) -> Option<Call>
+    requires { IsDue Phase.SetMacs draft.now name.now }
+    ensures { Serves Phase.SetMacs draft.now name.now result }
 {
-    let (Some(link), Some(there)) = (work.link(name), target.link(name)) else {
-        return Ok(());
-    };
+    draft.laws();
+    let (link, there) = draft.pair(name)?;
     if has_other_mac(link, there) {
-        let call = Call::SetMac {
+        Some(Call::SetMac {
             name: *name,
             mac: there.mac,
-        };
-        target.laws();
-        work.laws();
-        make(start, target, call, work, calls)?;
+        })
+    } else {
+        None
     }
-    Ok(())
 }
 
-/// Sets MACs.
-pub fn set_macs(
-    start: &Net,
-    target: &Net,
-    order: &[Name],
-    work: &mut Net,
-    calls: &mut Vec<Call>,
-) -> Result<(), OutOfMemory>
-    requires whole { IsWhole target.now work.old }
-    requires toward { IsToward target.now work.old }
-    requires draft { IsDraft start.now target.now calls.old.items work.old }
-    ensures whole { OnOk result (IsWhole target.now work.new) }
-    ensures toward { OnOk result (IsToward target.now work.new) }
-    ensures nearer { OnOk result (IsNearer target.now work.old work.new) }
-    ensures done { OnOk result (EachOf order.now (Reaches SameMac target.now work.new)) }
-    ensures draft { OnOk result (IsDraft start.now target.now calls.new.items work.new) }
-    ensures count { OnOk result (length calls.new.items ≤ length calls.old.items + length order.now) }
+fn has_port(net: &Net, name: &Name, port: &Name) -> bool
+    ensures yes { OnTrue result (HasPort net.now name.now port.now) }
+    ensures no { OnFalse result (HasPort net.now name.now port.now → ⊥) }
 {
-    for name in order {
-        set_one_mac(start, target, name, work, calls)?;
-    }
-    Ok(())
-}
-
-fn has_port(work: &Net, name: &Name, port: &Name) -> bool
-    ensures yes { OnTrue result (HasPort work.now name.now port.now) }
-    ensures no { OnFalse result (HasPort work.now name.now port.now → ⊥) }
-{
-    match work.link(port) {
+    match net.link(port) {
         Some(link) => link.controller == Some(*name),
         None => false,
     }
 }
 
 // The target's options, without a primary that isn't yet the bond's port.
-fn fitting(work: &Net, name: &Name, opts: &BondOpts) -> BondOpts
-    ensures { Fits work.now name.now opts.now result }
+fn fitting(net: &Net, name: &Name, opts: &BondOpts) -> BondOpts
+    ensures { Fits net.now name.now opts.now result }
 {
     let Some(primary) = opts.primary else {
         return *opts;
     };
-    if has_port(work, name, &primary) {
+    if has_port(net, name, &primary) {
         *opts
     } else {
         BondOpts {
@@ -107,58 +67,20 @@ pub fn has_other_bond(link: &Link, opts: &BondOpts) -> bool
     link.bond != *opts
 }
 
-// Gives a bond the target's options, with the primary only where that is its port.
-fn set_one_bond(
-    start: &Net,
-    target: &Net,
-    name: &Name,
-    work: &mut Net,
-    calls: &mut Vec<Call>,
-) -> Result<(), OutOfMemory>
-    requires whole { IsWhole target.now work.old }
-    requires toward { IsToward target.now work.old }
-    requires draft { IsDraft start.now target.now calls.old.items work.old }
-    ensures toward { OnOk result (IsToward target.now work.new) }
-    ensures nearer { OnOk result (IsNearer target.now work.old work.new) }
-    ensures done { OnOk result (Reaches AlmostSameBond target.now work.new name.now) }
-    ensures draft { OnOk result (IsDraft start.now target.now calls.new.items work.new) }
-    ensures count { OnOk result (length calls.new.items ≤ length calls.old.items + bonds_among target.now (name.now ∷ [])) }
+/// The call that gives a bond the target's options, with the primary only where that is its port, or none where it has
+/// these.
+pub fn set_bond(draft: &Draft, name: &Name) -> Option<Call>
+    requires { IsDue Phase.SetBonds draft.now name.now }
+    ensures { Serves Phase.SetBonds draft.now name.now result }
 {
-    let (Some(link), Some(there)) = (work.link(name), target.link(name)) else {
-        return Ok(());
-    };
-    let opts = fitting(work, name, &there.bond);
+    draft.laws();
+    let (link, there) = draft.pair(name)?;
+    let opts = fitting(draft.net(), name, &there.bond);
     if has_other_bond(link, &opts) {
-        target.laws();
-        work.laws();
-        let call = Call::SetBond { name: *name, opts };
-        make(start, target, call, work, calls)?;
+        Some(Call::SetBond { name: *name, opts })
+    } else {
+        None
     }
-    Ok(())
-}
-
-/// Sets the options of bonds, each primary only where it is a port already.
-pub fn set_bonds(
-    start: &Net,
-    target: &Net,
-    order: &[Name],
-    work: &mut Net,
-    calls: &mut Vec<Call>,
-) -> Result<(), OutOfMemory>
-    requires whole { IsWhole target.now work.old }
-    requires toward { IsToward target.now work.old }
-    requires draft { IsDraft start.now target.now calls.old.items work.old }
-    ensures whole { OnOk result (IsWhole target.now work.new) }
-    ensures toward { OnOk result (IsToward target.now work.new) }
-    ensures nearer { OnOk result (IsNearer target.now work.old work.new) }
-    ensures done { OnOk result (EachOf order.now (Reaches AlmostSameBond target.now work.new)) }
-    ensures draft { OnOk result (IsDraft start.now target.now calls.new.items work.new) }
-    ensures count { OnOk result (length calls.new.items ≤ length calls.old.items + bonds_among target.now order.now) }
-{
-    for name in order {
-        set_one_bond(start, target, name, work, calls)?;
-    }
-    Ok(())
 }
 
 fn has_other_bridge(link: &Link, there: &Link) -> bool
@@ -168,58 +90,19 @@ fn has_other_bridge(link: &Link, there: &Link) -> bool
     link.bridge != there.bridge
 }
 
-// Gives a bridge the target's options.
-fn set_one_bridge(
-    start: &Net,
-    target: &Net,
-    name: &Name,
-    work: &mut Net,
-    calls: &mut Vec<Call>,
-) -> Result<(), OutOfMemory>
-    requires whole { IsWhole target.now work.old }
-    requires toward { IsToward target.now work.old }
-    requires draft { IsDraft start.now target.now calls.old.items work.old }
-    ensures toward { OnOk result (IsToward target.now work.new) }
-    ensures nearer { OnOk result (IsNearer target.now work.old work.new) }
-    ensures done { OnOk result (Reaches SameBridge target.now work.new name.now) }
-    ensures draft { OnOk result (IsDraft start.now target.now calls.new.items work.new) }
-    ensures count { OnOk result (length calls.new.items ≤ length calls.old.items + bridges_among target.now (name.now ∷ [])) }
+/// The call that gives a bridge the target's options, or none where it has them.
+pub fn set_bridge(draft: &Draft, name: &Name) -> Option<Call>
+    requires { IsDue Phase.SetBridges draft.now name.now }
+    ensures { Serves Phase.SetBridges draft.now name.now result }
 {
-    let (Some(link), Some(there)) = (work.link(name), target.link(name)) else {
-        return Ok(());
-    };
+    draft.laws();
+    let (link, there) = draft.pair(name)?;
     if has_other_bridge(link, there) {
-        let call = Call::SetBridge {
+        Some(Call::SetBridge {
             name: *name,
             opts: there.bridge,
-        };
-        target.laws();
-        work.laws();
-        make(start, target, call, work, calls)?;
+        })
+    } else {
+        None
     }
-    Ok(())
-}
-
-/// Sets the options of bridges.
-pub fn set_bridges(
-    start: &Net,
-    target: &Net,
-    order: &[Name],
-    work: &mut Net,
-    calls: &mut Vec<Call>,
-) -> Result<(), OutOfMemory>
-    requires whole { IsWhole target.now work.old }
-    requires toward { IsToward target.now work.old }
-    requires draft { IsDraft start.now target.now calls.old.items work.old }
-    ensures whole { OnOk result (IsWhole target.now work.new) }
-    ensures toward { OnOk result (IsToward target.now work.new) }
-    ensures nearer { OnOk result (IsNearer target.now work.old work.new) }
-    ensures done { OnOk result (EachOf order.now (Reaches SameBridge target.now work.new)) }
-    ensures draft { OnOk result (IsDraft start.now target.now calls.new.items work.new) }
-    ensures count { OnOk result (length calls.new.items ≤ length calls.old.items + bridges_among target.now order.now) }
-{
-    for name in order {
-        set_one_bridge(start, target, name, work, calls)?;
-    }
-    Ok(())
 }

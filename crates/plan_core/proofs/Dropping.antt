@@ -1,5 +1,5 @@
 -- Rules, routes and addresses that are taken off.
-use Rattle.std.proofs.Common.{◌≡◌, ℕ, Bool, true, false, not, ◌||◌, List, Option, Some, None, Ok, refl, sym, ap, subst, ◌∙◌}
+use Rattle.std.proofs.Common.{◌≡◌, ℕ, ◌≤◌, Bool, true, false, not, ◌||◌, List, length, Option, Some, None, Ok, refl, sym, ap, subst, ◌∙◌}
 use Rattle.std.specs.Prelude.{option_map}
 use Rattle.std.specs.Option.{option_map_or}
 use Rattle.std.specs.List.{list_any}
@@ -11,8 +11,10 @@ use Rattle.net_model.specs.Valid.{same_block, same_rule, route_on_link}
 use Rattle.net_model.specs.NetData.{NetData, IsNet}
 use Rattle.net_model.specs.declared.link.Link.{Link}
 use Rattle.net_model.specs.declared.route.Route.{Route}
+use Rattle.net_model.specs.declared.dns.Dns.{Dns}
 use Rattle.net_model.specs.declared.call.Call.{Call}
-use Rattle.net_model.specs.declared.call.Call.TheVariants.{DelRule, DelRoute, DelAddress}
+use Rattle.net_model.specs.declared.call.Call.TheVariants.{DelRule, DelRoute, DelAddress, SetDns}
+use Rattle.net_model.proofs.lemmas.FactsHold.{facts}
 use Rattle.net_model.proofs.lemmas.Found.{one_name}
 use Rattle.kernel_model.specs.Addresses.{has_block, without_address, stays_on_link}
 use Rattle.kernel_model.specs.Routes.{same_route}
@@ -22,9 +24,11 @@ use Rattle.kernel_laws.proofs.lemmas.Leading.{has_frame}
 use Rattle.kernel_laws.proofs.lemmas.Taking.{is_accepted}
 use Rattle.plan_model.specs.Touched.{IsCalm}
 use Rattle.plan_model.specs.Undisturbed.{acts_on, Spares, IsUndisturbed, has_route}
-use Rattle.link_planner.specs.Drafts.{IsSafe}
+use Rattle.link_planner.specs.Drafts.{DraftData, Holds, IsSafe}
 use Rattle.link_planner.specs.LinkPlans.{without_addrs}
+use Rattle.link_planner.proofs.lemmas.Advancing.{one_call}
 use Rattle.plan_core.specs.Parts.{has_address, HasAddress, HasRoute, HasRule, IsPartOf, AddressFits, RouteFits, RuleFits}
+use Rattle.plan_core.specs.Steps.{IsTaking}
 use Rattle.plan_core.proofs.Members.{any_kept, any_was, none_left}
 use Rattle.plan_core.proofs.Exact.{one_route}
 use Rattle.plan_core.proofs.PartOf.{link_with, has_of}
@@ -46,20 +50,20 @@ touched_by start target net quiet n b v w here there differ calm =
     differ (sym here ∙ ap (λ o. option_map_or (λ (l : Link). has_block b l.addrs) o false) (quiet.links n calm ∙ calm.same) ∙ there)
 
 module _ (start target net : NetData) (is : IsNet net) (quiet : IsUndisturbed start target net) where
-  pub drop_rule_safe : (r : RuleParts) → HasRule net r → IsSafe start target (DelRule r) net
+  drop_rule_safe : (r : RuleParts) → HasRule net r → IsSafe start target (DelRule r) net
   drop_rule_safe r there = record {
     accepted = is_accepted (DelRule r) net is there;
     spares = spares_all start target (DelRule r) refl;
     undisturbed = record { links = quiet.links; routes = quiet.routes };
   }
 
-  pub drop_rule_part : (r : RuleParts) → IsPartOf (after (DelRule r) net) net
+  drop_rule_part : (r : RuleParts) → IsPartOf (after (DelRule r) net) net
   drop_rule_part r = record { links = λ n. refl; addrs = λ n b h. h; routes = λ q h. h; rules = λ q h. any_was (same_rule q) (λ x. not (same_rule r x)) net.rules h }
 
-  pub drop_rule_done : (r : RuleParts) → RuleFits target (after (DelRule r) net) r
+  drop_rule_done : (r : RuleParts) → RuleFits target (after (DelRule r) net) r
   drop_rule_done r h = let no : true ≡ false = sym h ∙ none_left (same_rule r) net.rules in absurd cc
 
-  pub drop_route_safe : (r : Route) → HasRoute net r → has_route r target.routes ≡ false → IsSafe start target (DelRoute r) net
+  drop_route_safe : (r : Route) → HasRoute net r → has_route r target.routes ≡ false → IsSafe start target (DelRoute r) net
   drop_route_safe r there off = record {
     accepted = is_accepted (DelRoute r) net is there;
     spares = spares_all start target (DelRoute r) refl;
@@ -75,10 +79,10 @@ module _ (start target net : NetData) (is : IsNet net) (quiet : IsUndisturbed st
         | false ↦ λ _. refl
       ] refl
 
-  pub drop_route_part : (r : Route) → IsPartOf (after (DelRoute r) net) net
+  drop_route_part : (r : Route) → IsPartOf (after (DelRoute r) net) net
   drop_route_part r = record { links = λ n. refl; addrs = λ n b h. h; routes = λ q h. any_was (same_route q) (λ x. not (same_route r x)) net.routes h; rules = λ q h. h }
 
-  pub drop_route_done : (r : Route) → RouteFits target (after (DelRoute r) net) r
+  drop_route_done : (r : Route) → RouteFits target (after (DelRoute r) net) r
   drop_route_done r h = let no : true ≡ false = sym h ∙ none_left (same_route r) net.routes in absurd cc
 
   module _ (n : List ℕ) (b : Block) (has : HasAddress net n b) where
@@ -94,7 +98,7 @@ module _ (start target net : NetData) (is : IsNet net) (quiet : IsUndisturbed st
     here : find_link n (after (DelAddress n b) net).links ≡ Some (without_address b link.0)
     here = leads.link.named ∙ ap (option_map (without_address b)) link.1
 
-    pub drop_address_safe : has_address target n b ≡ false → IsSafe start target (DelAddress n b) net
+    drop_address_safe : has_address target n b ≡ false → IsSafe start target (DelAddress n b) net
     drop_address_safe off = record {
       accepted = taken;
       spares = spares_name start target (DelAddress n b) n refl touched;
@@ -116,7 +120,7 @@ module _ (start target net : NetData) (is : IsNet net) (quiet : IsUndisturbed st
           | false ↦ λ _. refl
         ] refl
 
-    pub drop_address_part : IsPartOf (after (DelAddress n b) net) net
+    drop_address_part : IsPartOf (after (DelAddress n b) net) net
     drop_address_part = record {
       links = λ m. elim (same_bytes m n) as (λ v. same_bytes m n ≡ v → option_map without_addrs (find_link m (after (DelAddress n b) net).links) ≡ option_map without_addrs (find_link m net.links)) [
         | true ↦ λ e. subst (λ x. option_map without_addrs (find_link x (after (DelAddress n b) net).links) ≡ option_map without_addrs (find_link x net.links)) (sym (one_name m n e)) (ap (option_map without_addrs) here ∙ ap (option_map without_addrs) (sym link.1))
@@ -131,7 +135,28 @@ module _ (start target net : NetData) (is : IsNet net) (quiet : IsUndisturbed st
       rules = λ q h. ap (list_any (same_rule q)) (sym leads.rules) ∙ h;
     }
 
-    pub drop_address_done : AddressFits target (after (DelAddress n b) net) n b
+    drop_address_done : AddressFits target (after (DelAddress n b) net) n b
     drop_address_done h =
         let no : true ≡ false = sym h ∙ has_of (after (DelAddress n b) net) n (without_address b link.0) b here ∙ none_left (same_block b) link.0.addrs in
         absurd cc
+
+-- in a draft
+pub rule_taking : (d : DraftData) → Holds d → (r : RuleParts) → HasRule d.net r → IsTaking (λ x. RuleFits x.target x.net r) d (DelRule r)
+rule_taking d h r there = record { safe = drop_rule_safe d.start d.target d.net h.net h.draft.undisturbed r there; takes = record { advances = one_call d (DelRule r); part = drop_rule_part d.start d.target d.net h.net h.draft.undisturbed r; done = drop_rule_done d.start d.target d.net h.net h.draft.undisturbed r } }
+
+pub route_taking : (d : DraftData) → Holds d → (r : Route) → HasRoute d.net r → has_route r d.target.routes ≡ false → IsTaking (λ x. RouteFits x.target x.net r) d (DelRoute r)
+route_taking d h r there off = record { safe = drop_route_safe d.start d.target d.net h.net h.draft.undisturbed r there off; takes = record { advances = one_call d (DelRoute r); part = drop_route_part d.start d.target d.net h.net h.draft.undisturbed r; done = drop_route_done d.start d.target d.net h.net h.draft.undisturbed r } }
+
+pub address_taking : (d : DraftData) → Holds d → (n : List ℕ) (b : Block) → HasAddress d.net n b → has_address d.target n b ≡ false → IsTaking (λ x. AddressFits x.target x.net n b) d (DelAddress n b)
+address_taking d h n b there off = record { safe = drop_address_safe d.start d.target d.net h.net h.draft.undisturbed n b there off; takes = record { advances = one_call d (DelAddress n b); part = drop_address_part d.start d.target d.net h.net h.draft.undisturbed n b there; done = drop_address_done d.start d.target d.net h.net h.draft.undisturbed n b there } }
+
+-- DNS may be set to target's
+pub dns_safe : (d : DraftData) → Holds d → (dns : Dns) → dns ≡ d.target.dns → IsSafe d.start d.target (SetDns dns) d.net
+dns_safe d h dns same =
+    let few = (facts d.target h.target).few_servers in
+    let searched = (facts d.target h.target).few_searched in
+    record {
+      accepted = is_accepted (SetDns dns) d.net h.net (subst (λ (x : Dns). (length x.servers ≤ 16) × (length x.search ≤ 16)) (sym same) (few, searched));
+      spares = spares_all d.start d.target (SetDns dns) refl;
+      undisturbed = record { links = h.draft.undisturbed.links; routes = h.draft.undisturbed.routes };
+    }

@@ -1,9 +1,11 @@
 pub mod Members
 pub mod Exact
 pub mod PartOf
+pub mod Stepping
 pub mod Places
 pub mod Dropping
 pub mod Adding
 pub mod AddingAddress
 pub mod Same
 pub mod SameItems
+pub mod Linking

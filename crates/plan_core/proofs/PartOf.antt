@@ -20,6 +20,9 @@ use Rattle.link_planner.specs.Shrinking.{IsLess, IsShrunk, KeepsPorts}
 use Rattle.link_planner.specs.LinkPlans.{without_addrs, IsReady}
 use Rattle.plan_core.specs.Parts.{has_address, HasAddress, IsPartOf, EachLink, EachRoute, EachRule, LinkFits, LinkIsFilled, RouteFits, RuleFits}
 
+pub part_itself : (net : NetData) → IsPartOf net net
+part_itself net = record { links = λ n. refl; addrs = λ n b h. h; routes = λ r h. h; rules = λ r h. h }
+
 -- a part of a part is a part
 pub part_more : (a b c : NetData) → IsPartOf a b → IsPartOf b c → IsPartOf a c
 part_more a b c first second = record {

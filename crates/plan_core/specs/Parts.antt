@@ -1,5 +1,5 @@
 -- What of one network stands in another.
-use Rattle.std.specs.Prelude.{◌≡◌, ℕ, ◌<◌, Bool, true, false, List, option_map, slice_index_or}
+use Rattle.std.specs.Prelude.{◌≡◌, ℕ, ◌<◌, Bool, true, false, List, length, option_map, slice_index_or}
 use Rattle.std.specs.List.{list_any}
 use Rattle.std.specs.Option.{option_map_or}
 use Rattle.net_model.specs.Address.{Block}
@@ -66,3 +66,11 @@ LinkFits start target net link = is_kept start target link.name ≡ true → Eac
 -- the link's addresses are there
 abbrev pub LinkIsFilled : NetData → Link → Type 0
 LinkIsFilled net link = EachAddress link.addrs (HasAddress net link.name)
+
+-- and those of all kept links
+abbrev pub AllLinksFit : NetData → NetData → NetData → Type 0
+AllLinksFit start target net = EachLink (length start.links) start.links (LinkFits start target net)
+
+-- the addresses of the one network are there
+abbrev pub HasAddresses : NetData → NetData → Type 0
+HasAddresses all net = (n : List ℕ) (b : Block) → HasAddress all n b → HasAddress net n b

@@ -6,7 +6,7 @@ ghost use Rattle.plan_model.specs.Plans.{IsPlan};
 use crate::equal::same_net;
 use crate::put_on::put_on;
 use crate::take_off::take_off;
-use link_planner::link_phases;
+use link_planner::{Draft, link_phases};
 use net_model::{Call, Net, OutOfMemory};
 use plan_model::plan_laws;
 use std::alloc::Global;
@@ -27,12 +27,13 @@ fn phases(alloc: Global, now_net: &Net, to_net: &Net) -> Result<Vec<Call>, OutOf
     requires differ { now_net.now ≢ to_net.now }
     ensures { IfOk result (λ calls. IsPlan now_net.now to_net.now calls.items) }
 {
-    let mut work = now_net.copy()?;
-    let mut calls = Vec::new(alloc);
-    take_off(now_net, to_net, &mut work, &mut calls)?;
-    link_phases(alloc, now_net, to_net, &mut work, &mut calls)?;
-    put_on(now_net, to_net, &mut work, &mut calls)?;
+    let mut draft = Draft::new(alloc, now_net, to_net)?;
+    take_off(&mut draft)?;
+    link_phases(alloc, &mut draft)?;
+    put_on(&mut draft)?;
+    draft.laws();
     plan_laws();
+    let (calls, _) = draft.finish();
     Ok(calls)
 }
 

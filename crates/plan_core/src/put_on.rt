@@ -1,180 +1,105 @@
 //! Addresses, routes, rules and DNS that are missing.
-ghost use Rattle.std.specs.Prelude.{◌≡◌, ◌≢◌, ◌+◌, ◌≤◌, ℕ, List, length, IfOk, OnOk};
-ghost use Rattle.net_model.specs.Address.{Block};
+ghost use Rattle.std.specs.Prelude.{◌≡◌, ◌+◌, length, IfOk, OnOk};
 ghost use Rattle.net_model.specs.Valid.{address_count};
 ghost use Rattle.plan_model.specs.Plans.{part_count};
-ghost use Rattle.link_planner.specs.Drafts.{IsDraft};
-ghost use Rattle.plan_core.specs.Parts.{IsPartOf, HasAddress, HasRoute, HasRule, EachRoute, EachRule, LinkIsFilled};
+ghost use Rattle.link_planner.specs.Drafts.{Advances};
+ghost use Rattle.plan_core.specs.Parts.{IsPartOf, HasAddress, HasAddresses, HasRoute, HasRule, EachRoute, EachRule, LinkIsFilled};
+ghost use Rattle.plan_core.specs.Steps.{MayPutOn, PutsOn};
 
 use crate::equal::same_dns;
 use crate::has::{has_address, has_route, has_rule};
-use link_planner::make;
-use net_model::{Call, Dns, Link, Name, Net, OutOfMemory, Prefix, Route, Rule};
+use link_planner::Draft;
+use net_model::{Call, Dns, Link, Name, OutOfMemory, Prefix, Route, Rule};
 use std::alloc::AllocError;
 
-// Puts the address on, if it is missing.
-fn add_address(
-    start: &Net,
-    target: &Net,
-    name: &Name,
-    addr: &Prefix,
-    work: &mut Net,
-    calls: &mut Vec<Call>,
-) -> Result<(), OutOfMemory>
-    requires there { HasAddress target.now name.now addr.now }
-    requires within { IsPartOf work.old target.now }
-    requires draft { IsDraft start.now target.now calls.old.items work.old }
-    ensures within { OnOk result (IsPartOf work.new target.now) }
-    ensures part { OnOk result (IsPartOf work.old work.new) }
-    ensures done { OnOk result (HasAddress work.new name.now addr.now) }
-    ensures draft { OnOk result (IsDraft start.now target.now calls.new.items work.new) }
-    ensures count { OnOk result (length calls.new.items ≤ length calls.old.items + 1) }
+// The call that puts the address on, or none where it is there.
+fn address_on(draft: &Draft, name: &Name, addr: &Prefix) -> Option<Call>
+    requires there { HasAddress draft.now.target name.now addr.now }
+    requires within { IsPartOf draft.now.net draft.now.target }
+    ensures { MayPutOn (λ d. HasAddress d.net name.now addr.now) draft.now result }
 {
-    if !has_address(work, name, addr) {
-        target.laws();
-        work.laws();
-        let call = Call::AddAddress {
+    draft.laws();
+    if has_address(draft.net(), name, addr) {
+        None
+    } else {
+        Some(Call::AddAddress {
             name: *name,
             addr: *addr,
-        };
-        make(start, target, call, work, calls)?;
+        })
     }
-    Ok(())
 }
 
-fn add_addresses_of(
-    start: &Net,
-    target: &Net,
-    there: &Link,
-    work: &mut Net,
-    calls: &mut Vec<Call>,
-) -> Result<(), OutOfMemory>
-    requires there { LinkIsFilled target.now there.now }
-    requires within { IsPartOf work.old target.now }
-    requires draft { IsDraft start.now target.now calls.old.items work.old }
-    ensures within { OnOk result (IsPartOf work.new target.now) }
-    ensures part { OnOk result (IsPartOf work.old work.new) }
-    ensures done { OnOk result (LinkIsFilled work.new there.now) }
-    ensures draft { OnOk result (IsDraft start.now target.now calls.new.items work.new) }
-    ensures count { OnOk result (length calls.new.items ≤ length calls.old.items + length there.now.addrs) }
+fn add_addresses_of(draft: &mut Draft, there: &Link) -> Result<(), OutOfMemory>
+    requires there { LinkIsFilled draft.old.target there.now }
+    requires within { IsPartOf draft.old.net draft.old.target }
+    ensures { OnOk result (PutsOn (length there.now.addrs) (λ d. LinkIsFilled d.net there.now) draft.old draft.new) }
 {
     for addr in there.addrs.items() {
-        add_address(start, target, &there.name, addr, work, calls)?;
+        let call = address_on(draft, &there.name, addr);
+        draft.add_some(call)?;
     }
     Ok(())
 }
 
-fn add_addresses(
-    start: &Net,
-    target: &Net,
-    work: &mut Net,
-    calls: &mut Vec<Call>,
-) -> Result<(), OutOfMemory>
-    requires within { IsPartOf work.old target.now }
-    requires draft { IsDraft start.now target.now calls.old.items work.old }
-    ensures within { OnOk result (IsPartOf work.new target.now) }
-    ensures done { OnOk result ((n : List ℕ) (b : Block) → HasAddress target.now n b → HasAddress work.new n b) }
-    ensures draft { OnOk result (IsDraft start.now target.now calls.new.items work.new) }
-    ensures count { OnOk result (length calls.new.items ≤ length calls.old.items + address_count target.now.links) }
+fn add_addresses(draft: &mut Draft) -> Result<(), OutOfMemory>
+    requires { IsPartOf draft.old.net draft.old.target }
+    ensures { OnOk result (PutsOn (address_count draft.old.target.links) (λ d. HasAddresses d.target d.net) draft.old draft.new) }
 {
-    target.laws();
-    for there in target.links() {
-        add_addresses_of(start, target, there, work, calls)?;
+    draft.laws();
+    for there in draft.target().links() {
+        add_addresses_of(draft, there)?;
     }
     Ok(())
 }
 
-// Puts the route on, if it is missing, where the links are the target's.
-fn add_route(
-    start: &Net,
-    target: &Net,
-    route: &Route,
-    work: &mut Net,
-    calls: &mut Vec<Call>,
-) -> Result<(), OutOfMemory>
-    requires there { HasRoute target.now route.now }
-    requires links { work.old.links ≡ target.now.links }
-    requires within { IsPartOf work.old target.now }
-    requires draft { IsDraft start.now target.now calls.old.items work.old }
-    ensures links { OnOk result (work.new.links ≡ target.now.links) }
-    ensures within { OnOk result (IsPartOf work.new target.now) }
-    ensures part { OnOk result (IsPartOf work.old work.new) }
-    ensures done { OnOk result (HasRoute work.new route.now) }
-    ensures draft { OnOk result (IsDraft start.now target.now calls.new.items work.new) }
-    ensures count { OnOk result (length calls.new.items ≤ length calls.old.items + 1) }
+// The call that puts the route on, or none where it is there. The links are the target's.
+fn route_on(draft: &Draft, route: &Route) -> Option<Call>
+    requires there { HasRoute draft.now.target route.now }
+    requires links { draft.now.net.links ≡ draft.now.target.links }
+    requires within { IsPartOf draft.now.net draft.now.target }
+    ensures { MayPutOn (λ d. HasRoute d.net route.now) draft.now result }
 {
-    if !has_route(work, route) {
-        target.laws();
-        work.laws();
-        make(start, target, Call::AddRoute { route: *route }, work, calls)?;
+    draft.laws();
+    if has_route(draft.net(), route) {
+        None
+    } else {
+        Some(Call::AddRoute { route: *route })
+    }
+}
+
+fn add_routes(draft: &mut Draft) -> Result<(), OutOfMemory>
+    requires links { draft.old.net.links ≡ draft.old.target.links }
+    requires within { IsPartOf draft.old.net draft.old.target }
+    ensures { OnOk result (PutsOn (length draft.old.target.routes) (λ d. EachRoute d.target.routes (HasRoute d.net)) draft.old draft.new) }
+{
+    for route in draft.target().routes() {
+        let call = route_on(draft, route);
+        draft.add_some(call)?;
     }
     Ok(())
 }
 
-fn add_routes(
-    start: &Net,
-    target: &Net,
-    work: &mut Net,
-    calls: &mut Vec<Call>,
-) -> Result<(), OutOfMemory>
-    requires links { work.old.links ≡ target.now.links }
-    requires within { IsPartOf work.old target.now }
-    requires draft { IsDraft start.now target.now calls.old.items work.old }
-    ensures links { OnOk result (work.new.links ≡ target.now.links) }
-    ensures within { OnOk result (IsPartOf work.new target.now) }
-    ensures done { OnOk result (EachRoute target.now.routes (HasRoute work.new)) }
-    ensures draft { OnOk result (IsDraft start.now target.now calls.new.items work.new) }
-    ensures count { OnOk result (length calls.new.items ≤ length calls.old.items + length target.now.routes) }
+// The call that puts the rule on, or none where it is there.
+fn rule_on(draft: &Draft, rule: &Rule) -> Option<Call>
+    requires there { HasRule draft.now.target rule.now }
+    requires within { IsPartOf draft.now.net draft.now.target }
+    ensures { MayPutOn (λ d. HasRule d.net rule.now) draft.now result }
 {
-    for route in target.routes() {
-        add_route(start, target, route, work, calls)?;
+    draft.laws();
+    if has_rule(draft.net(), rule) {
+        None
+    } else {
+        Some(Call::AddRule { rule: *rule })
     }
-    Ok(())
 }
 
-// Puts the rule on, if it is missing.
-fn add_rule(
-    start: &Net,
-    target: &Net,
-    rule: &Rule,
-    work: &mut Net,
-    calls: &mut Vec<Call>,
-) -> Result<(), OutOfMemory>
-    requires there { HasRule target.now rule.now }
-    requires within { IsPartOf work.old target.now }
-    requires draft { IsDraft start.now target.now calls.old.items work.old }
-    ensures within { OnOk result (IsPartOf work.new target.now) }
-    ensures part { OnOk result (IsPartOf work.old work.new) }
-    ensures links { OnOk result (work.new.links ≡ work.old.links) }
-    ensures done { OnOk result (HasRule work.new rule.now) }
-    ensures draft { OnOk result (IsDraft start.now target.now calls.new.items work.new) }
-    ensures count { OnOk result (length calls.new.items ≤ length calls.old.items + 1) }
+fn add_rules(draft: &mut Draft) -> Result<(), OutOfMemory>
+    requires { IsPartOf draft.old.net draft.old.target }
+    ensures { OnOk result (PutsOn (length draft.old.target.rules) (λ d. EachRule d.target.rules (HasRule d.net)) draft.old draft.new) }
 {
-    if !has_rule(work, rule) {
-        target.laws();
-        work.laws();
-        make(start, target, Call::AddRule { rule: *rule }, work, calls)?;
-    }
-    Ok(())
-}
-
-fn add_rules(
-    start: &Net,
-    target: &Net,
-    work: &mut Net,
-    calls: &mut Vec<Call>,
-) -> Result<(), OutOfMemory>
-    requires within { IsPartOf work.old target.now }
-    requires draft { IsDraft start.now target.now calls.old.items work.old }
-    ensures within { OnOk result (IsPartOf work.new target.now) }
-    ensures part { OnOk result (IsPartOf work.old work.new) }
-    ensures links { OnOk result (work.new.links ≡ work.old.links) }
-    ensures done { OnOk result (EachRule target.now.rules (HasRule work.new)) }
-    ensures draft { OnOk result (IsDraft start.now target.now calls.new.items work.new) }
-    ensures count { OnOk result (length calls.new.items ≤ length calls.old.items + length target.now.rules) }
-{
-    for rule in target.rules() {
-        add_rule(start, target, rule, work, calls)?;
+    for rule in draft.target().rules() {
+        let call = rule_on(draft, rule);
+        draft.add_some(call)?;
     }
     Ok(())
 }
@@ -186,48 +111,32 @@ fn copy_dns(dns: &Dns) -> Result<Dns, AllocError>
 }
 
 // Sets DNS, if it isn't the target's, where all else is the target's.
-fn set_dns(
-    start: &Net,
-    target: &Net,
-    work: &mut Net,
-    calls: &mut Vec<Call>,
-) -> Result<(), OutOfMemory>
-    requires links { work.old.links ≡ target.now.links }
-    requires routes { work.old.routes ≡ target.now.routes }
-    requires rules { work.old.rules ≡ target.now.rules }
-    requires draft { IsDraft start.now target.now calls.old.items work.old }
-    ensures done { OnOk result (work.new ≡ target.now) }
-    ensures draft { OnOk result (IsDraft start.now target.now calls.new.items work.new) }
-    ensures count { OnOk result (length calls.new.items ≤ length calls.old.items + 1) }
+fn set_dns(draft: &mut Draft) -> Result<(), OutOfMemory>
+    requires links { draft.old.net.links ≡ draft.old.target.links }
+    requires routes { draft.old.net.routes ≡ draft.old.target.routes }
+    requires rules { draft.old.net.rules ≡ draft.old.target.rules }
+    ensures done { OnOk result (draft.new.net ≡ draft.new.target) }
+    ensures advances { OnOk result (Advances 1 draft.old draft.new) }
 {
-    if !same_dns(work.dns(), target.dns()) {
-        target.laws();
-        work.laws();
-        let dns = copy_dns(target.dns())?;
-        make(start, target, Call::SetDns { dns }, work, calls)?;
+    if !same_dns(draft.net().dns(), draft.target().dns()) {
+        draft.laws();
+        let dns = copy_dns(draft.target().dns())?;
+        draft.add(Call::SetDns { dns })?;
     }
     Ok(())
 }
 
 /// Puts on what is missing, where the links are the target's but for addresses.
-pub fn put_on(
-    start: &Net,
-    target: &Net,
-    work: &mut Net,
-    calls: &mut Vec<Call>,
-) -> Result<(), OutOfMemory>
-    requires within { IsPartOf work.old target.now }
-    requires draft { IsDraft start.now target.now calls.old.items work.old }
-    ensures done { OnOk result (work.new ≡ target.now) }
-    ensures draft { OnOk result (IsDraft start.now target.now calls.new.items work.new) }
-    ensures count { OnOk result (length calls.new.items ≤ length calls.old.items + part_count target.now + 1) }
+pub fn put_on(draft: &mut Draft) -> Result<(), OutOfMemory>
+    requires { IsPartOf draft.old.net draft.old.target }
+    ensures done { OnOk result (draft.new.net ≡ draft.new.target) }
+    ensures advances { OnOk result (Advances (part_count draft.old.target + 1) draft.old draft.new) }
 {
-    target.laws();
-    add_addresses(start, target, work, calls)?;
-    work.laws();
-    add_routes(start, target, work, calls)?;
-    add_rules(start, target, work, calls)?;
-    work.laws();
-    set_dns(start, target, work, calls)?;
+    add_addresses(draft)?;
+    draft.laws();
+    add_routes(draft)?;
+    add_rules(draft)?;
+    draft.laws();
+    set_dns(draft)?;
     Ok(())
 }

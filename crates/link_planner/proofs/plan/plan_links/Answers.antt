@@ -1,24 +1,16 @@
-use Rattle.std.proofs.Common.{arith, ◌≡◌, length, sym, ap, subst}
-use Rattle.plan_model.specs.Undisturbed.{IsUndisturbed}
-use Rattle.link_planner.specs.Drafts.{IsDraft}
-use Rattle.link_planner.specs.LinkPlans.{IsReady, ReachesLinks}
-use Rattle.link_planner.proofs.Starting.{start_ready}
+use Rattle.std.proofs.Common.{◌*◌, [], subst}
+use Rattle.plan_model.specs.Plans.{name_count}
+use Rattle.link_planner.specs.Drafts.{Advances, draft_of}
+use Rattle.link_planner.specs.LinkPlans.{ReachesLinks}
+use Rattle.link_planner.proofs.Starting.{start_ready, link_planned}
 use Rattle.link_planner.proofs.plan.plan_links.Goals as goal
 
-pub link_phases-requires-clause-ready : goal.link_phases-requires-clause-ready
-link_phases-requires-clause-ready c = subst (IsReady c.args.now_net.now c.args.to_net.now) (sym c.in_ok-after.ensures) (start_ready c.args.now_net.now c.args.to_net.now c.requires)
-
-pub link_phases-requires-clause-draft : goal.link_phases-requires-clause-draft
-link_phases-requires-clause-draft c =
-    subst (λ calls. IsDraft c.args.now_net.now c.args.to_net.now calls c.in_ok-after.after) (sym c.new-calls.ensures.items) (record {
-      led = c.in_ok-after.ensures;
-      undisturbed = subst (IsUndisturbed c.args.now_net.now c.args.to_net.now) (sym c.in_ok-after.ensures) (c.plan_laws.ensures.start c.args.now_net.now c.args.to_net.now);
-    })
+pub link_phases-requires : goal.link_phases-requires
+link_phases-requires c = rw c.in_ok-draft.ensures (start_ready c.args.now_net.now c.args.to_net.now c.requires)
 
 pub returns : goal.returns
-returns c = record {
-  run = c.plan_laws.ensures.run c.args.now_net.now c.args.to_net.now c.link_phases.new.calls.items c.link_phases.new.work c.in_ok-link_phases.ensures.draft.led;
-  reached = subst (λ net. ReachesLinks net c.args.to_net.now c.link_phases.new.work) c.in_ok-after.ensures c.in_ok-link_phases.ensures.reached;
-  gentle = c.plan_laws.ensures.gentle c.args.now_net.now c.args.to_net.now c.link_phases.new.calls.items c.link_phases.new.work c.in_ok-link_phases.ensures.draft.led;
-  short = let none : length c.new-calls.result.items ≡ 0 = ap length c.new-calls.ensures.items in omega (arith, c.in_ok-link_phases.ensures.short, none);
-}
+returns c =
+    let advances : Advances (12 * name_count c.args.now_net.now c.args.to_net.now) (draft_of c.args.now_net.now c.args.to_net.now c.args.now_net.now []) c.link_phases.new.draft =
+    subst (λ d. Advances (12 * name_count d.start d.target) d c.link_phases.new.draft) c.in_ok-draft.ensures c.in_ok-link_phases.ensures.advances in
+    let reached : ReachesLinks c.args.now_net.now c.link_phases.new.draft.target c.link_phases.new.draft.net = subst (λ d. ReachesLinks d.net c.link_phases.new.draft.target c.link_phases.new.draft.net) c.in_ok-draft.ensures c.in_ok-link_phases.ensures.reached in
+    link_planned c.plan_laws.ensures.run c.plan_laws.ensures.gentle c.args.now_net.now c.args.to_net.now c.link_phases.new.draft c.finish-calls.result.0.items c.finish-calls.result.1 advances c.laws.ensures reached c.finish-calls.ensures

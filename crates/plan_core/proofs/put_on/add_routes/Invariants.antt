@@ -1,13 +1,9 @@
-use Rattle.std.proofs.Common.{◌≡◌, ◌+◌, ◌≤◌, length, take}
-use Rattle.link_planner.specs.Drafts.{IsDraft}
-use Rattle.plan_core.specs.Parts.{IsPartOf, EachRoute, HasRoute}
+use Rattle.kernel_model.specs.Routes.{same_route}
+use Rattle.link_planner.specs.Drafts.{DraftData}
+use Rattle.plan_core.specs.Parts.{HasRoute}
+use Rattle.plan_core.specs.Steps.{PutsOn}
+use Rattle.plan_core.proofs.Stepping.{OfFirst}
 use Rattle.plan_core.proofs.put_on.add_routes.Given as goal
 
 abbrev pub invariant-loop-route : goal.invariant-loop-route
-invariant-loop-route l = record {
-  within : IsPartOf l.work l.target;
-  links : l.work.links ≡ l.target.links;
-  done : EachRoute (take l.route-index l.target.routes) (HasRoute l.work);
-  count : length l.calls.items ≤ length l.initial.calls.items + l.route-index;
-  draft : IsDraft l.start l.target l.calls.items l.work;
-}
+invariant-loop-route l = PutsOn l.route-index (OfFirst same_route (λ (e : DraftData). HasRoute e.net) (λ (e : DraftData). e.target.routes) l.route-index) l.initial.draft l.draft

@@ -1,14 +1,9 @@
-use Rattle.std.proofs.Common.{◌≡◌, ◌+◌, ◌≤◌, length, take}
-use Rattle.link_planner.specs.Drafts.{IsDraft}
-use Rattle.plan_core.specs.Parts.{IsPartOf, EachRule, HasRule}
+use Rattle.net_model.specs.Valid.{same_rule}
+use Rattle.link_planner.specs.Drafts.{DraftData}
+use Rattle.plan_core.specs.Parts.{HasRule}
+use Rattle.plan_core.specs.Steps.{PutsOn}
+use Rattle.plan_core.proofs.Stepping.{OfFirst}
 use Rattle.plan_core.proofs.put_on.add_rules.Given as goal
 
 abbrev pub invariant-loop-rule : goal.invariant-loop-rule
-invariant-loop-rule l = record {
-  within : IsPartOf l.work l.target;
-  part : IsPartOf l.initial.work l.work;
-  links : l.work.links ≡ l.initial.work.links;
-  done : EachRule (take l.rule-index l.target.rules) (HasRule l.work);
-  count : length l.calls.items ≤ length l.initial.calls.items + l.rule-index;
-  draft : IsDraft l.start l.target l.calls.items l.work;
-}
+invariant-loop-rule l = PutsOn l.rule-index (OfFirst same_rule (λ (e : DraftData). HasRule e.net) (λ (e : DraftData). e.target.rules) l.rule-index) l.initial.draft l.draft

@@ -1,12 +1,9 @@
-use Rattle.std.proofs.Common.{◌+◌, ◌≤◌, length, take}
-use Rattle.link_planner.specs.Drafts.{IsDraft}
-use Rattle.plan_core.specs.Parts.{IsPartOf, EachAddress, AddressFits}
+use Rattle.net_model.specs.Valid.{same_block}
+use Rattle.link_planner.specs.Drafts.{DraftData}
+use Rattle.plan_core.specs.Parts.{AddressFits}
+use Rattle.plan_core.specs.Steps.{TakesOff}
+use Rattle.plan_core.proofs.Stepping.{OfFirst}
 use Rattle.plan_core.proofs.take_off.drop_addresses_of.Given as goal
 
 abbrev pub invariant-loop-addr : goal.invariant-loop-addr
-invariant-loop-addr l = record {
-  part : IsPartOf l.work l.initial.work;
-  done : EachAddress (take l.addr-index l.link.addrs) (AddressFits l.target l.work l.link.name);
-  count : length l.calls.items ≤ length l.initial.calls.items + l.addr-index;
-  draft : IsDraft l.start l.target l.calls.items l.work;
-}
+invariant-loop-addr l = TakesOff l.addr-index (OfFirst same_block (λ (e : DraftData). AddressFits e.target e.net l.link.name) (λ (e : DraftData). l.link.addrs) l.addr-index) l.initial.draft l.draft

@@ -1,12 +1,9 @@
-use Rattle.std.proofs.Common.{◌+◌, ◌≤◌, length, take}
-use Rattle.link_planner.specs.Drafts.{IsDraft}
-use Rattle.plan_core.specs.Parts.{IsPartOf, EachRule, RuleFits}
+use Rattle.net_model.specs.Valid.{same_rule}
+use Rattle.link_planner.specs.Drafts.{DraftData}
+use Rattle.plan_core.specs.Parts.{RuleFits}
+use Rattle.plan_core.specs.Steps.{TakesOff}
+use Rattle.plan_core.proofs.Stepping.{OfFirst}
 use Rattle.plan_core.proofs.take_off.drop_rules.Given as goal
 
 abbrev pub invariant-loop-rule : goal.invariant-loop-rule
-invariant-loop-rule l = record {
-  part : IsPartOf l.work l.initial.work;
-  done : EachRule (take l.rule-index l.start.rules) (RuleFits l.target l.work);
-  count : length l.calls.items ≤ length l.initial.calls.items + l.rule-index;
-  draft : IsDraft l.start l.target l.calls.items l.work;
-}
+invariant-loop-rule l = TakesOff l.rule-index (OfFirst same_rule (λ (e : DraftData). RuleFits e.target e.net) (λ (e : DraftData). e.start.rules) l.rule-index) l.initial.draft l.draft

@@ -1,0 +1,9 @@
+use Rattle.std.proofs.Common.{rules}
+use Rattle.link_planner.specs.Pairs.{ArePair}
+use Rattle.link_planner.proofs.Bonds.{primary_next}
+use Rattle.link_planner.proofs.ports.set_primary.Goals as goal
+
+pub returns-then-has_other_bond : goal.returns-then-has_other_bond
+returns-then-has_other_bond c =
+    let pair : ArePair c.args.draft.now c.args.name.now c.in_ok-link.link.now c.in_ok-link.there.now = search rules in
+    primary_next c.args.draft.now c.laws.ensures c.args.name.now c.in_ok-link.link.now c.in_ok-link.there.now pair c.requires.stands c.if-has_other_bond.ensures.yes

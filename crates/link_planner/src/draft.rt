@@ -1,0 +1,133 @@
+//! A plan in the making.
+ghost use Rattle.std.specs.Prelude.{◌≡◌, [], IfOk, IfSome, OnOk, MatchOption};
+ghost use Rattle.net_model.specs.Hardware.{hardware};
+ghost use Rattle.link_planner.specs.Drafts.{Holds, IsSafe, draft_of, with_call, with_some};
+ghost use Rattle.link_planner.specs.Kept.{is_kept};
+ghost use Rattle.link_planner.specs.Pairs.{AreUnpaired, ArePair};
+
+use crate::kept::is_kept;
+use kernel_step::{StepFault, step};
+use net_model::{Call, Link, Name, Net, OutOfMemory};
+use plan_model::plan_laws;
+use std::alloc::Global;
+use std::marker::Model;
+
+/// A plan in the making: the two networks between which it is to lead, its calls so far, each accepted, and the network to
+/// which they have led. Untouched links are undisturbed at each moment, also after an error.
+#[derive(Drop)]
+pub struct Draft<'a> {
+    start: &'a Net,
+    target: &'a Net,
+    net: Net,
+    calls: Vec<Call>,
+}
+
+impl<'a> Model for Draft<'a> {
+    ghost use Rattle.link_planner.specs.Drafts.{DraftData, IsDraft, draft_of};
+
+    ghost Value = { DraftData };
+
+    ghost view = { λ d. draft_of d.start.now d.target.now d.net d.calls.items };
+
+    ghost invariant = { λ d. IsDraft (draft_of d.start.now d.target.now d.net d.calls.items) };
+}
+
+impl<'a> Draft<'a> {
+    /// The draft without a call, between two networks of the same devices.
+    pub fn new(alloc: Global, start: &'a Net, target: &'a Net) -> Result<Draft<'a>, OutOfMemory>
+        requires { hardware start.now.links ≡ hardware target.now.links }
+        ensures { IfOk result (λ draft. draft ≡ draft_of start.now target.now start.now []) }
+    {
+        let net = start.copy()?;
+        plan_laws();
+        Ok(Draft {
+            start,
+            target,
+            net,
+            calls: Vec::new(alloc),
+        })
+    }
+
+    /// The network from which it leads.
+    pub fn start(&self) -> &'a Net
+        ensures { result.now ≡ self.now.start }
+    {
+        self.start
+    }
+
+    /// The network to which it is to lead.
+    pub fn target(&self) -> &'a Net
+        ensures { result.now ≡ self.now.target }
+    {
+        self.target
+    }
+
+    /// The network to which it has led.
+    pub fn net(&self) -> &Net
+        ensures { result.now ≡ self.now.net }
+    {
+        &self.net
+    }
+
+    /// What is known of every draft. It supplies laws, and has no effect at run time.
+    pub fn laws(&self)
+        ensures { Holds self.now }
+    {
+        self.start.laws();
+        self.target.laws();
+        self.net.laws();
+    }
+
+    /// Whether the link of a name is in both networks, with the same kind.
+    pub fn keeps(&self, name: &Name) -> bool
+        ensures { result ≡ is_kept self.now.start self.now.target name.now }
+    {
+        is_kept(self.start, self.target, name)
+    }
+
+    // The link of a name so far, and that of the target, where both are there.
+    pub(crate) fn pair(&self, name: &Name) -> Option<(&Link, &'a Link)>
+        ensures { MatchOption result (AreUnpaired self.now name.now) (λ p. ArePair self.now name.now p.0.now p.1.now) }
+    {
+        match (self.net.link(name), self.target.link(name)) {
+            (Some(link), Some(there)) => Some((link, there)),
+            _ => None,
+        }
+    }
+
+    /// Makes a call that is accepted, and notes it.
+    pub fn add(&mut self, call: Call) -> Result<(), OutOfMemory>
+        requires { IsSafe self.old.start self.old.target call self.old.net }
+        ensures { OnOk result (self.new ≡ with_call call self.old) }
+    {
+        plan_laws();
+        self.net.laws();
+        self.calls.reserve(1)?;
+        match step(&mut self.net, &call) {
+            Ok(()) => {}
+            Err(StepFault::Refused(_)) => unreachable!(),
+            Err(StepFault::OutOfMemory) => return Err(OutOfMemory),
+        }
+        self.calls.push(call)?;
+        Ok(())
+    }
+
+    /// Makes a call that is accepted, where there is one.
+    pub fn add_some(&mut self, call: Option<Call>) -> Result<(), OutOfMemory>
+        requires { IfSome call (λ c. IsSafe self.old.start self.old.target c self.old.net) }
+        ensures { OnOk result (self.new ≡ with_some call self.old) }
+    {
+        match call {
+            Some(call) => self.add(call),
+            None => Ok(()),
+        }
+    }
+
+    /// The calls, and the network to which they have led.
+    pub fn finish(self) -> (Vec<Call>, Net)
+        ensures { draft_of self.entry.start self.entry.target result.1 result.0.items ≡ self.entry }
+    {
+        let Draft { calls, net, .. } = self;
+        (calls, net)
+    }
+}

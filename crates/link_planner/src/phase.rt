@@ -1,0 +1,78 @@
+//! The phases of a plan for links, and the one loop over names that carries them out.
+ghost use Rattle.std.specs.Prelude.{OnOk};
+ghost use Rattle.link_planner.specs.Phases.{HasRun, IsDue, IsOrder, Serves, Stands, builds, rank};
+
+use crate::create::create_link;
+use crate::delete::delete_link;
+use crate::detach::detach_port;
+use crate::down::lower_link;
+use crate::draft::Draft;
+use crate::mtus::{lower_mtu, raise_mtu};
+use crate::ports::{attach_port, set_port, set_primary};
+use crate::raise::raise_link;
+use crate::settings::{set_bond, set_bridge, set_mac};
+use net_model::{Call, Name, OutOfMemory};
+
+/// The phases, in their order.
+#[derive(Clone, Copy)]
+pub enum Phase {
+    /// Kept ports leave a kept controller that is another in the target.
+    DetachPorts,
+    /// Kept links fall that are down in the target, or move to another bond.
+    LowerLinks,
+    /// Virtual links go that aren't kept.
+    DeleteLinks,
+    /// The target's links come, each base before what stands on it.
+    CreateLinks,
+    /// MTUs rise, each base before what stands on it.
+    RaiseMtus,
+    /// MTUs fall.
+    LowerMtus,
+    SetMacs,
+    /// The options of bonds, each primary only where it is a port already.
+    SetBonds,
+    /// The options of bridges.
+    SetBridges,
+    AttachPorts,
+    /// The options of ports.
+    SetPorts,
+    /// The primaries that are still missing.
+    SetPrimaries,
+    /// Links rise, each base before what stands on it.
+    RaiseLinks,
+}
+
+// The call that a phase makes for a name, if there is something to do.
+fn call_for(draft: &Draft, phase: Phase, name: &Name) -> Option<Call>
+    requires { IsDue phase draft.now name.now }
+    ensures { Serves phase draft.now name.now result }
+{
+    match phase {
+        Phase::DetachPorts => detach_port(draft, name),
+        Phase::LowerLinks => lower_link(draft, name),
+        Phase::DeleteLinks => delete_link(draft, name),
+        Phase::CreateLinks => create_link(draft, name),
+        Phase::RaiseMtus => raise_mtu(draft, name),
+        Phase::LowerMtus => lower_mtu(draft, name),
+        Phase::SetMacs => set_mac(draft, name),
+        Phase::SetBonds => set_bond(draft, name),
+        Phase::SetBridges => set_bridge(draft, name),
+        Phase::AttachPorts => attach_port(draft, name),
+        Phase::SetPorts => set_port(draft, name),
+        Phase::SetPrimaries => set_primary(draft, name),
+        Phase::RaiseLinks => raise_link(draft, name),
+    }
+}
+
+/// Carries out a phase for the names, one after the other.
+pub fn run(draft: &mut Draft, phase: Phase, names: &[Name]) -> Result<(), OutOfMemory>
+    requires stands { Stands (builds phase) (rank phase) draft.old }
+    requires order { IsOrder phase draft.old names.now }
+    ensures { OnOk result (HasRun phase names.now draft.old draft.new) }
+{
+    for name in names {
+        let call = call_for(draft, phase, name);
+        draft.add_some(call)?;
+    }
+    Ok(())
+}
