@@ -1,5 +1,7 @@
 pub mod lemmas
 pub mod Passes
+pub mod Ready
+pub mod Advance
 pub mod Fair
 pub mod Keeping
 pub mod Items

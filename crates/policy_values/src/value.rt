@@ -1,6 +1,5 @@
 //! The value of a policy.
-ghost use Rattle.std.specs.Prelude.{◌≡◌, ◌≤◌, ◌∷◌, [], length, find, is_some, is_none, map, true, IfOk, option_copied};
-ghost use Rattle.std.specs.List.{list_all};
+ghost use Rattle.std.specs.Prelude.{◌≡◌, ◌≤◌, ◌∷◌, [], length, find, is_none, map, true, IfOk, option_copied};
 ghost use Rattle.base_model.specs.declared.PathStep.TheVariants.{Key};
 ghost use Rattle.doc_tree.specs.Shape.{shape, is_distinct, has_short_lists, levels};
 ghost use Rattle.doc_tree.specs.declared.limits.TheConstants.{MAX_LEVELS};
@@ -13,26 +12,12 @@ ghost use Rattle.policy_lang.specs.Placing.{under};
 ghost use Rattle.policy_values.specs.Tables.{found_in, seen, filler};
 
 use crate::filling::{filled, filled_count, filled_fits, place_value};
-use crate::values::{capture_values, found_in};
-use base_model::{OutOfMemory, Str};
+use crate::values::{capture_values, has_value, have_values};
+use base_model::OutOfMemory;
 use doc_tree::{MAX_LEVELS, Tree};
 use policy_lang::{Policy, PolicyFault, capture_at, copy_steps, desired_places, names_of};
 use policy_model::{Capture, MAX_NODES, Placed};
 use std::alloc::{AllocError, Global};
-
-fn has_value(captures: &[Capture], table: &[Option<Tree>], name: &Str) -> bool
-    requires { length table.now ≡ length captures.now }
-    ensures { result ≡ is_some (found_in captures.now (seen table.now) name.now) }
-{
-    found_in(captures, table, name.as_str()).is_some()
-}
-
-fn have_values(captures: &[Capture], table: &[Option<Tree>], names: &[Str]) -> bool
-    requires { length table.now ≡ length captures.now }
-    ensures { result ≡ list_all (λ n. is_some (found_in captures.now (seen table.now) n)) names.now }
-{
-    names.iter().all(|name| has_value(captures, table, name))
-}
 
 // Whether a capture has no value although all that it names have one.
 fn is_empty_handed(
