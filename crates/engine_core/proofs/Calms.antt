@@ -1,8 +1,9 @@
 -- What a change leaves as it was, carried through its parts.
 use Rattle.std.proofs.Common.{◌≡◌, inl, inr, ◌≤◌, ℕ, refl, sym, ap, ◌∙◌, subst, List, Option, Some, None, Result, Ok, Err, Bool, true, false, arith}
-use Rattle.std.specs.Prelude.{OnOk}
+use Rattle.std.specs.Prelude.{OnOk, IfOk, if◌then◌else◌}
 use Rattle.net_model.specs.NetData.{NetData}
 use Rattle.net_model.specs.declared.Call.{Call}
+use Rattle.document_model.specs.declared.Doc.{Doc}
 use Rattle.document_model.specs.declared.Refused.{Refused}
 use Rattle.host_core.specs.HostView.{State, HostView, HasNet, SameNet}
 use Rattle.host_core.specs.Stops.{Stops, Steps, Stays, IsLawful}
@@ -11,9 +12,10 @@ use Rattle.checkpoint_cell.specs.Cell.{cell_of, applying}
 use Rattle.checkpoint_cell.specs.Settled.{standing, settled, restored_to}
 use Rattle.host_core.specs.Faults.{Rose}
 use Rattle.engine_model.specs.Merge.{merge}
-use Rattle.engine_model.specs.Machine.{Asked, apply, deadline_of}
+use Rattle.engine_model.specs.Machine.{Asked, asked, apply, deadline_of}
 use Rattle.engine_model.specs.Sound.{Fit, Sound}
-use Rattle.engine_model.specs.Faults.{ApplyAnswers}
+use Rattle.engine_model.specs.Faults.{ApplyAnswers, ApplySays}
+use Rattle.engine_model.specs.declared.answers.ApplyOpts.{ApplyOpts}
 use Rattle.engine_model.specs.declared.answers.Applied.{Applied}
 use Rattle.engine_model.specs.declared.answers.ApplyFault.{ApplyFault}
 use Rattle.engine_model.specs.declared.answers.ApplyFault.TheVariants as fa
@@ -21,7 +23,9 @@ use Rattle.engine_model.specs.Stations.{FrontStep}
 use Rattle.plan_model.specs.Plans.{IsPlan}
 use Rattle.plan_model.specs.Undisturbed.{IsUndisturbed}
 use Rattle.engine_core.specs.Calm.{CalmSince}
-use Rattle.engine_core.proofs.Applies.{Made, made_as, makes}
+use Rattle.engine_core.specs.Applying.{ExitApply, asked_of}
+use Rattle.engine_core.proofs.Applies.{Made, made_as, makes, apply_answers}
+use Rattle.engine_core.proofs.Says.{said_left, said_doubt}
 
 -- the start is undisturbed
 pub calm_start : (from to : NetData) → IsUndisturbed from to from
@@ -122,3 +126,12 @@ module _ (a : Asked) (old new : HostView) (from to : NetData) (fit : Fit old.sta
   done_calm P (Err (fa.Damaged area)) answers memory p = absurd (never (fa.Damaged area) answers.answer)
   done_calm P (Err (fa.HardwareDiffers names)) answers memory p = absurd (never (fa.HardwareDiffers names) answers.answer)
   done_calm P (Err fa.OutOfMemory) answers memory p = absurd (memory refl)
+
+-- it is done where nothing failed, from how the change ended
+pub ended_calm : (doc : Doc) (opts : ApplyOpts) (now : ℕ) (tells : Type 0) (old new : HostView) → new.stops.may_leave new.state → Fit old.state → (result : Result Applied ApplyFault) → ExitApply (asked_of doc opts now) old result new
+    → IfOk result (λ applied. applied.deadline ≡ (if opts.no_commit then Some (asked_of doc opts now).deadline else None)) → ApplySays tells (asked doc opts now) old new result
+    → (from to : NetData) → standing old.state ≡ restored_to from → merge from doc ≡ Ok to → (Rose old.faults new.faults → ⊥) → (result ≡ Err fa.OutOfMemory → ⊥) → (P : Type 0) → OnOk result P → P
+ended_calm doc opts now tells old new there fit result exit value says from to is merges quiet memory P done =
+    done_calm (asked doc opts now) old new from to fit is merges quiet P result
+    (apply_answers doc opts now old new there fit result exit value
+    (λ left said. (said_left tells (asked doc opts now) old new result left said says).0) (λ said. said_doubt tells (asked doc opts now) old new result said says)) memory done

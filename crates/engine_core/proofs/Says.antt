@@ -257,3 +257,37 @@ module _ (tells : Type 0) (a : Asked) (old new : HostView) where
 
   pub said_doubt : (result : Result Applied ApplyFault) → result ≡ Err ap_.InDoubt → ApplySays tells a old new result → Rose old.faults new.faults
   said_doubt result is says = subst (λ (r : Result Applied ApplyFault). ApplySays tells a old new r) is says
+
+-- ---- of an earlier moment, too
+
+-- where a command began, counted from this moment
+abbrev pub start_since : ℕ → HostView → Start
+start_since t host = record { state = host.state; faults = host.faults; kernel = host.kernel; moment = t }
+
+-- what is damaged was left since the beginning
+pub said_damaged : (tells : Type 0) (a : Asked) (start : Start) (new : HostView) (result : Result Applied ApplyFault) (area : ℕ) → result ≡ Err (ap_.Damaged area) → Said tells a start new result → tells → DamagedSince start.moment area new
+said_damaged tells a start new result area is said = subst (λ (r : Result Applied ApplyFault). Said tells a start new r) is said
+
+abbrev failed_as : ApplyFault → Result Applied ApplyFault
+failed_as fault = Err fault
+
+same_fault : (a b : ApplyFault) → failed_as a ≡ failed_as b → a ≡ b
+same_fault a b is = cc
+
+module _ (t area : ℕ) (old new : HostView) (lawful : IsLawful old.stops) (here : old.stops.may_leave old.state) (le : t ≤ old.stops.moment) where
+  settling_damaged : (fault : BackFault) → apply_fault fault ≡ ap_.Damaged area → (fault ≡ ba.NoCheckpoint → ⊥) → (IsBefore fault → Steps Stays old.stops new.stops) → ((area : ℕ) → fault ≡ ba.Damaged area → IsDamaged area old.state)
+      → DamagedSince t area new
+  settling_damaged ba.NoCheckpoint is set before damaged = absurd (set refl)
+  settling_damaged (ba.HostFault left) is set before damaged = let e : ap_.HostFault left ≡ ap_.Damaged area = is in absurd (cc)
+  settling_damaged (ba.KernelRefused k n left) is set before damaged = let e : ap_.KernelRefused k n left ≡ ap_.Damaged area = is in absurd (cc)
+  settling_damaged (ba.Damaged found) is set before damaged =
+      let e : ap_.Damaged found ≡ ap_.Damaged area = is in
+      let same : found ≡ area = cc in
+      since_keeps Stays t area old new le (before tt) (since t area old lawful here le (damaged area (ap (λ (n : ℕ). ba.Damaged n) same)))
+  settling_damaged (ba.HardwareDiffers names) is set before damaged = let e : ap_.HardwareDiffers names ≡ ap_.Damaged area = is in absurd (cc)
+  settling_damaged ba.OutOfMemory is set before damaged = let e : ap_.OutOfMemory ≡ ap_.Damaged area = is in absurd (cc)
+
+  -- what the settling found damaged was left since that moment
+  pub unsettled_damaged : (answer : ApplyFault) (fault : BackFault) → answer ≡ apply_fault fault → failed_as answer ≡ failed_as (ap_.Damaged area) → (fault ≡ ba.NoCheckpoint → ⊥) → (IsBefore fault → Steps Stays old.stops new.stops)
+      → ((area : ℕ) → fault ≡ ba.Damaged area → IsDamaged area old.state) → DamagedSince t area new
+  unsettled_damaged answer fault told is = settling_damaged fault (sym told ∙ same_fault answer (ap_.Damaged area) is)

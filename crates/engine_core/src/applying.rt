@@ -21,7 +21,7 @@ ghost use Rattle.engine_model.specs.Stations.{Only, Kept, Ends, AllNear, IsSettl
 ghost use Rattle.engine_model.specs.Answers.{IsUndone, IsTaken};
 ghost use Rattle.engine_model.specs.Faults.{ApplySays, ApplyExact, Tries, Dumps, Backs, HasTaken};
 ghost use Rattle.engine_core.specs.Attempts.{sealed, done, IsOnWay, IsEither, IsFault};
-ghost use Rattle.engine_core.specs.Saying.{Start, Follows, Why, Said, taken_back_as, pending_as, damaged_as, stopped_as};
+ghost use Rattle.engine_core.specs.Saying.{Start, Follows, DamagedSince, Why, Said, taken_back_as, pending_as, damaged_as, stopped_as};
 ghost use Rattle.engine_core.specs.Calm.{CalmSince};
 ghost use Rattle.engine_core.specs.Applying.{GaveUp, Hurt, Exit, Asked, IsStation, IsApplied, ExitApply, asked_of};
 
@@ -301,11 +301,14 @@ pub fn settle_and_change<H: Host>(
     ensures exact { H.honest → ApplyExact (Rose (H.told host.old).faults (H.told host.new).faults)
         (apply (asked doc.now opts.now now) (standing (H.told host.old).state)) (H.told host.new) result }
     ensures unbegun { IsErrOf result (ApplyFault.HostFault Left.NotBegun) → Steps Stays (H.told host.old).stops (H.told host.new).stops }
-    ensures calm { H.honest → Sound (H.told host.old) → (from to : NetData) → standing (H.told host.old).state ≡ restored_to from → merge from doc.now ≡ Ok to
-        → OnOk result (CalmSince from to (H.told host.old).stops.moment (H.told host.new)) }
+    ensures calm { H.honest → (t : ℕ) → t ≤ (H.told host.old).stops.moment → (from to : NetData)
+        → standing (H.told host.old).state ≡ restored_to from → merge from doc.now ≡ Ok to → CalmSince from to t (H.told host.old)
+        → OnOk result (CalmSince from to t (H.told host.new)) }
     ensures value { IfOk result (λ applied. applied.deadline ≡ (if opts.now.no_commit then Some (asked_of doc.now opts.now now).deadline else None)) }
     // On every host.
     ensures says { ApplySays H.tells (asked doc.now opts.now now) (H.told host.old) (H.told host.new) result }
+    ensures damaged { H.tells → (t area : ℕ) → t ≤ (H.told host.old).stops.moment → IsErrOf result (ApplyFault.Damaged area)
+        → DamagedSince t area (H.told host.new) }
     // That a change may stand half way is told only where a restoring was tried.
     ensures tries { Tries ((H.tells → HasTaken now (standing (H.told host.old).state).cell) ⊎ (opts.now.no_verify ≡ false))
         (H.told host.old).faults (H.told host.old).kernel.refusals (H.told host.new) result }

@@ -71,12 +71,17 @@ pub fn recover<H: Host>(host: &mut H, alloc: Global, now: u64) -> Result<Recover
     ensures waiting { H.tells → (deadline : ℕ) → result ≡ Ok (Recovered.Waiting deadline)
         → (recover now (standing (H.told host.old).state)).answer ≡ Ok (Recovered.Waiting deadline) }
     ensures restored { H.tells → result ≡ Ok Recovered.Restored → HasTaken now (standing (H.told host.old).state).cell }
-    // For a command that goes on behind it: no checkpoint stands then, where none stood nothing was changed, and no call was
-    // refused.
+    // For a command that goes on behind it: no checkpoint stands then, where none stood nothing was changed, nor where one
+    // waits, and no call was refused.
     ensures cleared { H.tells → IfOk result (λ done. IsClear done → Holds None (H.told host.new)) }
     ensures same { H.tells → result ≡ Ok Recovered.Nothing → (H.told host.new).state ≡ (H.told host.old).state }
     ensures stays { result ≡ Ok Recovered.Nothing → Steps Stays (H.told host.old).stops (H.told host.new).stops }
+    ensures waiting_same { H.tells → (deadline : ℕ) → result ≡ Ok (Recovered.Waiting deadline) → (H.told host.new).state ≡ (H.told host.old).state }
     ensures quiet { OnOk result (NoneRefused (H.told host.old).kernel (H.told host.new).kernel) }
+    // Also where the host isn't sound: once it is done, the host reads as what the machine leaves.
+    ensures after { H.honest → OnOk result (standing (H.told host.new).state ≡ (recover now (standing (H.told host.old).state)).after) }
+    // It begins only where a change is to be taken back.
+    ensures begun { H.tells → IfErr result (λ fault. (IsBefore fault → ⊥) → HasTaken now (standing (H.told host.old).state).cell) }
     // What is answered before anything was begun leaves no more than before.
     ensures before { IfErr result (λ fault. IsBefore fault → Steps Stays (H.told host.old).stops (H.told host.new).stops) }
     ensures moment { (H.told host.old).stops.moment ≤ (H.told host.new).stops.moment }

@@ -1,4 +1,4 @@
-use Rattle.std.proofs.Common.{◌≡◌, ◌⊎◌, ◌∙◌, inl, Some, None, Err, Ok, arith, ap, subst, sym}
+use Rattle.std.proofs.Common.{◌≡◌, ◌⊎◌, ◌∙◌, ◌≤◌, ℕ, inl, Some, None, Err, Ok, arith, ap, subst, sym}
 use Rattle.host_core.specs.HostView.{State}
 use Rattle.checkpoint_cell.specs.Settled.{Standing}
 use Rattle.engine_model.specs.declared.answers.ApplyFault.{ApplyFault}
@@ -9,9 +9,10 @@ use Rattle.engine_model.specs.Machine.{asked}
 use Rattle.engine_model.specs.Faults.{ApplySays}
 use Rattle.engine_model.specs.declared.answers.Left.TheVariants.{NotBegun, RolledBack}
 use Rattle.engine_core.specs.Saying.{start_of, Follows}
+use Rattle.engine_core.proofs.Says.{start_since, said_damaged, unsettled_damaged}
 use Rattle.engine_core.proofs.Gives.{unsettled_exit, after_exit, after_kept, now_ends}
 use Rattle.checkpoint_cell.specs.Cell.{cell_of}
-use Rattle.engine_core.proofs.Calms.{calm_first, calm_stays}
+use Rattle.engine_core.proofs.Calms.{calm_stays}
 use Rattle.std.proofs.Common.{refl, Result}
 use Rattle.checkpoint_cell.specs.Settled.{standing}
 use Rattle.host_core.specs.Faults.{Rose}
@@ -120,22 +121,45 @@ returns-in-Err-clause-says g c =
 -- ---- what isn't touched
 
 pub returns-in-Ok-Nothing-clause-calm : goal.returns-in-Ok-Nothing-clause-calm
-returns-in-Ok-Nothing-clause-calm g c = λ honest sound from to is merges.
+returns-in-Ok-Nothing-clause-calm g c = λ honest t le from to is merges calm.
     let tells = g.met.H.Host.honest_tells honest in
     let old = g.H.Host.told c.args.host.now in
     let mid = g.H.Host.told c.take_back.new.host in
     let nothing = c.in-Ok-Nothing.is ∙ ap (λ r. Ok r) c.in-Ok-Nothing.field-0-is in
     let net : old.state.net ≡ Some from = ap (λ (x : Standing). x.net) is in
-    let none : cell_of old.state.cell ≡ None = ap (λ (x : Standing). x.cell) is in
-    let first = calm_first from to old (g.met.H.Host.lawful c.args.host.now).stops ((g.met.H.Host.lawful c.args.host.now).reads tells) sound none net in
-    c.change.ensures.calm honest old.stops.moment c.take_back.ensures.moves.later from to (ap (λ (s : State). s.net) (c.take_back.ensures.nothing_same tells nothing) ∙ net) merges
-    (calm_stays from to old.stops.moment old mid (g.met.H.Host.lawful c.args.host.now).stops (omega arith) first (c.take_back.ensures.stays nothing))
+    c.change.ensures.calm honest t (omega (arith, le, c.take_back.ensures.moves.later)) from to (ap (λ (s : State). s.net) (c.take_back.ensures.nothing_same tells nothing) ∙ net) merges
+    (calm_stays from to t old mid (g.met.H.Host.lawful c.args.host.now).stops le calm (c.take_back.ensures.stays nothing))
 
 pub returns-in-Ok-Restored-clause-calm : goal.returns-in-Ok-Restored-clause-calm
-returns-in-Ok-Restored-clause-calm g c = λ honest sound from to is merges.
+returns-in-Ok-Restored-clause-calm g c = λ honest t le from to is merges calm.
     let taken = c.take_back.ensures.restored (g.met.H.Host.honest_tells honest) (c.in-Ok-Restored.is ∙ ap (λ r. Ok r) c.in-Ok-Restored.field-0-is) in
     let e : None ≡ Some taken.checkpoint = sym (ap (λ (x : Standing). x.cell) is) ∙ taken.is in
     absurd (cc)
+
+-- ---- what is damaged, of an earlier moment, too
+
+since_then : (g : _) (c : After-take_back g) (t : ℕ) → t ≤ (g.H.Host.told c.args.host.now).stops.moment → NoneRefused (g.H.Host.told c.args.host.now).kernel (g.H.Host.told c.take_back.new.host).kernel
+    → Follows (start_since t (g.H.Host.told c.args.host.now)) (g.H.Host.told c.take_back.new.host)
+since_then g c t le quiet = record { faults = c.take_back.ensures.later; moment = omega (arith, le, c.take_back.ensures.moves.later); quiet = quiet }
+
+pub returns-in-Ok-Nothing-clause-damaged : goal.returns-in-Ok-Nothing-clause-damaged
+returns-in-Ok-Nothing-clause-damaged g c = λ tells t area le is.
+    let start = start_since t (g.H.Host.told c.args.host.now) in
+    said_damaged g.H.Host.tells (asked c.args.doc.now c.args.opts.now c.args.now) start (g.H.Host.told c.change.new.host) c.change.result area is
+    (c.change.ensures.says start (since_then g (goal.at.returns-in-Ok-Nothing-clause-damaged g c).After-take_back t le c.in-Ok-Nothing.ensures.quiet)
+    (λ same told. c.take_back.ensures.nothing_same told (c.in-Ok-Nothing.is ∙ ap (λ r. Ok r) c.in-Ok-Nothing.field-0-is))) tells
+
+pub returns-in-Ok-Restored-clause-damaged : goal.returns-in-Ok-Restored-clause-damaged
+returns-in-Ok-Restored-clause-damaged g c = λ tells t area le is.
+    let start = start_since t (g.H.Host.told c.args.host.now) in
+    said_damaged g.H.Host.tells (asked c.args.doc.now c.args.opts.now c.args.now) start (g.H.Host.told c.change-in-Ok-Restored.new.host) c.change-in-Ok-Restored.result area is
+    (c.change-in-Ok-Restored.ensures.says start (since_then g (goal.at.returns-in-Ok-Restored-clause-damaged g c).After-take_back t le c.in-Ok-Restored.ensures.quiet)
+    (λ same. let e : RolledBack ≡ NotBegun = same in absurd (cc))) tells
+
+pub returns-in-Err-clause-damaged : goal.returns-in-Err-clause-damaged
+returns-in-Err-clause-damaged g c = λ tells t area le is.
+    unsettled_damaged t area (g.H.Host.told c.args.host.now) (g.H.Host.told c.take_back.new.host) (g.met.H.Host.lawful c.args.host.now).stops ((g.met.H.Host.lawful c.args.host.now).reads tells) le
+    c.unsettled.result c.in-Err.fault c.unsettled.ensures is (λ set. c.in-Err.ensures.set_there (ap (λ e. Err e) set)) c.in-Err.ensures.before (λ area is. c.in-Err.ensures.damaged tells area (ap (λ e. Err e) is))
 
 -- ---- on an honest host, sound or not
 

@@ -1,12 +1,13 @@
+use Rattle.std.proofs.Common.{arith, ap}
 use Rattle.engine_model.specs.declared.answers.Left.TheVariants.{NotBegun}
 use Rattle.engine_core.proofs.Says.{said_left, said_doubt}
 use Rattle.engine_model.specs.Stations.{Only, Either, Settled, entry_of}
 use Rattle.engine_model.specs.Machine.{apply, asked}
 use Rattle.engine_core.specs.Applying.{IsApplied, asked_of}
-use Rattle.checkpoint_cell.specs.Settled.{standing}
+use Rattle.checkpoint_cell.specs.Settled.{Standing, standing}
 use Rattle.engine_model.proofs.lemmas.Leading.{kept_wider}
 use Rattle.engine_core.specs.Calm.{CalmSince}
-use Rattle.engine_core.proofs.Calms.{done_calm}
+use Rattle.engine_core.proofs.Calms.{calm_first, ended_calm}
 use Rattle.engine_core.proofs.Applies.{applied_is, apply_exit, apply_reads, apply_answers}
 use Rattle.engine_core.proofs.engine.apply.Goals as goal
 
@@ -49,10 +50,18 @@ returns-clause-undisturbed g c = λ honest sound from to is merges quiet memory.
     let old = g.H.Host.told c.args.host.now in
     let new = g.H.Host.told c.settle_and_change.new.host in
     let tells = g.met.H.Host.honest_tells honest in
+    let lawful = g.met.H.Host.lawful c.args.host.now in
     let e = c.settle_and_change.ensures in
-    let fit = sound.fit old.state ((g.met.H.Host.lawful c.args.host.now).reads tells) in
-    let answers = apply_answers c.args.doc.now c.args.opts.now c.args.now old new ((g.met.H.Host.lawful c.settle_and_change.new.host).reads tells) fit
-    c.settle_and_change.result (e.exit honest sound) e.value
-    (λ left said. (said_left g.H.Host.tells (asked c.args.doc.now c.args.opts.now c.args.now) old new c.settle_and_change.result left said e.says).0)
-    (λ said. said_doubt g.H.Host.tells (asked c.args.doc.now c.args.opts.now c.args.now) old new c.settle_and_change.result said e.says) in
-    (done_calm (asked c.args.doc.now c.args.opts.now c.args.now) old new from to fit is merges quiet (CalmSince from to old.stops.moment new) c.settle_and_change.result answers memory (e.calm honest sound from to is merges)).pair
+    (ended_calm c.args.doc.now c.args.opts.now c.args.now g.H.Host.tells old new ((g.met.H.Host.lawful c.settle_and_change.new.host).reads tells) (sound.fit old.state (lawful.reads tells))
+    c.settle_and_change.result (e.exit honest sound) e.value e.says from to is merges quiet memory (CalmSince from to old.stops.moment new)
+    (e.calm honest old.stops.moment (omega arith) from to is merges
+    (calm_first from to old lawful.stops (lawful.reads tells) sound (ap (λ (x : Standing). x.cell) is) (ap (λ (x : Standing). x.net) is)))).pair
+
+pub returns-clause-calm : goal.returns-clause-calm
+returns-clause-calm g c = λ honest sound from to is merges quiet memory since le calm.
+    let old = g.H.Host.told c.args.host.now in
+    let new = g.H.Host.told c.settle_and_change.new.host in
+    let tells = g.met.H.Host.honest_tells honest in
+    let e = c.settle_and_change.ensures in
+    ended_calm c.args.doc.now c.args.opts.now c.args.now g.H.Host.tells old new ((g.met.H.Host.lawful c.settle_and_change.new.host).reads tells) (sound.fit old.state ((g.met.H.Host.lawful c.args.host.now).reads tells))
+    c.settle_and_change.result (e.exit honest sound) e.value e.says from to is merges quiet memory (CalmSince from to since new) (e.calm honest since le from to is merges calm)
