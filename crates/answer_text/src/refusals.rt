@@ -1,6 +1,6 @@
 //! The error line of each cause, written to a sink. It takes no memory: a path and names are written piece by piece.
 ghost use Rattle.std.specs.Prelude.{◌≡◌, ◌≤◌, ◌++◌, length, codes};
-ghost use Rattle.top_model.specs.Texts.{error, error_line, at_path, spaced, json_words, yaml_words, schema_words};
+ghost use Rattle.top_model.specs.Texts.{error, error_line, at_path, spaced, json_words, yaml_words, schema_words, policy_words};
 ghost use Rattle.top_model.specs.declared.report.Cause.TheVariants.{DocRefused};
 ghost use Rattle.answer_text.specs.Writing.{Writes};
 
@@ -14,6 +14,7 @@ use base_model::Path;
 use doc_tree::JsonFault;
 use host_core::{Failed, Sink};
 use net_model::Name;
+use policy_model::PolicyFault;
 use top_model::{Cause, DocFault};
 use tree_schema::SchemaFault;
 use yaml_read::YamlFault;
@@ -78,6 +79,21 @@ fn write_schema_fault<W: Sink>(fault: &SchemaFault, err: &mut W) -> Result<(), F
     }
 }
 
+fn write_policy_fault<W: Sink>(fault: &PolicyFault, err: &mut W) -> Result<(), Failed>
+    ensures { Writes W.tells (error (codes "document: " ++ policy_words fault.now)) (W.told err.old) (W.told err.new) result }
+{
+    match fault {
+        PolicyFault::WrongShape(path) => write_at_path(b"WrongShape", path, err),
+        PolicyFault::BadExpression(path) => write_at_path(b"BadExpression", path, err),
+        PolicyFault::UnknownCapture(path) => write_at_path(b"UnknownCapture", path, err),
+        PolicyFault::CaptureCycle(path) => write_at_path(b"CaptureCycle", path, err),
+        PolicyFault::NoValue(path) => write_at_path(b"NoValue", path, err),
+        PolicyFault::TooDeep => write_text(b"error: document: TooDeep\n", err),
+        PolicyFault::TooLarge => write_text(b"error: document: TooLarge\n", err),
+        PolicyFault::OutOfMemory => write_text(b"error: document: \n", err),
+    }
+}
+
 fn write_document_fault<W: Sink>(fault: &DocFault, err: &mut W) -> Result<(), Failed>
     ensures { Writes W.tells (error_line (DocRefused fault.now)) (W.told err.old) (W.told err.new) result }
 {
@@ -85,6 +101,7 @@ fn write_document_fault<W: Sink>(fault: &DocFault, err: &mut W) -> Result<(), Fa
         DocFault::Json(fault) => write_json_fault(fault, err),
         DocFault::Yaml(fault) => write_line(&yaml_line(*fault), err),
         DocFault::Schema(fault) => write_schema_fault(fault, err),
+        DocFault::Policy(fault) => write_policy_fault(fault, err),
     }
 }
 

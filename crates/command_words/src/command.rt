@@ -28,6 +28,10 @@ pub enum Command {
         file: Option<Str>,
         batch: bool,
     },
+    /// The value of a policy.
+    Policy {
+        file: Option<Str>,
+    },
     Simulate {
         file: Option<Str>,
     },

@@ -15,6 +15,7 @@ fn reads_input(command: &str) -> bool
 {
     command == "apply"
         || command == "plan"
+        || command == "policy"
         || command == "simulate"
         || command == "init"
         || command == "script"

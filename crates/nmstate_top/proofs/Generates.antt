@@ -76,7 +76,7 @@ module _ (r : Run) (devices : List Link) (first second : Doc) where
   -- the counts were told
   pub told_summary : (summary : Summary) (text : Text) → text ≡ summary_lines summary → IsSummary devices first second summary
       → Spoken r.sinks_tell Done text (error_line Done) r.out r.out_after r.err r.err_after r.report → Told r (Ok Asks) (Ok (summed devices first second))
-  told_summary summary text lines is spoken = told_done r (Ok Asks) (summed devices first second) text [] (summary, is, lines) refl spoken
+  told_summary summary text lines is spoken = told_done r (Ok Asks) (λ c t e. e) (summed devices first second) text [] (summary, is, lines) refl spoken
 
   -- a refusal was told
   pub told_refusal : (cause : Cause) → Works devices first second (Err cause)

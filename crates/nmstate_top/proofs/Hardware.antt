@@ -31,7 +31,7 @@ use Rattle.command_words.specs.Words.{command_of}
 use Rattle.command_words.specs.declared.Command.{Command}
 use Rattle.command_words.specs.declared.Command.TheVariants as command
 use Rattle.top_model.specs.Orders as model
-use Rattle.top_model.specs.Orders.{Text, Inputs, planning, simulating, applying, making, generating, with_fault, tree_of, hardware_of_tree, hardware_list, document, calls_of, reprinted, reread, workload, generated_devices, generated_first, generated_second, generated, input, opts, order_named, order_of}
+use Rattle.top_model.specs.Orders.{Text, Inputs, planning, evaluating, planning_policy, applying_policy, policy, simulating, applying, making, generating, with_fault, tree_of, hardware_of_tree, hardware_list, calls_of, reprinted, reread, workload, generated_devices, generated_first, generated_second, generated, input, opts, order_named, order_of}
 use Rattle.top_model.specs.declared.report.DocFault.{DocFault}
 use Rattle.top_model.specs.declared.report.DocFault.TheVariants.{Schema}
 use Rattle.scenario_model.specs.Draws.{devices as devices_drawn}
@@ -40,8 +40,9 @@ use Rattle.document_model.specs.declared.Doc.{Doc}
 use Rattle.top_model.specs.declared.report.Cause.{Cause}
 use Rattle.order_reading.specs.Asked.{asked}
 use Rattle.order_reading.specs.declared.order.Order.{Order}
-use Rattle.order_reading.specs.declared.order.Order.TheVariants.{Show, Plan, Simulate, Apply, Commit, Rollback, Recover, Check, Init, Generate}
+use Rattle.order_reading.specs.declared.order.Order.TheVariants.{Show, Plan, PlanPolicy, Evaluate, ApplyPolicy, Simulate, Apply, Commit, Rollback, Recover, Check, Init, Generate}
 use Rattle.nmstate_top.specs.First.{is_hardware, has_hardware}
+use Rattle.nmstate_top.proofs.Either.{either}
 
 -- ---- what holds of the value of a reading
 
@@ -367,6 +368,9 @@ RightOrder (making links) = is_hardware links ≡ true
 RightOrder (generating devices first second) = is_hardware devices ≡ true
 RightOrder order = Unit {0}
 
+abbrev RightIfOk : Result model.Order Cause → Type 0
+RightIfOk order = IfOk order RightOrder
+
 -- a workload's devices are those of a hardware list
 reread_right : (tree : Shape) → IfOk (reread hardware_of_tree tree) RightLinks
 reread_right tree = if_ok RightLinks (reprinted tree) (λ tree. with_fault Schema (hardware_of_tree tree)) (λ tree. if_fault RightLinks Schema (hardware_of_tree tree) (told_right (hardware tree) (hardware_short tree)))
@@ -388,10 +392,13 @@ module _ (in_script : Bool) (inputs : Inputs) where
   order_right : (c : Option Command) → IfOk (order_named in_script inputs c) RightOrder
   order_right None = tt
   order_right (Some (command.Show only json)) = tt
-  order_right (Some (command.Plan file in_batch)) = if_ok RightOrder (model.and_then (input in_script inputs file) document) (λ doc. Ok (planning doc in_batch)) (λ doc. tt)
+  order_right (Some (command.Plan file in_batch)) =
+      either RightIfOk (λ cause. tt) (λ p. planning_policy p in_batch) (λ doc. planning doc in_batch) (λ p. tt) (λ doc. tt) (model.and_then (input in_script inputs file) tree_of)
+  order_right (Some (command.Policy file)) = if_ok RightOrder (model.and_then (input in_script inputs file) policy) (λ p. Ok (evaluating p)) (λ p. tt)
   order_right (Some (command.Simulate file)) = if_ok RightOrder (model.and_then (input in_script inputs file) calls_of) (λ calls. Ok (simulating calls)) (λ calls. tt)
   order_right (Some (command.Apply file no_commit no_verify timeout)) =
-      if_ok RightOrder (model.and_then (input in_script inputs file) document) (λ doc. Ok (applying doc (opts no_commit no_verify timeout))) (λ doc. tt)
+      let how = opts no_commit no_verify timeout in
+      either RightIfOk (λ cause. tt) (λ p. applying_policy p how) (λ doc. applying doc how) (λ p. tt) (λ doc. tt) (model.and_then (input in_script inputs file) tree_of)
   order_right (Some command.Commit) = tt
   order_right (Some command.Rollback) = tt
   order_right (Some command.Recover) = tt
@@ -411,6 +418,9 @@ module _ (in_script : Bool) (inputs : Inputs) where
   pub hardware_right : (words : List Text) (order : Order) → order_of in_script inputs words ≡ Ok (asked order) → has_hardware order ≡ true
   hardware_right words (Show only json) is = refl
   hardware_right words (Plan doc in_batch) is = refl
+  hardware_right words (PlanPolicy p in_batch) is = refl
+  hardware_right words (Evaluate p) is = refl
+  hardware_right words (ApplyPolicy p how) is = refl
   hardware_right words (Simulate calls) is = refl
   hardware_right words (Apply doc how) is = refl
   hardware_right words Commit is = refl

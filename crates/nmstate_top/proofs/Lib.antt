@@ -3,10 +3,14 @@ mod Telling
 mod Rollbacks
 mod Recovers
 mod Applies
+mod EndsEarly
+mod PolicyApplies
 mod Untouched
 mod Refusals
 mod Files
 mod Looks
+mod Either
+mod Evaluates
 mod Simulates
 mod Hardware
 mod Makes

@@ -19,14 +19,16 @@ use Rattle.top_model.specs.Orders.{Text, Inputs, Order, showing, planning, commi
 use Rattle.top_model.specs.Machine.{looked, said_plan, plan_to, machine_of}
 use Rattle.top_model.specs.Texts.{error_line, note_lines}
 use Rattle.top_model.specs.Runs.{Run, entry, reads, left_at_exit, MayRead}
-use Rattle.top_model.specs.Told.{Answer, Told, ErrText}
+use Rattle.top_model.specs.Told.{Answer, Told}
+use Rattle.answer_text.proofs.lemmas.Told.{Plain}
 use Rattle.top_model.specs.Causes.{MayWant, MayAnswer, Comes, Expects, ExactlyOf}
 use Rattle.top_model.specs.Answered.{GoesOn, Answered}
+use Rattle.top_model.specs.declared.report.DocFault.{DocFault}
 use Rattle.top_model.specs.declared.report.Cause.{Cause}
-use Rattle.top_model.specs.declared.report.Cause.TheVariants.{Done, MergeRefused, CallRefused, ReadFault, HostFault, Damaged, OutOfMemory}
+use Rattle.top_model.specs.declared.report.Cause.TheVariants.{Done, DocRefused, MergeRefused, CallRefused, ReadFault, HostFault, Damaged, OutOfMemory}
 use Rattle.top_model.proofs.lemmas.Wanting.{may_want_order}
 use Rattle.answer_text.specs.Speaking.{Spoken}
-use Rattle.answer_text.proofs.lemmas.Told.{err_noted, told_done, told_refused}
+use Rattle.answer_text.proofs.lemmas.Told.{told_done, told_noted}
 use Rattle.nmstate_top.specs.Looked.{ChangesNothing, IsFound, Finds, Looked, HasText, LooksAs, TextOf}
 
 pub not_rolled : left.NotBegun ≢ left.RolledBack
@@ -44,7 +46,10 @@ same_said a b e = cc
 pub said_refused : (said : Said) (cause : Cause) → says said ≡ refuses cause → ⊥
 said_refused said cause e = cc
 
--- a plan refuses no call
+-- a plan refuses no call, and no document
+merge_doc : (refused : Refused) (fault : DocFault) → refuses (MergeRefused refused) ≡ refuses (DocRefused fault) → ⊥
+merge_doc refused fault e = cc
+
 merge_call : (refused : Refused) (n k : ℕ) → refuses (MergeRefused refused) ≡ refuses (CallRefused n k) → ⊥
 merge_call refused n k e = cc
 
@@ -78,11 +83,11 @@ unchanged tells host = record { state = λ t. refl; stops = stays_there host.sto
 
 -- ---- how it is told
 
-module _ (r : Run) (order : Order) (notes : Text) (same : notes ≡ note_lines (notes_of (Ok order))) where
+module _ (r : Run) (order : Order) (plain : Plain r (Ok order)) (notes : Text) (same : notes ≡ note_lines (notes_of (Ok order))) where
   -- what is said was told
   pub told_text : (answer : Answer) (text : Vec ℕ Global) (line : Text) → line ≡ text.items → HasText answer (Ok text)
       → Spoken r.sinks_tell Done line (notes ++ error_line Done) r.out r.out_after r.err r.err_after r.report → Told r (Ok order) answer
-  told_text (Ok said) text line is has spoken = told_done r (Ok order) said line notes (subst (Says said) (sym is) has) same spoken
+  told_text (Ok said) text line is has spoken = told_done r (Ok order) plain said line notes (subst (Says said) (sym is) has) same spoken
   told_text (Err cause) text line is has spoken = absurd has
 
   -- a refusal was told
@@ -91,13 +96,14 @@ module _ (r : Run) (order : Order) (notes : Text) (same : notes ≡ note_lines (
   told_refusal (Ok said) refusal has other spoken = absurd has
   told_refusal (Err cause) refusal has other spoken =
       subst (λ c. Told r (Ok order) (Err c)) has
-      (told_refused r (Ok order) refusal notes (subst (λ (n : Text). ErrText (Ok order) refusal (n ++ error_line refusal)) (sym same) (err_noted (Ok order) refusal other)) spoken)
+      (told_noted r (Ok order) plain refusal notes same other spoken)
 
 -- ---- what it answers
 
 -- the text depends on what is answered of this network alone
 pub text_as : (say other : NetData → Answer) (net : NetData) (result : Result (Vec ℕ Global) Cause) → other net ≡ say net → TextOf say net result → TextOf other net result
 text_as say other net (Ok text) same t = (t.0, same ∙ t.1, t.2)
+text_as say other net (Err (DocRefused fault)) same t = same ∙ t
 text_as say other net (Err (MergeRefused refused)) same t = same ∙ t
 text_as say other net (Err (CallRefused n k)) same t = same ∙ t
 text_as say other net (Err OutOfMemory) same t = tt
@@ -114,6 +120,7 @@ module _ (tells honest : Type 0) (say : NetData → Answer) (old new : HostView)
   -- the text of the network that is found is answered
   pub looks_text : (net : NetData) (result : Result (Vec ℕ Global) Cause) → Finds tells honest old new (Ok net) → TextOf say net result → LooksAs tells honest say old new result
   looks_text net (Ok text) f t = record { answer = Ok t.0; looked = (net, f, t.1); text = t.2 }
+  looks_text net (Err (DocRefused fault)) f t = record { answer = Err (DocRefused fault); looked = (net, f, t); text = refl }
   looks_text net (Err (MergeRefused refused)) f t = record { answer = Err (MergeRefused refused); looked = (net, f, t); text = refl }
   looks_text net (Err (CallRefused n k)) f t = record { answer = Err (CallRefused n k); looked = (net, f, t); text = refl }
   looks_text net (Err OutOfMemory) f t = record { answer = Err OutOfMemory; looked = tt; text = refl }
@@ -158,6 +165,7 @@ module _ (r : Run) (nothing : ChangesNothing r.host_tells r.host r.host_after) w
 
     pub expects : (answer : Answer) → MayWant r → Looked r.host_tells r.honest say r.host r.host_after answer → Expects r (Ok order) answer
     expects (Ok said) want l = of_found l.0 (Ok said) l.1 l.2
+    expects (Err (DocRefused fault)) want l = of_found l.0 (Err (DocRefused fault)) l.1 l.2
     expects (Err (MergeRefused refused)) want l = of_found l.0 (Err (MergeRefused refused)) l.1 l.2
     expects (Err (CallRefused n k)) want l = of_found l.0 (Err (CallRefused n k)) l.1 l.2
     expects (Err (HostFault left.NotBegun)) want l = l
@@ -181,6 +189,7 @@ module _ (r : Run) (only : Option Text) (json : Bool) (nothing : ChangesNothing 
 
   show_comes : IsLawfulHost r.host_tells r.host → MayWant r → (answer : Answer) → Looked r.host_tells r.honest shows r.host r.host_after answer → Comes r (Ok (showing only json)) answer
   show_comes lawful want (Ok said) l = record { net = l.0; dumped = l.1.fresh; is_said = same_said said (printed only json l.0) (sym l.2) }
+  show_comes lawful want (Err (DocRefused fault)) l = absurd (said_refused (printed only json l.0) (DocRefused fault) l.2)
   show_comes lawful want (Err (MergeRefused refused)) l = absurd (said_refused (printed only json l.0) (MergeRefused refused) l.2)
   show_comes lawful want (Err (CallRefused n k)) l = absurd (said_refused (printed only json l.0) (CallRefused n k) l.2)
   show_comes lawful want (Err (HostFault left.NotBegun)) l = (l, (nothing.state, not_rolled))
@@ -190,6 +199,7 @@ module _ (r : Run) (only : Option Text) (json : Bool) (nothing : ChangesNothing 
 
   show_may : (answer : Answer) → Looked r.host_tells r.honest shows r.host r.host_after answer → MayAnswer (Ok (showing only json)) answer
   show_may (Ok said) l = tt
+  show_may (Err (DocRefused fault)) l = absurd (said_refused (printed only json l.0) (DocRefused fault) l.2)
   show_may (Err (MergeRefused refused)) l = absurd (said_refused (printed only json l.0) (MergeRefused refused) l.2)
   show_may (Err (CallRefused n k)) l = absurd (said_refused (printed only json l.0) (CallRefused n k) l.2)
   show_may (Err (HostFault left.NotBegun)) l = tt
@@ -199,6 +209,7 @@ module _ (r : Run) (only : Option Text) (json : Bool) (nothing : ChangesNothing 
 
   show_exactly : (answer : Answer) → Looked r.host_tells r.honest shows r.host r.host_after answer → Expects r (Ok (showing only json)) answer → ExactlyOf r (Ok (showing only json)) answer
   show_exactly (Ok said) l is = is.answer
+  show_exactly (Err (DocRefused fault)) l is = is.answer
   show_exactly (Err (MergeRefused refused)) l is = is.answer
   show_exactly (Err (CallRefused n k)) l is = is.answer
   show_exactly (Err (HostFault left.NotBegun)) l is = is
@@ -242,6 +253,10 @@ module _ (r : Run) (doc : Doc) (in_batch : Bool) (nothing : ChangesNothing r.hos
   plan_breaks net (Ok to) refused is = absurd (said_refused (said_plan in_batch net to) (MergeRefused refused) is)
   plan_breaks net (Err broken) refused is = ap broken_by (same_refused broken refused is)
 
+  plan_docs : (net : NetData) (merged : Result NetData Refused) (fault : DocFault) → plan_to in_batch net merged ≡ Err (DocRefused fault) → ⊥
+  plan_docs net (Ok to) fault is = said_refused (said_plan in_batch net to) (DocRefused fault) is
+  plan_docs net (Err broken) fault is = merge_doc broken fault is
+
   plan_calls : (net : NetData) (merged : Result NetData Refused) (n k : ℕ) → plan_to in_batch net merged ≡ Err (CallRefused n k) → ⊥
   plan_calls net (Ok to) n k is = said_refused (said_plan in_batch net to) (CallRefused n k) is
   plan_calls net (Err broken) n k is = merge_call broken n k is
@@ -250,6 +265,7 @@ module _ (r : Run) (doc : Doc) (in_batch : Bool) (nothing : ChangesNothing r.hos
   plan_comes lawful want (Ok said) l =
       let p = plan_says l.0 (merge l.0 doc) said l.2 in
       record { from = l.0; to = p.0; dumped = l.1.fresh; merges = p.1; is_said = p.2 }
+  plan_comes lawful want (Err (DocRefused fault)) l = absurd (plan_docs l.0 (merge l.0 doc) fault l.2)
   plan_comes lawful want (Err (MergeRefused refused)) l =
       (λ t. record { doc = doc; net = l.0; is_doc = refl; dumped = l.1.fresh t; broken = plan_breaks l.0 (merge l.0 doc) refused l.2 }, same_reads r nothing)
   plan_comes lawful want (Err (CallRefused n k)) l = absurd (plan_calls l.0 (merge l.0 doc) n k l.2)
@@ -260,6 +276,7 @@ module _ (r : Run) (doc : Doc) (in_batch : Bool) (nothing : ChangesNothing r.hos
 
   plan_may : (answer : Answer) → Looked r.host_tells r.honest plans r.host r.host_after answer → MayAnswer (Ok (planning doc in_batch)) answer
   plan_may (Ok said) l = tt
+  plan_may (Err (DocRefused fault)) l = absurd (plan_docs l.0 (merge l.0 doc) fault l.2)
   plan_may (Err (MergeRefused refused)) l = tt
   plan_may (Err (CallRefused n k)) l = absurd (plan_calls l.0 (merge l.0 doc) n k l.2)
   plan_may (Err (HostFault left.NotBegun)) l = tt
@@ -269,6 +286,7 @@ module _ (r : Run) (doc : Doc) (in_batch : Bool) (nothing : ChangesNothing r.hos
 
   plan_exactly : (answer : Answer) → Looked r.host_tells r.honest plans r.host r.host_after answer → Expects r (Ok (planning doc in_batch)) answer → ExactlyOf r (Ok (planning doc in_batch)) answer
   plan_exactly (Ok said) l is = is.answer
+  plan_exactly (Err (DocRefused fault)) l is = is.answer
   plan_exactly (Err (MergeRefused refused)) l is = is.answer
   plan_exactly (Err (CallRefused n k)) l is = is.answer
   plan_exactly (Err (HostFault left.NotBegun)) l is = is

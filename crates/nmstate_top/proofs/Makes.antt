@@ -107,7 +107,7 @@ refused_said cause said e = cc
 module _ (r : Run) (links : List Link) where
   pub told_made : (count : ℕ) (text : Text) → count ≡ length links → Says (made count) text → Spoken r.sinks_tell Done text ([] ++ error_line Done) r.out r.out_after r.err r.err_after r.report
       → Told r (Ok (making links)) (Ok (made (length links)))
-  told_made count text is says spoken = told_done r (Ok (making links)) (made (length links)) text [] (subst (λ n. Says (made n) text) is says) refl spoken
+  told_made count text is says spoken = told_done r (Ok (making links)) (λ c t e. e) (made (length links)) text [] (subst (λ n. Says (made n) text) is says) refl spoken
 
   pub told_unmade : (cause : Cause) → cause ≢ ReadFault → Spoken r.sinks_tell cause [] ([] ++ error_line cause) r.out r.out_after r.err r.err_after r.report
       → Told r (Ok (making links)) (Err cause)

@@ -3,32 +3,43 @@ use Rattle.std.proofs.Common.{◌≡◌, ◌∙◌, ℕ, refl, sym, ap, subst, B
 use Rattle.std.specs.Prelude.{◌&&◌, Result, Ok, Err}
 use Rattle.net_model.specs.declared.Link.{Link}
 use Rattle.net_model.specs.declared.Call.{Call}
+use Rattle.doc_tree.specs.Shape.{Shape}
 use Rattle.document_model.specs.declared.Doc.{Doc}
+use Rattle.policy_model.specs.Values.{PolicyData}
 use Rattle.engine_model.specs.declared.ApplyOpts.{ApplyOpts}
 use Rattle.command_words.specs.Words.{command_of}
 use Rattle.command_words.specs.declared.Command.{Command}
-use Rattle.command_words.specs.declared.Command.TheVariants.{Show, Plan, Simulate, Apply, Commit, Rollback, Recover, Check, Init, Script, Generate, Service, Rollout}
-use Rattle.top_model.specs.Orders.{Inputs, Order, planning, simulating, applying, committing, making, generating, and_then, input, document, hardware_list, calls_of, workload, generated_devices, generated_first, generated_second, generated, opts, order_named, order_of, Text}
+use Rattle.command_words.specs.declared.Command.TheVariants.{Show, Plan, Policy, Simulate, Apply, Commit, Rollback, Recover, Check, Init, Script, Generate, Service, Rollout}
+use Rattle.top_model.specs.Orders.{Inputs, Order, planning, evaluating, planning_policy, applying_policy, simulating, applying, committing, making, generating, and_then, input, tree_of, policy, hardware_list, calls_of, policy_or_document, workload, generated_devices, generated_first, generated_second, generated, opts, order_named, order_of, Text}
 use Rattle.order_reading.specs.declared.order.Order.{Order as Asked}
 use Rattle.order_reading.specs.declared.order.Order.TheVariants as asked_as
 use Rattle.order_reading.specs.Asked.{asked, file_read}
 use Rattle.top_model.specs.declared.report.Cause.{Cause}
 use Rattle.nmstate_top.specs.Worked.{works_apart}
+use Rattle.nmstate_top.proofs.Either.{either}
 
 abbrev asks : Order → Result Order Cause
 asks order = Ok order
 
-no_plan : (in_batch : Bool) (x : Result Doc Cause) → and_then x (λ doc. asks (planning doc in_batch)) ≡ asks committing → ⊥
-no_plan in_batch (Ok doc) e = cc
-no_plan in_batch (Err c) e = cc
+abbrev IsNoEnd : Result Order Cause → Type 0
+IsNoEnd order = order ≡ asks committing → ⊥
+
+no_end : (c : Cause) → IsNoEnd (Err c)
+no_end c e = cc
+
+no_plan : (in_batch : Bool) (x : Result Shape Cause) → IsNoEnd (and_then x (policy_or_document (λ p. planning_policy p in_batch) (λ doc. planning doc in_batch)))
+no_plan in_batch x = either IsNoEnd no_end (λ p. planning_policy p in_batch) (λ doc. planning doc in_batch) (λ p e. cc) (λ doc e. cc) x
+
+no_value : (x : Result PolicyData Cause) → IsNoEnd (and_then x (λ p. asks (evaluating p)))
+no_value (Ok p) e = cc
+no_value (Err c) e = cc
 
 no_simulate : (x : Result (List Call) Cause) → and_then x (λ calls. asks (simulating calls)) ≡ asks committing → ⊥
 no_simulate (Ok calls) e = cc
 no_simulate (Err c) e = cc
 
-no_apply : (how : ApplyOpts) (x : Result Doc Cause) → and_then x (λ doc. asks (applying doc how)) ≡ asks committing → ⊥
-no_apply how (Ok doc) e = cc
-no_apply how (Err c) e = cc
+no_apply : (how : ApplyOpts) (x : Result Shape Cause) → IsNoEnd (and_then x (policy_or_document (λ p. applying_policy p how) (λ doc. applying doc how)))
+no_apply how x = either IsNoEnd no_end (λ p. applying_policy p how) (λ doc. applying doc how) (λ p e. cc) (λ doc e. cc) x
 
 no_init : (x : Result (List Link) Cause) → and_then x (λ links. asks (making links)) ≡ asks committing → ⊥
 no_init (Ok links) e = cc
@@ -47,9 +58,10 @@ no_generate count seed e = no_works (generated_devices count seed) (generated_fi
 pub commit_named : (in_script : Bool) (inputs : Inputs) (command : Option Command) → order_named in_script inputs command ≡ asks committing → command ≡ Some Commit
 commit_named in_script inputs None e = cc
 commit_named in_script inputs (Some (Show only json)) e = cc
-commit_named in_script inputs (Some (Plan file in_batch)) e = absurd (no_plan in_batch (and_then (input in_script inputs file) document) e)
+commit_named in_script inputs (Some (Plan file in_batch)) e = absurd (no_plan in_batch (and_then (input in_script inputs file) tree_of) e)
+commit_named in_script inputs (Some (Policy file)) e = absurd (no_value (and_then (input in_script inputs file) policy) e)
 commit_named in_script inputs (Some (Simulate file)) e = absurd (no_simulate (and_then (input in_script inputs file) calls_of) e)
-commit_named in_script inputs (Some (Apply file no_commit no_verify timeout)) e = absurd (no_apply (opts no_commit no_verify timeout) (and_then (input in_script inputs file) document) e)
+commit_named in_script inputs (Some (Apply file no_commit no_verify timeout)) e = absurd (no_apply (opts no_commit no_verify timeout) (and_then (input in_script inputs file) tree_of) e)
 commit_named in_script inputs (Some Commit) e = refl
 commit_named in_script inputs (Some Rollback) e = cc
 commit_named in_script inputs (Some Recover) e = cc

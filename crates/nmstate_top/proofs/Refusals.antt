@@ -1,5 +1,5 @@
 -- Words and inputs that are refused before any call on the host, from what the reading of the order promises.
-use Rattle.std.proofs.Common.{◌≡◌, inl, refl}
+use Rattle.std.proofs.Common.{◌≡◌, refl}
 use Rattle.std.specs.Prelude.{[], IsSome, None, Result, Err, IsErrOf}
 use Rattle.command_words.specs.Words.{lone, command_of}
 use Rattle.order_reading.specs.declared.order.Order.{Order as Asked}
@@ -13,7 +13,7 @@ use Rattle.top_model.specs.declared.report.Cause.{Cause}
 use Rattle.top_model.specs.declared.report.Cause.TheVariants.{DocRefused, Usage, BadLine, BatchLine, BatchLarge, NoSuchName, ReadFault, OutOfMemory}
 use Rattle.top_model.proofs.lemmas.Wanting.{may_want_words}
 use Rattle.answer_text.specs.Speaking.{Spoken}
-use Rattle.answer_text.proofs.lemmas.Told.{told_refused}
+use Rattle.answer_text.proofs.lemmas.Told.{unread_line, starved_line, told_refused}
 use Rattle.nmstate_top.proofs.Untouched.{still, reads_input, out_of_memory, unread, refused}
 
 abbrev Told : Run → Cause → Type 0
@@ -28,7 +28,7 @@ module _ (r : Run) (untouched : r.untouched) (goes_on : GoesOn (still r)) where
 
   -- memory ran out for words that are no single ones
   pub ran_out : lone r.words ≡ None → Told r OutOfMemory → Answered (still r)
-  ran_out none told = out_of_memory r untouched goes_on order (r.source.inputs, λ t. refl, refl) (may_want_words r none) (told_refused (still r) order OutOfMemory [] (inl refl) told)
+  ran_out none told = out_of_memory r untouched goes_on order (r.source.inputs, λ t. refl, refl) (may_want_words r none) (told_refused (still r) order OutOfMemory [] (starved_line _ order) told)
 
   pub refusing : (c : Cause) → Reads asked (λ inputs. order_of r.in_script inputs r.words) r.source_tells r.source r.source_after (failed c)
       → (IsErrOf (failed c) ReadFault → IsSome (file_read r.in_script (command_of r.words))) → (IsErrOf (failed c) OutOfMemory → lone r.words ≡ None)
@@ -46,6 +46,6 @@ module _ (r : Run) (untouched : r.untouched) (goes_on : GoesOn (still r)) where
       refused r untouched goes_on BatchLarge reads refl (record { answer = refl; after = refl }) (told_refused (still r) (Err BatchLarge) BatchLarge [] refl told)
   refusing ReadFault reads file memory told =
       unread r untouched goes_on order (r.source.inputs, λ t. refl, refl) reads.0 (reads_input r.in_script r.source.inputs (command_of r.words) (file refl)) (reads.1 r.source.inputs)
-      (told_refused (still r) order ReadFault [] refl told)
+      (told_refused (still r) order ReadFault [] (unread_line _ order) told)
   refusing OutOfMemory reads file memory told = ran_out (memory refl) told
   refusing c reads file memory told = absurd reads

@@ -17,8 +17,9 @@ use Rattle.top_model.specs.Runs.{Run}
 use Rattle.top_model.specs.Told.{Answer}
 use Rattle.top_model.specs.Causes.{MayWant, MayAnswer, Comes, Expects, ExactlyOf}
 use Rattle.top_model.specs.Answered.{Answered}
+use Rattle.top_model.specs.declared.report.DocFault.{DocFault}
 use Rattle.top_model.specs.declared.report.Cause.{Cause}
-use Rattle.top_model.specs.declared.report.Cause.TheVariants.{MergeRefused, CallRefused, HostFault, Damaged, OutOfMemory}
+use Rattle.top_model.specs.declared.report.Cause.TheVariants.{DocRefused, MergeRefused, CallRefused, HostFault, Damaged, OutOfMemory}
 use Rattle.top_model.proofs.lemmas.Wanting.{may_want_order}
 use Rattle.nmstate_top.specs.Looked.{ChangesNothing, Looked, TextOf, LeadsTo}
 use Rattle.nmstate_top.proofs.Looks.{not_rolled, refuses, same_said, said_refused, same_reads, left_before, reads_before, had_damaged, expects, Ran}
@@ -75,7 +76,23 @@ merge_call refused n k e = cc
 never_merged : (refused : Refused) (net : NetData) → leads net ≡ leads_not (MergeRefused refused) → ⊥
 never_merged refused net e = cc
 
--- no rule is broken by calls
+doc_call : (fault : DocFault) (n k : ℕ) → leads_not (CallRefused n k) ≡ leads_not (DocRefused fault) → ⊥
+doc_call fault n k e = cc
+
+never_read : (fault : DocFault) (net : NetData) → leads net ≡ leads_not (DocRefused fault) → ⊥
+never_read fault net e = cc
+
+-- no document is refused by calls
+no_doc_next : (fault : DocFault) (n : ℕ) (stepped : Result NetData ℕ) (rest : NetData → Result NetData Cause) → ((net : NetData) → rest net ≡ leads_not (DocRefused fault) → ⊥)
+    → unless_refused n stepped rest ≡ leads_not (DocRefused fault) → ⊥
+no_doc_next fault n (Ok next) rest never is = never next is
+no_doc_next fault n (Err k) rest never is = doc_call fault n k is
+
+no_doc : (fault : DocFault) (n : ℕ) (calls : List Call) (net : NetData) → simulated n calls net ≡ leads_not (DocRefused fault) → ⊥
+no_doc fault n [] net is = never_read fault net is
+no_doc fault n (call ∷ calls) net is = no_doc_next fault n (step call net) (simulated (n + 1) calls) (no_doc fault (n + 1) calls) is
+
+-- and no rule is broken
 no_rule_next : (refused : Refused) (n : ℕ) (stepped : Result NetData ℕ) (rest : NetData → Result NetData Cause) → ((net : NetData) → rest net ≡ leads_not (MergeRefused refused) → ⊥)
     → unless_refused n stepped rest ≡ leads_not (MergeRefused refused) → ⊥
 no_rule_next refused n (Ok next) rest never is = never next is
@@ -102,10 +119,14 @@ module _ (r : Run) (calls : List Call) (nothing : ChangesNothing r.host_tells r.
   broken : (refused : Refused) (net : NetData) → simulates net ≡ Err (MergeRefused refused) → ⊥
   broken refused net is = no_rule refused 1 calls net (refuses_led (simulated 1 calls net) (MergeRefused refused) is)
 
+  unread : (fault : DocFault) (net : NetData) → simulates net ≡ Err (DocRefused fault) → ⊥
+  unread fault net is = no_doc fault 1 calls net (refuses_led (simulated 1 calls net) (DocRefused fault) is)
+
   simulate_comes : IsLawfulHost r.host_tells r.host → MayWant r → (answer : Answer) → Looked r.host_tells r.honest simulates r.host r.host_after answer → Comes r (Ok (simulating calls)) answer
   simulate_comes lawful want (Ok said) l =
       let p = prints (simulated 1 calls l.0) said l.2 in
       record { from = l.0; to = p.0; dumped = l.1.fresh; leads = p.1; is_said = p.2 }
+  simulate_comes lawful want (Err (DocRefused fault)) l = absurd (unread fault l.0 l.2)
   simulate_comes lawful want (Err (MergeRefused refused)) l = absurd (broken refused l.0 l.2)
   simulate_comes lawful want (Err (CallRefused n k)) l =
       (record { calls = calls; from = l.0; is_order = refl; dumped = l.1.fresh; refused = refuses_led (simulated 1 calls l.0) (CallRefused n k) l.2 }, same_reads r nothing)
@@ -116,6 +137,7 @@ module _ (r : Run) (calls : List Call) (nothing : ChangesNothing r.host_tells r.
 
   simulate_may : (answer : Answer) → Looked r.host_tells r.honest simulates r.host r.host_after answer → MayAnswer (Ok (simulating calls)) answer
   simulate_may (Ok said) l = tt
+  simulate_may (Err (DocRefused fault)) l = absurd (unread fault l.0 l.2)
   simulate_may (Err (MergeRefused refused)) l = absurd (broken refused l.0 l.2)
   simulate_may (Err (CallRefused n k)) l = tt
   simulate_may (Err (HostFault left.NotBegun)) l = tt
@@ -125,6 +147,7 @@ module _ (r : Run) (calls : List Call) (nothing : ChangesNothing r.host_tells r.
 
   simulate_exactly : (answer : Answer) → Looked r.host_tells r.honest simulates r.host r.host_after answer → Expects r (Ok (simulating calls)) answer → ExactlyOf r (Ok (simulating calls)) answer
   simulate_exactly (Ok said) l is = is.answer
+  simulate_exactly (Err (DocRefused fault)) l is = is.answer
   simulate_exactly (Err (MergeRefused refused)) l is = is.answer
   simulate_exactly (Err (CallRefused n k)) l is = is.answer
   simulate_exactly (Err (HostFault left.NotBegun)) l is = is
@@ -159,6 +182,7 @@ module _ (r : Run) (calls : List Call) (nothing : ChangesNothing r.host_tells r.
 pub text_to : (calls : List Call) (net to : NetData) (result : Result (Vec ℕ Global) Cause) → simulated 1 calls net ≡ Ok to → TextOf (λ (n : NetData). Ok (printed None false n)) to result
     → TextOf (λ (n : NetData). print_simulated (simulated 1 calls n)) net result
 text_to calls net to (Ok text) led t = (t.0, ap print_simulated led ∙ t.1, t.2)
+text_to calls net to (Err (DocRefused fault)) led t = ap print_simulated led ∙ t
 text_to calls net to (Err (MergeRefused refused)) led t = ap print_simulated led ∙ t
 text_to calls net to (Err (CallRefused n k)) led t = ap print_simulated led ∙ t
 text_to calls net to (Err OutOfMemory) led t = tt

@@ -7,23 +7,25 @@ use Rattle.ip_batch.specs.Reader.{batch_of}
 use Rattle.ip_batch.specs.declared.BatchFault.{BatchFault}
 use Rattle.ip_batch.specs.declared.BatchFault.TheVariants as batch
 use Rattle.document_model.specs.declared.Doc.{Doc}
+use Rattle.policy_model.specs.Values.{PolicyData}
+use Rattle.policy_model.specs.Policies.{is_policy, policy_of_tree}
 use Rattle.doc_tree.specs.Shape.{Shape}
 use Rattle.doc_tree.specs.JsonTree.{json_tree}
 use Rattle.yaml_read.specs.Reading.{reading}
 use Rattle.host_core.specs.Streams.{SourceView, SinkView}
 use Rattle.command_words.specs.Words.{command_of}
 use Rattle.command_words.specs.declared.Command.{Command}
-use Rattle.command_words.specs.declared.Command.TheVariants.{Show, Plan, Simulate, Apply, Commit, Rollback, Recover, Check, Init, Script, Generate, Service, Rollout}
+use Rattle.command_words.specs.declared.Command.TheVariants.{Show, Plan, Policy as PrintValue, Simulate, Apply, Commit, Rollback, Recover, Check, Init, Script, Generate, Service, Rollout}
 use Rattle.order_reading.specs.Asked.{TakesFile, asked}
 use Rattle.order_reading.specs.Reading.{Reads}
 use Rattle.order_reading.specs.declared.order.Order.{Order as Asked}
 use Rattle.answer_text.specs.Speaking.{Spoken}
-use Rattle.top_model.specs.Orders.{Text, Inputs, Order, planning, simulating, applying, making, read_limit, stdin, found, input, and_then, with_fault, begins_json, tree_of, document, document_of_tree, with_batch, calls_of, hardware_list, hardware_of_tree, opts, order_named, order_of}
+use Rattle.top_model.specs.Orders.{Text, Inputs, Order, planning, evaluating, planning_policy, applying_policy, simulating, applying, making, read_limit, stdin, found, input, and_then, with_fault, begins_json, tree_of, document_of_tree, policy, policy_or_document, with_batch, calls_of, hardware_list, hardware_of_tree, opts, order_named, order_of}
 use Rattle.top_model.specs.Runs.{Run}
 use Rattle.top_model.specs.Taking.{read_there, file_read, TakesAsked, TakesOnly}
 use Rattle.top_model.specs.Texts.{status_of}
 use Rattle.top_model.specs.declared.report.DocFault.{DocFault}
-use Rattle.top_model.specs.declared.report.DocFault.TheVariants.{Json, Yaml, Schema}
+use Rattle.top_model.specs.declared.report.DocFault.TheVariants.{Json, Yaml, Schema, Policy}
 use Rattle.top_model.specs.declared.report.Report.{Report}
 use Rattle.top_model.specs.declared.report.Cause.{Cause}
 use Rattle.top_model.specs.declared.report.Cause.TheVariants.{DocRefused, Usage, BadLine, BatchLine, BatchLarge, NoSuchName, ReadFault, WriteFault, OutOfMemory}
@@ -80,9 +82,9 @@ of_tree : (bytes : Text) (c : Cause) → tree_of bytes ≡ errs Shape c → IsOf
 unfolding tree_of
 of_tree bytes c is = of_either bytes (begins_json bytes) c is
 
-of_document : (bytes : Text) (c : Cause) → document bytes ≡ errs Doc c → IsOfBytes c
-unfolding document
-of_document bytes c is = of_both Shape Doc (tree_of bytes) (λ tree. with_fault Schema (document_of_tree tree)) (of_tree bytes) (λ tree. of_fault Doc _ Schema (document_of_tree tree)) c is
+of_policy : (bytes : Text) (c : Cause) → policy bytes ≡ errs PolicyData c → IsOfBytes c
+unfolding policy
+of_policy bytes c is = of_both Shape PolicyData (tree_of bytes) (λ tree. with_fault Policy (policy_of_tree tree)) (of_tree bytes) (λ tree. of_fault PolicyData _ Policy (policy_of_tree tree)) c is
 
 of_hardware : (bytes : Text) (c : Cause) → hardware_list bytes ≡ errs (List Link) c → IsOfBytes c
 unfolding hardware_list
@@ -96,6 +98,22 @@ of_batch (Err batch.OutOfMemory) c is = subst IsOfBytes (same_cause (List Call) 
 
 of_calls : (bytes : Text) (c : Cause) → calls_of bytes ≡ errs (List Call) c → IsOfBytes c
 of_calls bytes c is = of_batch (batch_of bytes) c is
+
+-- the order of a policy or of a document, once its tree was read
+module _ (from_policy : PolicyData → Order) (from_document : Doc → Order) where
+  abbrev IsOfTree : Result Order Cause → Type 0
+  IsOfTree order = (c : Cause) → order ≡ errs Order c → IsOfBytes c
+
+  of_ordered : (A E : Type 0) (fault : E → DocFault) (order : A → Order) (x : Result A E) → IsOfTree (and_then (with_fault fault x) (λ y. goes Order (order y)))
+  of_ordered A E fault order (Ok x) c is = absurd (ok_err Order (order x) c is)
+  of_ordered A E fault order (Err e) c is = subst IsOfBytes (same_cause Order (DocRefused (fault e)) c is) tt
+
+  of_word : (tree : Shape) (word : Bool) → IsOfTree (if word then and_then (with_fault Policy (policy_of_tree tree)) (λ p. goes Order (from_policy p)) else and_then (with_fault Schema (document_of_tree tree)) (λ doc. goes Order (from_document doc)))
+  of_word tree true c is = of_ordered PolicyData _ Policy from_policy (policy_of_tree tree) c is
+  of_word tree false c is = of_ordered Doc _ Schema from_document (document_of_tree tree) c is
+
+  of_shape : (tree : Shape) → IsOfTree (policy_or_document from_policy from_document tree)
+  of_shape tree c is = of_word tree (is_policy tree) c is
 
 -- what an input holds is refused, or there is no such name
 abbrev IsUnmade : Inputs → Option Text → Cause → Type 0
@@ -116,19 +134,31 @@ module _ (A : Type 0) (make : Text → Result A Cause) (makes : (bytes : Text) (
   of_order (Ok made) order c is = absurd (ok_err Order (order made) c is)
   of_order (Err e) order c is = ap (errs A) (same_cause Order e c is)
 
+-- the tree isn't read, or it is refused
+of_next : (first : Result Text Cause) (file : Option Text) (next : Shape → Result Order Cause) (inputs : Inputs) → ((c : Cause) → and_then first tree_of ≡ errs Shape c → IsUnmade inputs file c)
+    → ((tree : Shape) (c : Cause) → next tree ≡ errs Order c → IsOfBytes c) → (c : Cause) → and_then (and_then first tree_of) next ≡ errs Order c → IsUnmade inputs file c
+of_next first file next inputs unread refused = of_it (and_then first tree_of) unread
+  where
+    of_it : (tree : Result Shape Cause) → ((c : Cause) → tree ≡ errs Shape c → IsUnmade inputs file c) → (c : Cause) → and_then tree next ≡ errs Order c → IsUnmade inputs file c
+    of_it (Ok tree) unread c is = inl (refused tree c is)
+    of_it (Err e) unread c is = subst (IsUnmade inputs file) (same_cause Order e c is) (unread e refl)
+
 -- a command whose FILE may be read is refused for what that input holds, or there is no such name
 named_refused : (in_script : Bool) (inputs : Inputs) (command : Option Command) (file : Option Text) → file_read in_script command ≡ Some file
     → (c : Cause) → order_named in_script inputs command ≡ errs Order c → IsUnmade inputs file c
 named_refused in_script inputs None file there c is = absurd (none_some file there)
 named_refused in_script inputs (Some (Show only json)) file there c is = absurd (none_some file there)
 named_refused in_script inputs (Some (Plan name in_batch)) file there c is =
-    of_input Doc document of_document in_script inputs name file there c
-    (of_order Doc document of_document (and_then (input in_script inputs name) document) (λ doc. planning doc in_batch) c is)
+    of_next (input in_script inputs name) file (policy_or_document (λ p. planning_policy p in_batch) (λ doc. planning doc in_batch)) inputs
+    (of_input Shape tree_of of_tree in_script inputs name file there) (of_shape (λ p. planning_policy p in_batch) (λ doc. planning doc in_batch)) c is
+named_refused in_script inputs (Some (PrintValue name)) file there c is =
+    of_input PolicyData policy of_policy in_script inputs name file there c (of_order PolicyData policy of_policy (and_then (input in_script inputs name) policy) evaluating c is)
 named_refused in_script inputs (Some (Simulate name)) file there c is =
     of_input (List Call) calls_of of_calls in_script inputs name file there c (of_order (List Call) calls_of of_calls (and_then (input in_script inputs name) calls_of) simulating c is)
 named_refused in_script inputs (Some (Apply name no_commit no_verify timeout)) file there c is =
-    of_input Doc document of_document in_script inputs name file there c
-    (of_order Doc document of_document (and_then (input in_script inputs name) document) (λ doc. applying doc (opts no_commit no_verify timeout)) c is)
+    let how = opts no_commit no_verify timeout in
+    of_next (input in_script inputs name) file (policy_or_document (λ p. applying_policy p how) (λ doc. applying doc how)) inputs
+    (of_input Shape tree_of of_tree in_script inputs name file there) (of_shape (λ p. applying_policy p how) (λ doc. applying doc how)) c is
 named_refused in_script inputs (Some Commit) file there c is = absurd (none_some file there)
 named_refused in_script inputs (Some Rollback) file there c is = absurd (none_some file there)
 named_refused in_script inputs (Some Recover) file there c is = absurd (none_some file there)

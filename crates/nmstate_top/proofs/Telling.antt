@@ -12,21 +12,20 @@ use Rattle.top_model.specs.Orders.{Text, Order, notes_of}
 use Rattle.top_model.specs.Machine.{apply_cause, commit_cause, back_cause}
 use Rattle.top_model.specs.Texts.{error_line, note_lines}
 use Rattle.top_model.specs.Runs.{Run}
-use Rattle.top_model.specs.Told.{Told, ErrText}
+use Rattle.top_model.specs.Told.{Told}
 use Rattle.top_model.specs.declared.report.Cause.{Cause}
 use Rattle.top_model.specs.declared.report.Cause.TheVariants.{ReadFault}
 use Rattle.answer_text.specs.Speaking.{Spoken}
-use Rattle.answer_text.proofs.lemmas.Told.{err_noted, told_refused}
+use Rattle.answer_text.proofs.lemmas.Told.{Plain, told_noted}
 
 -- the text that is told is what is said
 pub says_as : (said : Said) (text line : Text) → text ≡ line → Says said line → Says said text
 says_as said text line same says = subst (Says said) (sym same) says
 
 -- a refusal is told with the cause that was made of a fault, after the notes of the order
-pub refusal_told : (r : Run) (order : Result Order Cause) (cause named : Cause) (notes : Text) → cause ≡ named → notes ≡ note_lines (notes_of order) → named ≢ ReadFault
+pub refusal_told : (r : Run) (order : Result Order Cause) → Plain r order → (cause named : Cause) (notes : Text) → cause ≡ named → notes ≡ note_lines (notes_of order) → named ≢ ReadFault
     → Spoken r.sinks_tell cause [] (notes ++ error_line cause) r.out r.out_after r.err r.err_after r.report → Told r order (Err named)
-refusal_told r order cause named notes same noted other spoken = told_refused r order named notes
-    (subst (λ (n : Text). ErrText order named (n ++ error_line named)) (sym noted) (err_noted order named other))
+refusal_told r order plain cause named notes same noted other spoken = told_noted r order plain named notes noted other
     (subst (λ (c : Cause). Spoken r.sinks_tell c [] (notes ++ error_line c) r.out r.out_after r.err r.err_after r.report) same spoken)
 
 -- no fault of the engine is one of the source

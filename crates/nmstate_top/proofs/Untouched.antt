@@ -4,7 +4,9 @@ use Rattle.std.specs.Prelude.{◌≢◌, ℕ, true, false, List, IsSome, Result,
 use Rattle.net_model.specs.NetData.{NetData}
 use Rattle.net_model.specs.declared.Link.{Link}
 use Rattle.net_model.specs.declared.Call.{Call}
+use Rattle.doc_tree.specs.Shape.{Shape}
 use Rattle.document_model.specs.declared.Doc.{Doc}
+use Rattle.policy_model.specs.Values.{PolicyData}
 use Rattle.host_core.specs.HostView.{IsLawfulHost}
 use Rattle.host_core.proofs.lemmas.Moments.{stays}
 use Rattle.checkpoint_cell.specs.Cell.{Checkpoint, applying as applying_cell}
@@ -13,10 +15,10 @@ use Rattle.engine_model.specs.Stations.{Stands, Entry, Near, Within, Before, Onl
 use Rattle.engine_model.specs.declared.ApplyOpts.{ApplyOpts}
 use Rattle.engine_model.proofs.lemmas.Leading.{kept_stays, near_wider}
 use Rattle.command_words.specs.declared.Command.{Command}
-use Rattle.command_words.specs.declared.Command.TheVariants.{Show, Plan, Simulate, Apply, Commit, Rollback, Recover, Check, Init, Script, Generate, Service, Rollout}
+use Rattle.command_words.specs.declared.Command.TheVariants.{Show, Plan, Policy, Simulate, Apply, Commit, Rollback, Recover, Check, Init, Script, Generate, Service, Rollout}
 use Rattle.order_reading.specs.Asked.{file_read}
 use Rattle.top_model.specs.Said.{Said}
-use Rattle.top_model.specs.Orders.{Inputs, Order, showing, planning, simulating, applying, committing, rolling_back, recovering, checking, making, generating, and_then, input, document, hardware_list, calls_of, opts, order_named}
+use Rattle.top_model.specs.Orders.{Inputs, Order, showing, planning, evaluating, planning_policy, applying_policy, simulating, applying, committing, rolling_back, recovering, checking, making, generating, and_then, input, tree_of, policy, policy_or_document, hardware_list, calls_of, opts, order_named}
 use Rattle.top_model.specs.Runs.{Run, Gives, Alone, SourceRose, HostRose, HostRoseTwice, reads, entry, left_at_exit}
 use Rattle.top_model.specs.Told.{Answer, Told}
 use Rattle.top_model.specs.Causes.{MayWant, Refuses, MayAnswer, Comes, Expects, ExactlyOf}
@@ -26,6 +28,7 @@ use Rattle.top_model.specs.Undisturbed.{Spares, LeavesAlone}
 use Rattle.top_model.specs.Answered.{GoesOn, Rests, Answered}
 use Rattle.top_model.specs.declared.report.Cause.{Cause}
 use Rattle.top_model.specs.declared.report.Cause.TheVariants.{Usage, ReadFault, OutOfMemory}
+use Rattle.nmstate_top.proofs.Either.{either}
 
 -- the host is as it was
 abbrev pub still : Run → Run
@@ -36,6 +39,9 @@ still r = record r { host_after = r.host }
 abbrev pub ReadsInput : Result Order Cause → Type 0
 ReadsInput (Ok (showing only json)) = ⊥
 ReadsInput (Ok (planning doc in_batch)) = Unit {0}
+ReadsInput (Ok (evaluating p)) = Unit {0}
+ReadsInput (Ok (planning_policy p in_batch)) = Unit {0}
+ReadsInput (Ok (applying_policy p how)) = Unit {0}
 ReadsInput (Ok (simulating calls)) = Unit {0}
 ReadsInput (Ok (applying doc how)) = Unit {0}
 ReadsInput (Ok committing) = ⊥
@@ -49,17 +55,19 @@ ReadsInput (Err refusal) = Unit {0}
 abbrev asks : Order → Result Order Cause
 asks order = Ok order
 
-plans : (in_batch : Bool) (x : Result Doc Cause) → ReadsInput (and_then x (λ doc. asks (planning doc in_batch)))
-plans in_batch (Ok doc) = tt
-plans in_batch (Err c) = tt
+plans : (in_batch : Bool) (x : Result Shape Cause) → ReadsInput (and_then x (policy_or_document (λ p. planning_policy p in_batch) (λ doc. planning doc in_batch)))
+plans in_batch x = either ReadsInput (λ c. tt) (λ p. planning_policy p in_batch) (λ doc. planning doc in_batch) (λ p. tt) (λ doc. tt) x
+
+evaluates : (x : Result PolicyData Cause) → ReadsInput (and_then x (λ p. asks (evaluating p)))
+evaluates (Ok p) = tt
+evaluates (Err c) = tt
 
 simulates : (x : Result (List Call) Cause) → ReadsInput (and_then x (λ calls. asks (simulating calls)))
 simulates (Ok calls) = tt
 simulates (Err c) = tt
 
-applies : (how : ApplyOpts) (x : Result Doc Cause) → ReadsInput (and_then x (λ doc. asks (applying doc how)))
-applies how (Ok doc) = tt
-applies how (Err c) = tt
+applies : (how : ApplyOpts) (x : Result Shape Cause) → ReadsInput (and_then x (policy_or_document (λ p. applying_policy p how) (λ doc. applying doc how)))
+applies how x = either ReadsInput (λ c. tt) (λ p. applying_policy p how) (λ doc. applying doc how) (λ p. tt) (λ doc. tt) x
 
 makes : (x : Result (List Link) Cause) → ReadsInput (and_then x (λ links. asks (making links)))
 makes (Ok links) = tt
@@ -72,9 +80,10 @@ never e = cc
 pub reads_input : (in_script : Bool) (inputs : Inputs) (command : Option Command) → IsSome (file_read in_script command) → ReadsInput (order_named in_script inputs command)
 reads_input in_script inputs None file = tt
 reads_input in_script inputs (Some (Show only json)) file = absurd (never file)
-reads_input in_script inputs (Some (Plan name in_batch)) file = plans in_batch (and_then (input in_script inputs name) document)
+reads_input in_script inputs (Some (Plan name in_batch)) file = plans in_batch (and_then (input in_script inputs name) tree_of)
+reads_input in_script inputs (Some (Policy name)) file = evaluates (and_then (input in_script inputs name) policy)
 reads_input in_script inputs (Some (Simulate name)) file = simulates (and_then (input in_script inputs name) calls_of)
-reads_input in_script inputs (Some (Apply name no_commit no_verify timeout)) file = applies (opts no_commit no_verify timeout) (and_then (input in_script inputs name) document)
+reads_input in_script inputs (Some (Apply name no_commit no_verify timeout)) file = applies (opts no_commit no_verify timeout) (and_then (input in_script inputs name) tree_of)
 reads_input in_script inputs (Some Commit) file = absurd (never file)
 reads_input in_script inputs (Some Rollback) file = absurd (never file)
 reads_input in_script inputs (Some Recover) file = absurd (never file)
@@ -98,8 +107,11 @@ module _ (now : ℕ) (entry : Entry) (left : Stands) (within : Within left (Befo
   exit_memory : (order : Result Order Cause) → AtExit now entry left rose twice order (Err OutOfMemory)
   exit_memory (Ok (showing only json)) = within
   exit_memory (Ok (planning doc in_batch)) = within
+  exit_memory (Ok (evaluating p)) = within
+  exit_memory (Ok (planning_policy p in_batch)) = within
   exit_memory (Ok (simulating calls)) = within
   exit_memory (Ok (applying doc how)) = inl within
+  exit_memory (Ok (applying_policy p how)) = inl within
   exit_memory (Ok committing) = within
   exit_memory (Ok rolling_back) = more _ (λ s is. inl is)
   exit_memory (Ok recovering) = more _ (λ s is. inl is)
@@ -111,8 +123,11 @@ module _ (now : ℕ) (entry : Entry) (left : Stands) (within : Within left (Befo
   exit_unread : (order : Result Order Cause) → ReadsInput order → AtExit now entry left rose twice order (Err ReadFault)
   exit_unread (Ok (showing only json)) file = absurd file
   exit_unread (Ok (planning doc in_batch)) file = within
+  exit_unread (Ok (evaluating p)) file = within
+  exit_unread (Ok (planning_policy p in_batch)) file = within
   exit_unread (Ok (simulating calls)) file = within
   exit_unread (Ok (applying doc how)) file = within
+  exit_unread (Ok (applying_policy p how)) file = within
   exit_unread (Ok committing) file = absurd file
   exit_unread (Ok rolling_back) file = absurd file
   exit_unread (Ok recovering) file = absurd file
@@ -130,8 +145,11 @@ kept : (r : Run) (order : Result Order Cause) (c : Cause) → Rests r order → 
 kept r (Ok (making links)) c rests = record { during = inl (stays r.host.stops); sound = λ clear sound. sound; made = λ said e. absurd (ok_err said c e) }
 kept r (Ok (showing only json)) c rests = kept_stays (Reaches r.now (entry r) (Ok (showing only json))) r.host r.host rests.sound (stays r.host.stops)
 kept r (Ok (planning doc in_batch)) c rests = kept_stays (Reaches r.now (entry r) (Ok (planning doc in_batch))) r.host r.host rests.sound (stays r.host.stops)
+kept r (Ok (evaluating p)) c rests = kept_stays (Reaches r.now (entry r) (Ok (evaluating p))) r.host r.host rests.sound (stays r.host.stops)
+kept r (Ok (planning_policy p in_batch)) c rests = kept_stays (Reaches r.now (entry r) (Ok (planning_policy p in_batch))) r.host r.host rests.sound (stays r.host.stops)
 kept r (Ok (simulating calls)) c rests = kept_stays (Reaches r.now (entry r) (Ok (simulating calls))) r.host r.host rests.sound (stays r.host.stops)
 kept r (Ok (applying doc how)) c rests = kept_stays (Reaches r.now (entry r) (Ok (applying doc how))) r.host r.host rests.sound (stays r.host.stops)
+kept r (Ok (applying_policy p how)) c rests = kept_stays (Reaches r.now (entry r) (Ok (applying_policy p how))) r.host r.host rests.sound (stays r.host.stops)
 kept r (Ok committing) c rests = kept_stays (Reaches r.now (entry r) (Ok committing)) r.host r.host rests.sound (stays r.host.stops)
 kept r (Ok rolling_back) c rests = kept_stays (Reaches r.now (entry r) (Ok rolling_back)) r.host r.host rests.sound (stays r.host.stops)
 kept r (Ok recovering) c rests = kept_stays (Reaches r.now (entry r) (Ok recovering)) r.host r.host rests.sound (stays r.host.stops)
@@ -156,8 +174,11 @@ leaves_alone r lawful tells alone from to stood s left =
 
 spares : (r : Run) (order : Result Order Cause) (answer : Answer) → IsLawfulHost r.host_tells r.host → (r.honest → r.host_tells) → Rests r order → Spares (still r) order answer
 spares r (Ok (applying doc how)) answer lawful tells rests = λ from to stood merges quiet other. leaves_alone r lawful tells rests from to stood
+spares r (Ok (applying_policy p how)) answer lawful tells rests = λ doc from to stood reads merges quiet other. leaves_alone r lawful tells rests from to stood
 spares r (Ok (showing only json)) answer lawful tells rests = tt
 spares r (Ok (planning doc in_batch)) answer lawful tells rests = tt
+spares r (Ok (evaluating p)) answer lawful tells rests = tt
+spares r (Ok (planning_policy p in_batch)) answer lawful tells rests = tt
 spares r (Ok (simulating calls)) answer lawful tells rests = tt
 spares r (Ok committing) answer lawful tells rests = tt
 spares r (Ok rolling_back) answer lawful tells rests = tt
@@ -176,8 +197,11 @@ rests_still : (r : Run) (order : Result Order Cause) → Rests (still r) order �
 rests_still r (Ok (making links)) rests = rests
 rests_still r (Ok (showing only json)) rests = alone r rests
 rests_still r (Ok (planning doc in_batch)) rests = alone r rests
+rests_still r (Ok (evaluating p)) rests = alone r rests
+rests_still r (Ok (planning_policy p in_batch)) rests = alone r rests
 rests_still r (Ok (simulating calls)) rests = alone r rests
 rests_still r (Ok (applying doc how)) rests = alone r rests
+rests_still r (Ok (applying_policy p how)) rests = alone r rests
 rests_still r (Ok committing) rests = alone r rests
 rests_still r (Ok rolling_back) rests = alone r rests
 rests_still r (Ok recovering) rests = alone r rests
@@ -190,8 +214,11 @@ rests_still r (Err refusal) rests = alone r rests
 may_memory : (order : Result Order Cause) → MayAnswer order (Err OutOfMemory)
 may_memory (Ok (showing only json)) = tt
 may_memory (Ok (planning doc in_batch)) = tt
+may_memory (Ok (evaluating p)) = tt
+may_memory (Ok (planning_policy p in_batch)) = tt
 may_memory (Ok (simulating calls)) = tt
 may_memory (Ok (applying doc how)) = tt
+may_memory (Ok (applying_policy p how)) = tt
 may_memory (Ok committing) = tt
 may_memory (Ok rolling_back) = tt
 may_memory (Ok recovering) = tt
@@ -203,8 +230,11 @@ may_memory (Err refusal) = tt
 may_unread : (order : Result Order Cause) → ReadsInput order → MayAnswer order (Err ReadFault)
 may_unread (Ok (showing only json)) file = absurd file
 may_unread (Ok (planning doc in_batch)) file = tt
+may_unread (Ok (evaluating p)) file = tt
+may_unread (Ok (planning_policy p in_batch)) file = tt
 may_unread (Ok (simulating calls)) file = tt
 may_unread (Ok (applying doc how)) file = tt
+may_unread (Ok (applying_policy p how)) file = tt
 may_unread (Ok committing) file = absurd file
 may_unread (Ok rolling_back) file = absurd file
 may_unread (Ok recovering) file = absurd file
@@ -228,8 +258,11 @@ comes_unread r (Err refusal) untouched rose other = (untouched, (rose, λ is. ot
 tried_memory : (r : Run) (order : Result Order Cause) → Tried (still r) order (Err OutOfMemory)
 tried_memory r (Ok (showing only json)) = tt
 tried_memory r (Ok (planning doc in_batch)) = tt
+tried_memory r (Ok (evaluating p)) = tt
+tried_memory r (Ok (planning_policy p in_batch)) = tt
 tried_memory r (Ok (simulating calls)) = tt
 tried_memory r (Ok (applying doc how)) = tt
+tried_memory r (Ok (applying_policy p how)) = tt
 tried_memory r (Ok committing) = tt
 tried_memory r (Ok rolling_back) = tt
 tried_memory r (Ok recovering) = tt
@@ -241,8 +274,11 @@ tried_memory r (Err refusal) = tt
 tried_unread : (r : Run) (order : Result Order Cause) → Tried (still r) order (Err ReadFault)
 tried_unread r (Ok (showing only json)) = tt
 tried_unread r (Ok (planning doc in_batch)) = tt
+tried_unread r (Ok (evaluating p)) = tt
+tried_unread r (Ok (planning_policy p in_batch)) = tt
 tried_unread r (Ok (simulating calls)) = tt
 tried_unread r (Ok (applying doc how)) = tt
+tried_unread r (Ok (applying_policy p how)) = tt
 tried_unread r (Ok committing) = tt
 tried_unread r (Ok rolling_back) = tt
 tried_unread r (Ok recovering) = tt
@@ -254,8 +290,11 @@ tried_unread r (Err refusal) = tt
 exactly_memory : (r : Run) (order : Result Order Cause) → MayWant r → ExactlyOf (still r) order (Err OutOfMemory)
 exactly_memory r (Ok (showing only json)) wants = record { commit = wants.commit; rollback = wants.rollback; recover = wants.recover }
 exactly_memory r (Ok (planning doc in_batch)) wants = record { commit = wants.commit; rollback = wants.rollback; recover = wants.recover }
+exactly_memory r (Ok (evaluating p)) wants = record { commit = wants.commit; rollback = wants.rollback; recover = wants.recover }
+exactly_memory r (Ok (planning_policy p in_batch)) wants = record { commit = wants.commit; rollback = wants.rollback; recover = wants.recover }
 exactly_memory r (Ok (simulating calls)) wants = record { commit = wants.commit; rollback = wants.rollback; recover = wants.recover }
 exactly_memory r (Ok (applying doc how)) wants = record { commit = wants.commit; rollback = wants.rollback; recover = wants.recover }
+exactly_memory r (Ok (applying_policy p how)) wants = record { commit = wants.commit; rollback = wants.rollback; recover = wants.recover }
 exactly_memory r (Ok committing) wants = record { commit = wants.commit; rollback = wants.rollback; recover = wants.recover }
 exactly_memory r (Ok rolling_back) wants = record { commit = wants.commit; rollback = wants.rollback; recover = wants.recover }
 exactly_memory r (Ok recovering) wants = record { commit = wants.commit; rollback = wants.rollback; recover = wants.recover }
@@ -267,8 +306,11 @@ exactly_memory r (Err refusal) wants = tt
 exactly_unread : (r : Run) (order : Result Order Cause) → SourceRose r → ExactlyOf (still r) order (Err ReadFault)
 exactly_unread r (Ok (showing only json)) rose = rose
 exactly_unread r (Ok (planning doc in_batch)) rose = rose
+exactly_unread r (Ok (evaluating p)) rose = rose
+exactly_unread r (Ok (planning_policy p in_batch)) rose = rose
 exactly_unread r (Ok (simulating calls)) rose = rose
 exactly_unread r (Ok (applying doc how)) rose = rose
+exactly_unread r (Ok (applying_policy p how)) rose = rose
 exactly_unread r (Ok committing) rose = rose
 exactly_unread r (Ok rolling_back) rose = rose
 exactly_unread r (Ok recovering) rose = rose

@@ -11,7 +11,7 @@ use Rattle.top_model.specs.Said.{Said, Says}
 use Rattle.top_model.specs.Machine.{simulated}
 use Rattle.top_model.specs.Told.{Answer}
 use Rattle.top_model.specs.declared.report.Cause.{Cause}
-use Rattle.top_model.specs.declared.report.Cause.TheVariants.{MergeRefused, CallRefused, HostFault, Damaged, OutOfMemory}
+use Rattle.top_model.specs.declared.report.Cause.TheVariants.{DocRefused, MergeRefused, CallRefused, HostFault, Damaged, OutOfMemory}
 
 -- nothing is changed
 pub record ChangesNothing (tells : Type 0) (old new : HostView) : Type 0 where
@@ -35,6 +35,7 @@ Finds tells honest old new (Err _) = ⊥
 -- what is answered of the network that is found, or why none is
 abbrev pub Looked : Type 0 → Type 0 → (NetData → Answer) → HostView → HostView → Answer → Type 0
 Looked tells honest say old new (Ok said) = (net : NetData) × IsFound tells honest old new net × (say net ≡ Ok said)
+Looked tells honest say old new (Err (DocRefused fault)) = (net : NetData) × IsFound tells honest old new net × (say net ≡ Err (DocRefused fault))
 Looked tells honest say old new (Err (MergeRefused refused)) = (net : NetData) × IsFound tells honest old new net × (say net ≡ Err (MergeRefused refused))
 Looked tells honest say old new (Err (CallRefused n k)) = (net : NetData) × IsFound tells honest old new net × (say net ≡ Err (CallRefused n k))
 Looked tells honest say old new (Err (HostFault NotBegun)) = Rose old.faults new.faults
@@ -56,6 +57,7 @@ pub record LooksAs (tells honest : Type 0) (say : NetData → Answer) (old new :
 -- the text of what is answered of this network, or out of memory
 abbrev pub TextOf : (NetData → Answer) → NetData → Result (Vec ℕ Global) Cause → Type 0
 TextOf say net (Ok text) = (said : Said) × (say net ≡ Ok said) × Says said text.items
+TextOf say net (Err (DocRefused fault)) = say net ≡ Err (DocRefused fault)
 TextOf say net (Err (MergeRefused refused)) = say net ≡ Err (MergeRefused refused)
 TextOf say net (Err (CallRefused n k)) = say net ≡ Err (CallRefused n k)
 TextOf say net (Err OutOfMemory) = Unit {0}

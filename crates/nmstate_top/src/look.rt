@@ -8,7 +8,7 @@ use std::alloc::Global;
 use top_model::Cause;
 
 /// The number by which an answer names the kernel area.
-const KERNEL_AREA: u8 = 0;
+pub(crate) const KERNEL_AREA: u8 = 0;
 
 // The network as the host gives it, or why it gives none. Nothing is changed.
 pub(crate) fn look<H: Host>(alloc: Global, host: &mut H) -> Result<Net, Cause>

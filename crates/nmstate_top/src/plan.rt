@@ -79,7 +79,12 @@ fn lines_to(alloc: Global, from: &Net, to: &Net, batch: bool) -> Result<Vec<u8>,
 }
 
 // The lines of a plan to what a document makes of a network.
-fn planned_of(alloc: Global, from: &Net, doc: &Doc, batch: bool) -> Result<Vec<u8>, Cause>
+pub(crate) fn planned_of(
+    alloc: Global,
+    from: &Net,
+    doc: &Doc,
+    batch: bool,
+) -> Result<Vec<u8>, Cause>
     requires { is_document doc.now ≡ true }
     ensures { TextOf (λ net. plan_to batch net (merge net doc.now)) from.now result }
 {

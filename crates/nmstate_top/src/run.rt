@@ -18,6 +18,8 @@ use crate::commit::commit_run;
 use crate::generate::generate_run;
 use crate::init::init_run;
 use crate::plan::plan_run;
+use crate::policy::{plan_policy_run, policy_run};
+use crate::policy_apply::apply_policy_run;
 use crate::recover::recover_run;
 use crate::rollback::rollback_run;
 use crate::script::run_file;
@@ -47,11 +49,18 @@ fn run_order<H: Host, S: Source, W: Sink>(
     match order {
         Order::Show { only, json } => show_run::<H, S, W>(alloc, &only, json, host, out, err),
         Order::Plan { doc, batch } => plan_run::<H, S, W>(alloc, &doc, batch, host, out, err),
+        Order::PlanPolicy { policy, batch } => {
+            plan_policy_run::<H, S, W>(alloc, &policy, batch, host, out, err)
+        }
+        Order::Evaluate { policy } => policy_run::<H, S, W>(alloc, &policy, host, out, err),
         Order::Simulate { calls } => {
             simulate_run::<H, S, W>(alloc, calls.items(), host, out, err)
         }
         Order::Apply { doc, opts } => {
             apply_run::<H, S, W>(alloc, &doc, &opts, host, out, err, now)
+        }
+        Order::ApplyPolicy { policy, opts } => {
+            apply_policy_run::<H, S, W>(alloc, &policy, &opts, host, out, err, now)
         }
         Order::Commit => commit_run::<H, S, W>(host, out, err, now),
         Order::Rollback => rollback_run::<H, S, W>(alloc, host, out, err),

@@ -3,5 +3,6 @@ mod Alone
 mod Documents
 mod Readings
 mod Batches
+mod PolicyReadings
 mod Parts
 mod Workloads

@@ -17,7 +17,7 @@ use Rattle.order_reading.specs.Pieces.{bytes_seen}
 
 -- ---- what no bytes are: words that are refused
 
-no_usage_fault : {A E : Type 0} (fault : E → DocFault) (r : Result A E) → with_fault fault r ≢ Err Usage
+pub no_usage_fault : {A E : Type 0} (fault : E → DocFault) (r : Result A E) → with_fault fault r ≢ Err Usage
 no_usage_fault fault (Ok x) e = cc
 no_usage_fault fault (Err x) e = cc
 
@@ -25,12 +25,12 @@ cause_of : {A : Type 0} → Result A Cause → Cause
 cause_of (Ok x) = Done
 cause_of (Err c) = c
 
-no_usage_then : {A B : Type 0} (r : Result A Cause) (next : A → Result B Cause) → r ≢ Err Usage → ((x : A) → next x ≢ Err Usage) → and_then r next ≢ Err Usage
+pub no_usage_then : {A B : Type 0} (r : Result A Cause) (next : A → Result B Cause) → r ≢ Err Usage → ((x : A) → next x ≢ Err Usage) → and_then r next ≢ Err Usage
 unfolding cause_of
 no_usage_then (Ok x) next first later e = later x e
 no_usage_then (Err c) next first later e = first (ap (λ (d : Cause). Err d) (ap cause_of e))
 
-no_usage_tree : (bytes : Text) → tree_of bytes ≢ Err Usage
+pub no_usage_tree : (bytes : Text) → tree_of bytes ≢ Err Usage
 unfolding tree_of
 no_usage_tree bytes = elim (begins_json bytes) as (λ b. (if b then with_fault Json (json_tree bytes) else with_fault Yaml (reading bytes)) ≢ Err Usage) [
   | true ↦ no_usage_fault Json (json_tree bytes)

@@ -2,15 +2,16 @@
 use Rattle.std.specs.Prelude.{List, Bool, true, ◌&&◌, Option, Some, None, map, Result}
 use Rattle.document_model.specs.Entries.{is_document, has_short_doc}
 use Rattle.host_core.specs.Streams.{SourceView}
+use Rattle.policy_lang.specs.Held.{data_of}
 use Rattle.command_words.specs.declared.Command.{Command}
 use Rattle.command_words.specs.declared.Command.TheVariants as command
-use Rattle.top_model.specs.Orders.{Text, showing, planning, simulating, applying, committing, rolling_back, recovering, checking, making, generating}
+use Rattle.top_model.specs.Orders.{Text, showing, planning, planning_policy, evaluating, simulating, applying, applying_policy, committing, rolling_back, recovering, checking, making, generating}
 use Rattle.top_model.specs.Orders as model
 use Rattle.top_model.specs.Lines.{Timed, timed_of}
 use Rattle.top_model.specs.declared.Step.{Step}
 use Rattle.top_model.specs.declared.Cause.{Cause}
 use Rattle.order_reading.specs.declared.order.Order.{Order}
-use Rattle.order_reading.specs.declared.order.Order.TheVariants.{Show, Plan, Simulate, Apply, Commit, Rollback, Recover, Check, Init, Generate}
+use Rattle.order_reading.specs.declared.order.Order.TheVariants.{Show, Plan, PlanPolicy, Evaluate, Simulate, Apply, ApplyPolicy, Commit, Rollback, Recover, Check, Init, Generate}
 pub use Rattle.top_model.specs.Taking.{read_there, file_read}
 use Rattle.order_reading.specs.Reading.{Takes}
 
@@ -18,8 +19,11 @@ use Rattle.order_reading.specs.Reading.{Takes}
 abbrev pub asked : Order → model.Order
 asked (Show only json) = showing only json
 asked (Plan doc in_batch) = planning doc in_batch
+asked (PlanPolicy policy in_batch) = planning_policy (data_of policy) in_batch
+asked (Evaluate policy) = evaluating (data_of policy)
 asked (Simulate calls) = simulating calls
 asked (Apply doc opts) = applying doc opts
+asked (ApplyPolicy policy opts) = applying_policy (data_of policy) opts
 asked Commit = committing
 asked Rollback = rolling_back
 asked Recover = recovering
@@ -46,6 +50,7 @@ TakesFile untouched tells old new (Some file) result = Takes tells old new file 
 -- a command for which memory is taken before any call on the host: it reads an input, or makes a workload
 abbrev pub TakesMemory : Option Command → Type 0
 TakesMemory (Some (command.Plan file in_batch)) = Unit {0}
+TakesMemory (Some (command.Policy file)) = Unit {0}
 TakesMemory (Some (command.Simulate file)) = Unit {0}
 TakesMemory (Some (command.Apply file no_commit no_verify timeout)) = Unit {0}
 TakesMemory (Some (command.Init file)) = Unit {0}

@@ -1,11 +1,11 @@
 //! Documents and hardware lists.
 ghost use Rattle.std.specs.Prelude.{◌≡◌, ◌&&◌, true, IfOk};
-ghost use Rattle.doc_tree.specs.Shape.{shape};
+ghost use Rattle.doc_tree.specs.Shape.{shape, is_distinct, has_short_lists};
 ghost use Rattle.document_model.specs.Entries.{is_document, has_short_doc};
 ghost use Rattle.doc_tree.specs.JsonTree.{json_tree};
 ghost use Rattle.yaml_read.specs.Reading.{reading};
-ghost use Rattle.top_model.specs.Orders.{begins_json, with_fault, tree_of, document, hardware_list};
-ghost use Rattle.top_model.specs.declared.DocFault.TheVariants.{Json, Yaml};
+ghost use Rattle.top_model.specs.Orders.{begins_json, with_fault, tree_of, document_of_tree, document, hardware_list};
+ghost use Rattle.top_model.specs.declared.DocFault.TheVariants.{Json, Yaml, Schema};
 ghost use Rattle.order_reading.specs.Faults.{json_cause, yaml_cause, schema_cause};
 ghost use Rattle.order_reading.specs.Reading.{Answers, itself};
 
@@ -63,7 +63,9 @@ pub(crate) fn schema_cause(fault: SchemaFault) -> Cause
 }
 
 fn json_tree(alloc: Global, bytes: &[u8]) -> Result<Tree, Cause>
-    ensures { Answers shape (with_fault Json (json_tree bytes.now)) result }
+    ensures read { Answers shape (with_fault Json (json_tree bytes.now)) result }
+    ensures distinct { IfOk result (λ tree. is_distinct (shape tree) ≡ true) }
+    ensures short { IfOk result (λ tree. has_short_lists (shape tree) ≡ true) }
 {
     match tree_of_json(alloc, bytes) {
         Ok(tree) => Ok(tree),
@@ -72,7 +74,9 @@ fn json_tree(alloc: Global, bytes: &[u8]) -> Result<Tree, Cause>
 }
 
 pub(crate) fn yaml_tree(alloc: Global, bytes: &[u8]) -> Result<Tree, Cause>
-    ensures { Answers shape (with_fault Yaml (reading bytes.now)) result }
+    ensures read { Answers shape (with_fault Yaml (reading bytes.now)) result }
+    ensures distinct { IfOk result (λ tree. is_distinct (shape tree) ≡ true) }
+    ensures short { IfOk result (λ tree. has_short_lists (shape tree) ≡ true) }
 {
     match tree_of_yaml(alloc, bytes) {
         Ok(tree) => Ok(tree),
@@ -80,13 +84,27 @@ pub(crate) fn yaml_tree(alloc: Global, bytes: &[u8]) -> Result<Tree, Cause>
     }
 }
 
-fn tree_of(alloc: Global, bytes: &[u8]) -> Result<Tree, Cause>
-    ensures { Answers shape (tree_of bytes.now) result }
+// The tree of JSON or of YAML.
+pub(crate) fn tree_of(alloc: Global, bytes: &[u8]) -> Result<Tree, Cause>
+    ensures read { Answers shape (tree_of bytes.now) result }
+    ensures distinct { IfOk result (λ tree. is_distinct (shape tree) ≡ true) }
+    ensures short { IfOk result (λ tree. has_short_lists (shape tree) ≡ true) }
 {
     if begins_json(bytes) {
         json_tree(alloc, bytes)
     } else {
         yaml_tree(alloc, bytes)
+    }
+}
+
+/// The document that a tree is.
+pub fn document_of(alloc: Global, tree: &Tree) -> Result<Doc, Cause>
+    ensures read { Answers itself (with_fault Schema (document_of_tree (shape tree.now))) result }
+    ensures right { IfOk result (λ doc. is_document doc && has_short_doc doc ≡ true) }
+{
+    match doc_of(alloc, tree) {
+        Ok(doc) => Ok(doc),
+        Err(fault) => Err(schema_cause(fault)),
     }
 }
 
@@ -96,10 +114,7 @@ pub fn document_in(alloc: Global, bytes: &[u8]) -> Result<Doc, Cause>
     ensures right { IfOk result (λ doc. is_document doc && has_short_doc doc ≡ true) }
 {
     let tree = tree_of(alloc, bytes)?;
-    match doc_of(alloc, &tree) {
-        Ok(doc) => Ok(doc),
-        Err(fault) => Err(schema_cause(fault)),
-    }
+    document_of(alloc, &tree)
 }
 
 /// The links of the hardware list that the bytes are.

@@ -1,5 +1,5 @@
 -- The networks that the commands leave, as far as printing them is concerned.
-use Rattle.std.specs.Prelude.{◌≡◌, ℕ, Bool, true, List, None, IfSome}
+use Rattle.std.specs.Prelude.{◌≡◌, ℕ, Bool, true, List, None, IfSome, IfOk}
 use Rattle.std.specs.List.{All}
 use Rattle.net_model.specs.NetData.{NetData, IsNet}
 use Rattle.net_model.specs.declared.Link.{Link}
@@ -9,7 +9,7 @@ use Rattle.link_schema.specs.Hardware.{built_in}
 use Rattle.checkpoint_cell.specs.Settled.{Standing}
 use Rattle.scenario_model.specs.Asking.{is_hardware}
 use Rattle.shown_model.specs.Printable.{IsPrintable}
-use Rattle.top_model.specs.Orders.{Text, Inputs, Order, applying, making, order_of}
+use Rattle.top_model.specs.Orders.{Text, Inputs, Order, document_on, applying, applying_policy, making, order_of}
 use Rattle.top_model.specs.Machine.{machine_of}
 
 -- ---- networks
@@ -39,9 +39,11 @@ pub record IsHardwareList (links : List Link) : Type 0 where
   pub built : All (λ (l : Link). l ≡ built_in l.name l.mac) links
   pub stations : All (λ (l : Link). is_station l.mac ≡ true) links
 
--- the document that an order applies, and the links that it makes a network of, are as the readers give them
+-- the document that an order applies, or that its policy is on any network, and the links that it makes a network of, are as the readers
+-- give them
 abbrev pub IsRight : Order → Type 0
 IsRight (applying doc opts) = is_document doc ≡ true
+IsRight (applying_policy p opts) = (net : NetData) → IfOk (document_on p net) (λ doc. is_document doc ≡ true)
 IsRight (making links) = IsHardwareList links
 IsRight _ = Unit {0}
 

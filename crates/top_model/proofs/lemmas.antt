@@ -4,8 +4,10 @@ pub mod Settling
 pub mod Leaving
 pub mod Promised
 pub mod Written
+pub mod AsDocument
 pub mod Headlines
 pub mod Spared
+pub mod Noting
 pub mod Writes
 pub mod Commits
 pub mod Folding
@@ -15,6 +17,7 @@ pub mod Placed
 pub mod Scripted
 pub mod Wanting
 pub mod Firm
+pub mod Deriving
 pub mod Reaching
 pub mod Walking
 pub mod Halving
@@ -24,3 +27,4 @@ pub mod ScriptRan
 pub mod Taken
 pub mod Simulating
 pub mod Commanding
+pub mod Continued

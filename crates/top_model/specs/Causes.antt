@@ -2,6 +2,9 @@
 use Rattle.std.specs.Prelude.{◌≡◌, ◌≢◌, ◌⊎◌, ℕ, List, [], Bool, false, Option, Some, None, Result, Ok, Err}
 use Rattle.net_model.specs.NetData.{NetData}
 use Rattle.net_model.specs.declared.Call.{Call}
+use Rattle.doc_tree.specs.Shape.{Shape}
+use Rattle.policy_model.specs.Values.{PolicyData}
+use Rattle.policy_model.specs.declared.fault.PolicyFault.TheVariants as policy
 use Rattle.document_model.specs.declared.Refused.{Refused}
 use Rattle.host_core.specs.HostView.{HasNet, IsMade, WasRefused, NoneRefused}
 use Rattle.engine_model.specs.Merge.{merge}
@@ -15,11 +18,14 @@ use Rattle.engine_model.specs.declared.Left.{Left}
 use Rattle.engine_model.specs.declared.Left.TheVariants.{NotBegun, RolledBack, Pending as Unknown}
 use Rattle.command_words.specs.Words.{lone}
 use Rattle.command_words.specs.declared.Command.TheVariants.{Commit, Rollback, Recover}
-use Rattle.top_model.specs.Said.{Said, printed, committed, restored}
-use Rattle.top_model.specs.Orders.{Order, showing, planning, simulating, applying, committing, rolling_back, recovering, checking, making, generating}
+use Rattle.top_model.specs.Said.{Said, printed, evaluated, committed, restored}
+use Rattle.top_model.specs.Orders.{Order, value_on, document_on, showing, planning, evaluating, planning_policy, applying_policy, simulating, applying, committing, rolling_back, recovering, checking, making, generating}
 use Rattle.top_model.specs.Machine.{first_net, said_plan, simulated, machine_of}
 use Rattle.top_model.specs.Runs.{Run, reads, reads_after, HostRose, SourceRose}
+use Rattle.top_model.specs.Grounds.{IsGround, IsDocumentOf}
 use Rattle.top_model.specs.Told.{Answer}
+use Rattle.top_model.specs.declared.report.DocFault.{DocFault}
+use Rattle.top_model.specs.declared.report.DocFault.TheVariants as doc_fault
 use Rattle.top_model.specs.declared.report.Cause.{Cause}
 use Rattle.top_model.specs.declared.report.Cause.TheVariants.{DocRefused, MergeRefused, Usage, BadLine, BatchLine, BatchLarge, CallRefused, Pending, NoCheckpoint, Unfinished, Expired, Exists, NoSuchName, ReadFault, HostFault, InDoubt, KernelRefused, NotVerified, Damaged, HardwareDiffers, OutOfMemory}
 
@@ -51,11 +57,13 @@ Expects r order answer = IsOutcome (machine_of r.now order (reads r)) r.host_aft
 -- a commit that is in doubt is the machine's; an apply makes a change, and each pair that is left has its network
 abbrev pub InDoubtAs : Run → Order → Type 0
 InDoubtAs r (applying doc opts) = (said : Said) × (expected r (Ok (applying doc opts)) ≡ Ok said) × HasNet (machine_of r.now (Ok (applying doc opts)) (reads r)).after.net r.host_after
+InDoubtAs r (applying_policy p opts) = (said : Said) × (expected r (Ok (applying_policy p opts)) ≡ Ok said) × HasNet (machine_of r.now (Ok (applying_policy p opts)) (reads r)).after.net r.host_after
 InDoubtAs r order = expected r (Ok order) ≡ Ok committed
 
 -- the putting of an apply's checkpoint may fail half way, so that none stands behind its open gate
 abbrev pub MayPutHalf : Run → Order → Type 0
 MayPutHalf r (applying doc opts) = HostRose r
+MayPutHalf r (applying_policy p opts) = HostRose r
 MayPutHalf r order = ⊥
 
 -- A fault brings the fault answers, and out of memory comes of its own; every other answer is the machine's. A first network's
@@ -93,11 +101,17 @@ abbrev pub HasDocument : Result Order Cause → Doc → Type 0
 HasDocument (Ok order) doc = document_in order ≡ Some doc
 HasDocument (Err refusal) doc = ⊥
 
+-- the document of a run: the one that was read, or what its policy is on the network that was dumped
+abbrev pub IsDocument : Run → Result Order Cause → Doc → Type 0
+IsDocument r (Ok (planning_policy p in_batch)) doc = IsDocumentOf r (planning_policy p in_batch) p doc
+IsDocument r (Ok (applying_policy p opts)) doc = IsDocumentOf r (applying_policy p opts) p doc
+IsDocument r order doc = HasDocument order doc
+
 -- the merge of the document with what was dumped last breaks this rule
 pub record BreaksRule (r : Run) (order : Result Order Cause) (refused : Refused) : Type 0 where
   pub doc : Doc
   pub net : NetData
-  pub is_doc : HasDocument order doc
+  pub is_doc : IsDocument r order doc
   pub dumped : r.host_after.fresh ≡ Some net
   pub broken : merge net doc ≡ Err refused
 
@@ -105,13 +119,14 @@ pub record BreaksRule (r : Run) (order : Result Order Cause) (refused : Refused)
 pub record IsOther (r : Run) (order : Result Order Cause) (found : NetData) : Type 0 where
   pub doc : Doc
   pub saved : NetData
-  pub is_doc : HasDocument order doc
+  pub is_doc : IsDocument r order doc
   pub is_saved : saved_net r.host_after.state.cell ≡ Some saved
   pub other : merge saved doc ≢ Ok found
 
 -- an apply that verifies dumped the merge of the network that was saved
 abbrev pub IsVerified : Run → Result Order Cause → Type 0
 IsVerified r (Ok (applying doc opts)) = opts.no_verify ≡ false → Verified (asked doc opts r.now) r.host_after
+IsVerified r (Ok (applying_policy p opts)) = opts.no_verify ≡ false → (doc : Doc) × IsDocumentOf r (applying_policy p opts) p doc × Verified (asked doc opts r.now) r.host_after
 IsVerified r order = Unit {0}
 
 -- a commit that is in doubt found a change that waits and isn't due
@@ -135,11 +150,13 @@ Refuses r refusal answer = ⊥
 abbrev pub IsLeft : Run → Order → Left → Type 0
 IsLeft r (making links) NotBegun = Unit {0}
 IsLeft r (applying doc opts) left = LeftSays r.host_tells r.host r.host_after left
+IsLeft r (applying_policy p opts) left = LeftSays r.host_tells r.host r.host_after left
 IsLeft r order left = LeftSays r.host_tells r.host r.host_after left × (left ≢ RolledBack)
 
 -- of a call that was refused: one was made, and what is taken back isn't told as rolled back
 abbrev pub IsLeftRefused : Run → Order → Left → Type 0
 IsLeftRefused r (applying doc opts) left = LeftSays r.host_tells r.host r.host_after left × (left ≢ NotBegun)
+IsLeftRefused r (applying_policy p opts) left = LeftSays r.host_tells r.host r.host_after left × (left ≢ NotBegun)
 IsLeftRefused r order left = left ≡ Unknown
 
 -- ---- which answers each order has beside what it says
@@ -172,6 +189,32 @@ OfApply (Damaged area) = Unit {0}
 OfApply (HardwareDiffers names) = Unit {0}
 OfApply OutOfMemory = Unit {0}
 OfApply cause = ⊥
+
+-- what refuses a policy once the host was looked at: it has no value, or its value is no document
+abbrev pub IsLate : DocFault → Type 0
+IsLate (doc_fault.Policy (policy.NoValue path)) = Unit {0}
+IsLate (doc_fault.Policy policy.TooDeep) = Unit {0}
+IsLate (doc_fault.Policy policy.TooLarge) = Unit {0}
+IsLate (doc_fault.Schema refusal) = Unit {0}
+IsLate fault = ⊥
+
+-- a value that is printed isn't read as a document
+abbrev pub HasNoValue : DocFault → Type 0
+HasNoValue (doc_fault.Policy refusal) = IsLate (doc_fault.Policy refusal)
+HasNoValue fault = ⊥
+
+abbrev pub OfEvaluate : Cause → Type 0
+OfEvaluate ReadFault = Unit {0}
+OfEvaluate (DocRefused fault) = HasNoValue fault
+OfEvaluate cause = OfShow cause
+
+abbrev pub OfPlanPolicy : Cause → Type 0
+OfPlanPolicy (DocRefused fault) = IsLate fault
+OfPlanPolicy cause = OfPlan cause
+
+abbrev pub OfApplyPolicy : Cause → Type 0
+OfApplyPolicy (DocRefused fault) = IsLate fault
+OfApplyPolicy cause = OfApply cause
 
 abbrev pub OfCommit : Cause → Type 0
 OfCommit NoCheckpoint = Unit {0}
@@ -218,6 +261,9 @@ abbrev pub MayAnswer : Result Order Cause → Answer → Type 0
 MayAnswer order (Ok said) = Unit {0}
 MayAnswer (Ok (showing only json)) (Err cause) = OfShow cause
 MayAnswer (Ok (planning doc in_batch)) (Err cause) = OfPlan cause
+MayAnswer (Ok (evaluating p)) (Err cause) = OfEvaluate cause
+MayAnswer (Ok (planning_policy p in_batch)) (Err cause) = OfPlanPolicy cause
+MayAnswer (Ok (applying_policy p opts)) (Err cause) = OfApplyPolicy cause
 MayAnswer (Ok (simulating calls)) (Err cause) = OfSimulate cause
 MayAnswer (Ok (applying doc opts)) (Err cause) = OfApply cause
 MayAnswer (Ok committing) (Err cause) = OfCommit cause
@@ -247,6 +293,21 @@ pub record Plans (r : Run) (doc : Doc) (in_batch : Bool) (said : Said) : Type 0 
   pub dumped : WasDumped r from
   pub merges : merge from doc ≡ Ok to
   pub is_said : said ≡ said_plan in_batch from to
+
+-- the value of the policy on the network that was dumped
+pub record Evaluates (r : Run) (p : PolicyData) (said : Said) : Type 0 where
+  pub net : NetData
+  pub tree : Shape
+  pub is_ground : IsGround r (evaluating p) net
+  pub value : value_on p net ≡ Ok tree
+  pub is_said : said ≡ evaluated tree
+
+-- a plan from the network that was dumped, for the document that the policy is there
+pub record PlansPolicy (r : Run) (p : PolicyData) (in_batch : Bool) (said : Said) : Type 0 where
+  pub doc : Doc
+  pub plans : Plans r doc in_batch said
+  pub is_ground : IsGround r (planning_policy p in_batch) plans.from
+  pub reads : document_on p plans.from ≡ Ok doc
 
 -- the network is printed that the calls lead to from the one that was dumped
 pub record Simulates (r : Run) (calls : List Call) (said : Said) : Type 0 where
@@ -286,6 +347,8 @@ NoCallRefused r = NoneRefused r.host.kernel r.host_after.kernel
 abbrev pub IsDoneAs : Run → Order → Said → Type 0
 IsDoneAs r (showing only json) said = Prints r only json said
 IsDoneAs r (planning doc in_batch) said = Plans r doc in_batch said
+IsDoneAs r (evaluating p) said = Evaluates r p said
+IsDoneAs r (planning_policy p in_batch) said = PlansPolicy r p in_batch said
 IsDoneAs r (simulating calls) said = Simulates r calls said
 IsDoneAs r committing said = r.host_tells → expected r (Ok committing) ≡ Ok said
 IsDoneAs r checking said = Checks r said × (r.honest → SaysSound r)
@@ -294,6 +357,7 @@ IsDoneAs r rolling_back said = NoCallRefused r × (r.host_tells → HasSet (read
 IsDoneAs r recovering said = NoCallRefused r × (r.host_tells → IsRecovered r said)
 IsDoneAs r (making links) said = r.host_tells → (expected r (Ok (making links)) ≡ Ok said) × IsMade (first_net links) r.host.state r.host_after
 IsDoneAs r (applying doc opts) said = NoCallRefused r × (r.host_tells → IsVerified r (Ok (applying doc opts)))
+IsDoneAs r (applying_policy p opts) said = NoCallRefused r × (r.host_tells → IsVerified r (Ok (applying_policy p opts)))
 
 -- the host reads as before
 abbrev pub StaysRead : Run → Type 0
@@ -302,17 +366,33 @@ StaysRead r = r.host_tells → reads_after r ≡ reads r
 abbrev pub LooksOnly : Run → Order → Type 0
 LooksOnly r (planning doc in_batch) = StaysRead r
 LooksOnly r (applying doc opts) = r.honest → settled r.now (reads r) ≡ Some (reads_after r)
+LooksOnly r (evaluating p) = StaysRead r
+LooksOnly r (planning_policy p in_batch) = StaysRead r
+LooksOnly r (applying_policy p opts) = r.honest → settled r.now (reads r) ≡ Some (reads_after r)
 LooksOnly r order = Unit {0}
 
 -- a network is compared only where an apply is to verify
 abbrev pub IsCompared : Order → Type 0
 IsCompared (applying doc opts) = opts.no_verify ≡ false
+IsCompared (applying_policy p opts) = opts.no_verify ≡ false
 IsCompared order = ⊥
 
 -- a rule is broken on the network that was dumped last, or in a workload on one that its host had
 abbrev pub BrokeRule : Run → Order → Refused → Type 0
 BrokeRule r (generating devices first second) refused = expected r (Ok (generating devices first second)) ≡ Err (MergeRefused refused)
 BrokeRule r order refused = (r.host_tells → BreaksRule r (Ok order) refused) × LooksOnly r order
+
+-- the policy is refused on the network that was dumped
+pub record WasLate {A : Type 0} (r : Run) (order : Order) (read : NetData → Result A Cause) (fault : DocFault) : Type 0 where
+  pub net : NetData
+  pub is_ground : IsGround r order net
+  pub refused : read net ≡ Err (DocRefused fault)
+
+abbrev pub RefusedLate : Run → Order → DocFault → Type 0
+RefusedLate r (evaluating p) fault = WasLate r (evaluating p) (value_on p) fault
+RefusedLate r (planning_policy p in_batch) fault = WasLate r (planning_policy p in_batch) (document_on p) fault
+RefusedLate r (applying_policy p opts) fault = WasLate r (applying_policy p opts) (document_on p) fault
+RefusedLate r order fault = ⊥
 
 -- of what was asked of the host
 abbrev pub Ends : Run → Order → Answer → Type 0
@@ -323,6 +403,7 @@ Ends r order (Err (Pending deadline)) = RefusedAs r (Ok order) (Pending deadline
 Ends r order (Err NoCheckpoint) = RefusedAs r (Ok order) NoCheckpoint
 Ends r order (Err (Unfinished since deadline)) = RefusedAs r (Ok order) (Unfinished since deadline)
 Ends r order (Err (Expired since deadline)) = RefusedAs r (Ok order) (Expired since deadline)
+Ends r order (Err (DocRefused fault)) = RefusedLate r order fault × LooksOnly r order
 Ends r order (Err (MergeRefused refused)) = BrokeRule r order refused
 Ends r order (Err (CallRefused n k)) = IsFirstRefused r order n k × StaysRead r
 Ends r order (Err (HostFault left)) = HostRose r × IsLeft r order left

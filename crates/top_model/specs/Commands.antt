@@ -1,5 +1,5 @@
 -- All that is promised of one command, and of the words that the program is given.
-use Rattle.std.specs.Prelude.{◌≡◌, ℕ, List, Option, Some, false, map, String, string_bytes}
+use Rattle.std.specs.Prelude.{◌≡◌, List, Option, Some, false, map, String, string_bytes}
 use Rattle.std.specs.declared.alloc.Global.{Global}
 use Rattle.host_core.specs.declared.Clock.{Ghosts as ClockGhosts}
 use Rattle.host_core.specs.declared.Host.{Ghosts as HostGhosts}
@@ -10,7 +10,7 @@ use Rattle.top_model.specs.Answered.{Answered}
 use Rattle.top_model.specs.Headline.{Headline}
 use Rattle.top_model.specs.Moments.{AtMoment}
 use Rattle.top_model.specs.Orders.{Text}
-use Rattle.top_model.specs.Promises.{Complete, DoneOnly, RefusedExactly, CommitTakesNone, StandsApart, Statuses, Texts}
+use Rattle.top_model.specs.Promises.{Complete, AppliesAsDocument, DoneOnly, RefusedExactly, CommitTakesNone, StandsApart, Statuses, Texts}
 use Rattle.top_model.specs.Runs.{Run, run_of}
 use Rattle.top_model.specs.ScriptRuns.{RanFrom}
 use Rattle.top_model.specs.Scripts.{IsScript, ScriptAnswered, file_of}
@@ -30,6 +30,8 @@ pub record Promised (r : Run) : Type 0 where
   pub refused : RefusedExactly r
   pub memory : CommitTakesNone r
   pub status : Statuses r
+  -- a policy is applied as its document
+  pub policies : AppliesAsDocument r
   -- what is written, on every host
   pub texts : Texts r
   -- what an apply leaves alone on its way

@@ -17,17 +17,18 @@ use Rattle.engine_model.specs.Stations.{Near, Within, Only, Before, Either}
 use Rattle.engine_model.specs.declared.ApplyOpts.{ApplyOpts}
 use Rattle.engine_model.specs.declared.Left.{Left}
 use Rattle.top_model.specs.Said.{committed as said_committed}
-use Rattle.top_model.specs.Orders.{applying, committing, rolling_back, recovering}
+use Rattle.top_model.specs.Orders.{committing, rolling_back, recovering}
 use Rattle.top_model.specs.Causes.{expected}
-use Rattle.top_model.specs.Runs.{Run, Asks, Alone, Quiet, HostRose, SourceRose, SinkRose, Acknowledged, reads, reads_after, entry, left_at_exit}
+use Rattle.top_model.specs.Runs.{Run, Asks, AsksApply, Alone, Quiet, HostRose, SourceRose, SinkRose, Acknowledged, reads, reads_after, entry, left_at_exit}
 use Rattle.top_model.specs.declared.report.Cause.TheVariants.{Done, MergeRefused, WriteFault, HostFault, KernelRefused, OutOfMemory}
 
 -- ---- for every valid running state, document and pattern of faults
 
--- an apply of a document that was read, at which no change waits; this network stands after its settling
+-- an apply of a document, at which no change waits; this network stands after its settling, and what was read is the document, or a
+-- policy that is this document on that network
 pub record IsApply (r : Run) (doc : Doc) (opts : ApplyOpts) (from : NetData) : Type 0 where
   pub nobody_else : Alone r
-  pub asks : Asks r (Ok (applying doc opts))
+  pub asks : AsksApply r doc opts from
   pub stands : settled r.now (reads r) ≡ Some (restored_to from)
 
 -- what stands after the change to this network

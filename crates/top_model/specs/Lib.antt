@@ -3,6 +3,7 @@ pub mod Orders
 pub mod Machine
 pub mod Texts
 pub mod Runs
+pub mod Grounds
 pub mod Told
 pub mod Telling
 pub mod Causes

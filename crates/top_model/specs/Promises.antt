@@ -1,14 +1,19 @@
 -- What a command promises by its report, and what it writes.
 use Rattle.std.specs.Prelude.{◌≡◌, ◌≢◌, ◌⊎◌, ℕ, [], Some, Result, Ok, Err}
+use Rattle.net_model.specs.NetData.{NetData}
+use Rattle.document_model.specs.declared.Doc.{Doc}
 use Rattle.host_core.specs.Streams.{Appends, AppendsSome}
+use Rattle.checkpoint_cell.specs.Settled.{restored_to, settled}
+use Rattle.engine_model.specs.declared.ApplyOpts.{ApplyOpts}
 use Rattle.command_words.specs.Words.{lone, command_of}
 use Rattle.command_words.specs.declared.Command.TheVariants.{Commit, Generate}
 use Rattle.top_model.specs.Said.{Said, Says}
-use Rattle.top_model.specs.Orders.{Text, Order}
+use Rattle.top_model.specs.Orders.{Text, Order, applying}
 use Rattle.top_model.specs.Machine.{machine_of}
 use Rattle.top_model.specs.Texts.{status_of}
-use Rattle.top_model.specs.Runs.{Run, Asks, Quiet, Acknowledged, SinkRose, reads, reads_after}
-use Rattle.top_model.specs.Told.{Told, ErrText}
+use Rattle.top_model.specs.Runs.{Run, Asks, AsksApply, Alone, Quiet, Acknowledged, SinkRose, reads, reads_after}
+use Rattle.top_model.specs.Grounds.{Grounds}
+use Rattle.top_model.specs.Told.{Told, ErrTextOn}
 use Rattle.top_model.specs.Causes.{expected}
 use Rattle.top_model.specs.Answered.{Rests}
 use Rattle.top_model.specs.declared.report.Cause.{Cause}
@@ -24,6 +29,12 @@ pub record IsMachine (r : Run) (order : Result Order Cause) : Type 0 where
 
 abbrev pub Complete : Run → Type 0
 Complete r = (order : Result Order Cause) → Rests r order → Asks r order → Quiet r → IsMachine r order ⊎ Told r order (Err OutOfMemory)
+
+-- An apply of a policy is the apply of the document that the policy is on the network after the settling: the same answer, the same texts,
+-- and the same state.
+abbrev pub AppliesAsDocument : Run → Type 0
+AppliesAsDocument r = (doc : Doc) (opts : ApplyOpts) (from : NetData) → Alone r → AsksApply r doc opts from → settled r.now (reads r) ≡ Some (restored_to from) → Quiet r
+    → IsMachine r (Ok (applying doc opts)) ⊎ Told r (Ok (applying doc opts)) (Err OutOfMemory)
 
 -- ---- with and without faults
 
@@ -61,7 +72,7 @@ pub record IsWritten (r : Run) (order : Result Order Cause) : Type 0 where
   pub err : Text
   pub to_out : r.sinks_tell → Appends out r.out r.out_after
   pub to_err : r.sinks_tell → Appends err r.err r.err_after
-  pub is_err : ErrText order r.report.cause err
+  pub is_err : ErrTextOn (Grounds r order) order r.report.cause err
   pub silent : r.report.cause ≢ Done → out ≡ []
   -- on a host that is asked for no more than it promises, it says what the machine says
   pub says : Rests r order → r.report.cause ≡ Done → (said : Said) × (expected r order ≡ Ok said) × Says said out
@@ -77,7 +88,7 @@ pub record IsCutOff (r : Run) (order : Result Order Cause) (status : ℕ) : Type
   pub err : Text
   pub to_out : r.sinks_tell → AppendsSome out r.out r.out_after
   pub to_err : r.sinks_tell → AppendsSome err r.err r.err_after
-  pub is_err : ErrText order cause err
+  pub is_err : ErrTextOn (Grounds r order) order cause err
   pub silent : cause ≢ Done → out ≡ []
   -- after a write that fails nothing more is written
   pub stops : (r.sinks_tell → Appends [] r.out r.out_after) ⊎ (r.sinks_tell → Appends err r.err r.err_after)

@@ -1,6 +1,8 @@
 -- A run of a command: what was asked, what it reached before and after, and the report.
 use Rattle.std.specs.Prelude.{◌≡◌, ◌⊎◌, ℕ, Bool, List, map, String, string_bytes, Result}
 use Rattle.std.specs.declared.alloc.Global.{Global}
+use Rattle.net_model.specs.NetData.{NetData}
+use Rattle.document_model.specs.declared.Doc.{Doc}
 use Rattle.host_core.specs.Faults.{Rose, RoseTwice}
 use Rattle.host_core.specs.Streams.{SourceView, SinkView}
 use Rattle.host_core.specs.declared.Source.{Ghosts as SourceGhosts}
@@ -10,7 +12,8 @@ use Rattle.host_core.specs.declared.Host.{Ghosts as HostGhosts}
 use Rattle.checkpoint_cell.specs.Settled.{Standing, standing}
 use Rattle.engine_model.specs.Sound.{Sound}
 use Rattle.engine_model.specs.Stations.{Entry, Stands, entry_of, left_by}
-use Rattle.top_model.specs.Orders.{Text, Inputs, Order, order_of}
+use Rattle.engine_model.specs.declared.ApplyOpts.{ApplyOpts}
+use Rattle.top_model.specs.Orders.{Text, Inputs, Order, order_of, AppliesTo}
 use Rattle.top_model.specs.declared.report.Report.{Report}
 use Rattle.top_model.specs.declared.report.Cause.{Cause}
 use Rattle.top_model.specs.declared.report.Cause.TheVariants.{Done, WriteFault}
@@ -115,3 +118,7 @@ Gives r order = (inputs : Inputs) × MayRead r inputs × (order_of r.in_script i
 
 abbrev pub Asks : Run → Result Order Cause → Type 0
 Asks r order = (inputs : Inputs) → MayRead r inputs → order_of r.in_script inputs r.words ≡ order
+
+-- an apply of this document to the network, which its policy may be there
+abbrev pub AsksApply : Run → Doc → ApplyOpts → NetData → Type 0
+AsksApply r doc opts net = (order : Result Order Cause) × AppliesTo net order doc opts × Asks r order

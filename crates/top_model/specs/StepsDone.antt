@@ -9,13 +9,13 @@ use Rattle.top_model.specs.Orders.{Text, Inputs}
 use Rattle.top_model.specs.Lines.{Timed}
 use Rattle.top_model.specs.Runs.{Run, Alone, Quiet, SinkRose, reads, reads_after}
 use Rattle.top_model.specs.Told.{cause_of, report_of}
-use Rattle.top_model.specs.Scripts.{order_in, step_outcome, status_line, StepTexts, Folds}
+use Rattle.top_model.specs.Scripts.{order_in, step_outcome, status_line, StepGrounds, StepTexts, Folds}
 
 -- a step that no count rose in: its texts, of which the status line is still to come, and what the host reads as
 pub record IsStep (inputs : Inputs) (step : Timed) (r : Run) : Type 0 where
   pub said : Text
   pub noted : Text
-  pub texts : StepTexts (order_in inputs step) (step_outcome inputs step (reads r)).answer (said ++ status_line (cause_of (step_outcome inputs step (reads r)).answer)) noted
+  pub texts : StepTexts (StepGrounds inputs step (reads r)) (order_in inputs step) (step_outcome inputs step (reads r)).answer (said ++ status_line (cause_of (step_outcome inputs step (reads r)).answer)) noted
   pub to_out : r.sinks_tell → Appends said r.out r.out_after
   pub to_err : r.sinks_tell → Appends noted r.err r.err_after
   pub report : r.report ≡ report_of (cause_of (step_outcome inputs step (reads r)).answer)

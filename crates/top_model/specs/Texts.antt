@@ -11,11 +11,12 @@ use Rattle.yaml_read.specs.declared.YamlFault.{YamlFault}
 use Rattle.yaml_read.specs.declared.YamlFault.TheVariants as yaml
 use Rattle.tree_schema.specs.declared.SchemaFault.{SchemaFault}
 use Rattle.tree_schema.specs.declared.SchemaFault.TheVariants as schema
+use Rattle.policy_model.specs.declared.fault.PolicyFault.{PolicyFault}
+use Rattle.policy_model.specs.declared.fault.PolicyFault.TheVariants as policy
 use Rattle.top_model.specs.declared.report.DocFault.{DocFault}
-use Rattle.top_model.specs.declared.report.DocFault.TheVariants.{Json, Yaml, Schema}
+use Rattle.top_model.specs.declared.report.DocFault.TheVariants.{Json, Yaml, Schema, Policy}
 use Rattle.engine_model.specs.declared.Left.{Left}
 use Rattle.engine_model.specs.declared.Left.TheVariants as left
-use Rattle.rollout_model.specs.declared.Event.{Event}
 use Rattle.top_model.specs.Orders.{Text}
 use Rattle.top_model.specs.Said.{line, times}
 use Rattle.top_model.specs.declared.report.Cause.{Cause}
@@ -87,10 +88,21 @@ schema_words (schema.Missing path) = at_path (codes "Missing") path
 schema_words (schema.Unsupported path) = at_path (codes "Unsupported") path
 schema_words schema.OutOfMemory = []
 
+abbrev pub policy_words : PolicyFault → Text
+policy_words (policy.WrongShape path) = at_path (codes "WrongShape") path
+policy_words (policy.BadExpression path) = at_path (codes "BadExpression") path
+policy_words (policy.UnknownCapture path) = at_path (codes "UnknownCapture") path
+policy_words (policy.CaptureCycle path) = at_path (codes "CaptureCycle") path
+policy_words (policy.NoValue path) = at_path (codes "NoValue") path
+policy_words policy.TooDeep = codes "TooDeep"
+policy_words policy.TooLarge = codes "TooLarge"
+policy_words policy.OutOfMemory = []
+
 abbrev pub document_words : DocFault → Text
 document_words (Json fault) = json_words fault
 document_words (Yaml fault) = yaml_words fault
 document_words (Schema fault) = schema_words fault
+document_words (Policy fault) = policy_words fault
 
 -- ---- the words of the merge's rules
 

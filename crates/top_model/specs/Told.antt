@@ -1,13 +1,17 @@
 -- How an answer is told: the notes of its document and its error line to one sink, what is done to the other.
 use Rattle.std.specs.Prelude.{◌≡◌, ◌⊎◌, [], ◌++◌, Result, Ok, Err}
+use Rattle.net_model.specs.NetData.{NetData}
+use Rattle.document_model.specs.declared.Doc.{Doc}
+use Rattle.policy_model.specs.Values.{PolicyData}
 use Rattle.host_core.specs.Streams.{Appends, AppendsSome}
 use Rattle.top_model.specs.Said.{Said, Says}
-use Rattle.top_model.specs.Orders.{Text, Order, notes_of}
+use Rattle.top_model.specs.Orders.{Text, Order, document_on, planning_policy, applying_policy, notes_of}
 use Rattle.top_model.specs.Texts.{status_of, error_line, note_lines}
 use Rattle.top_model.specs.Runs.{Run, SinkRose}
+use Rattle.top_model.specs.Grounds.{Grounds}
 use Rattle.top_model.specs.declared.report.Report.{Report}
 use Rattle.top_model.specs.declared.report.Cause.{Cause}
-use Rattle.top_model.specs.declared.report.Cause.TheVariants.{Done, ReadFault, WriteFault, OutOfMemory}
+use Rattle.top_model.specs.declared.report.Cause.TheVariants.{Done, DocRefused, MergeRefused, Pending, ReadFault, WriteFault, InDoubt, NotVerified, OutOfMemory}
 
 -- what is said, or why it is refused
 abbrev pub Answer : Type 0
@@ -21,7 +25,9 @@ abbrev pub OutText : Answer → Text → Type 0
 OutText (Ok said) text = Says said text
 OutText (Err cause) text = text ≡ []
 
--- the notes of a document that was read, and the line
+-- ---- the errors
+
+-- the notes of a document that was read before any call on the host, and the line
 abbrev pub noted : Result Order Cause → Cause → Text
 noted order cause = note_lines (notes_of order) ++ error_line cause
 
@@ -30,6 +36,40 @@ abbrev pub ErrText : Result Order Cause → Cause → Text → Type 0
 ErrText order ReadFault text = text ≡ error_line ReadFault
 ErrText order OutOfMemory text = (text ≡ error_line OutOfMemory) ⊎ (text ≡ noted order OutOfMemory)
 ErrText order cause text = text ≡ noted order cause
+
+-- ---- the notes of a policy: those of the document that it is on such a network
+
+pub record NotedOn (on : NetData → Type 0) (p : PolicyData) (cause : Cause) (text : Text) : Type 0 where
+  pub net : NetData
+  pub doc : Doc
+  pub is_on : on net
+  pub reads : document_on p net ≡ Ok doc
+  pub is : text ≡ note_lines doc.notes ++ error_line cause
+
+-- A plan is read as a document behind its look at the host: what comes before that has no notes. Memory runs out before it or behind it.
+abbrev pub PlanErr : (NetData → Type 0) → PolicyData → Cause → Text → Type 0
+PlanErr on p Done text = NotedOn on p Done text
+PlanErr on p (MergeRefused refused) text = NotedOn on p (MergeRefused refused) text
+PlanErr on p OutOfMemory text = (text ≡ error_line OutOfMemory) ⊎ NotedOn on p OutOfMemory text
+PlanErr on p cause text = text ≡ error_line cause
+
+-- So is an apply, before it makes its change: an input that isn't read, a change that waits and a policy that is refused have no notes. Done,
+-- and what only a document can bring, comes behind that; every other cause before it or behind it.
+abbrev pub ApplyErr : (NetData → Type 0) → PolicyData → Cause → Text → Type 0
+ApplyErr on p ReadFault text = text ≡ error_line ReadFault
+ApplyErr on p (Pending deadline) text = text ≡ error_line (Pending deadline)
+ApplyErr on p (DocRefused fault) text = text ≡ error_line (DocRefused fault)
+ApplyErr on p Done text = NotedOn on p Done text
+ApplyErr on p (MergeRefused refused) text = NotedOn on p (MergeRefused refused) text
+ApplyErr on p (NotVerified found left) text = NotedOn on p (NotVerified found left) text
+ApplyErr on p InDoubt text = NotedOn on p InDoubt text
+ApplyErr on p cause text = (text ≡ error_line cause) ⊎ NotedOn on p cause text
+
+-- what is written to the errors, where a policy is evaluated on such a network
+abbrev pub ErrTextOn : (NetData → Type 0) → Result Order Cause → Cause → Text → Type 0
+ErrTextOn on (Ok (planning_policy p in_batch)) cause text = PlanErr on p cause text
+ErrTextOn on (Ok (applying_policy p opts)) cause text = ApplyErr on p cause text
+ErrTextOn on order cause text = ErrText order cause text
 
 abbrev pub report_of : Cause → Report
 report_of cause = record { status = status_of cause; cause = cause }
@@ -55,5 +95,5 @@ pub record Told (r : Run) (order : Result Order Cause) (answer : Answer) : Type 
   pub out : Text
   pub err : Text
   pub is_out : OutText answer out
-  pub is_err : ErrText order (cause_of answer) err
+  pub is_err : ErrTextOn (Grounds r order) order (cause_of answer) err
   pub written : IsWhole r answer out err ⊎ IsCut r answer out err

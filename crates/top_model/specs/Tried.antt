@@ -7,7 +7,7 @@ use Rattle.engine_model.specs.Machine.{recover}
 use Rattle.engine_model.specs.Faults.{HasTaken}
 use Rattle.engine_model.specs.declared.ApplyOpts.{ApplyOpts}
 use Rattle.engine_model.specs.declared.Left.TheVariants.{RolledBack, Pending}
-use Rattle.top_model.specs.Orders.{Order, applying}
+use Rattle.top_model.specs.Orders.{Order, applying, applying_policy}
 use Rattle.top_model.specs.Runs.{Run, HostRose, HostRoseTwice, reads}
 use Rattle.top_model.specs.Told.{Answer}
 use Rattle.top_model.specs.declared.report.Cause.{Cause}
@@ -37,4 +37,8 @@ Tried r (Ok (applying doc opts)) (Ok said) = DumpedBy r opts
 Tried r (Ok (applying doc opts)) (Err (HostFault Pending)) = HasExcuse r opts ⊎ HostRoseTwice r ⊎ WasRefusedOnce r
 Tried r (Ok (applying doc opts)) (Err (KernelRefused k n Pending)) = HasExcuse r opts ⊎ WasRefusedTwice r ⊎ HostRose r
 Tried r (Ok (applying doc opts)) (Err (HostFault RolledBack)) = r.honest → (r.host_after.state.net ≡ saved_net r.host_after.state.cell) ⊎ (r.host_after.state.net ≡ (recover r.now (reads r)).after.net)
+Tried r (Ok (applying_policy p opts)) (Ok said) = DumpedBy r opts
+Tried r (Ok (applying_policy p opts)) (Err (HostFault Pending)) = HasExcuse r opts ⊎ HostRoseTwice r ⊎ WasRefusedOnce r
+Tried r (Ok (applying_policy p opts)) (Err (KernelRefused k n Pending)) = HasExcuse r opts ⊎ WasRefusedTwice r ⊎ HostRose r
+Tried r (Ok (applying_policy p opts)) (Err (HostFault RolledBack)) = r.honest → (r.host_after.state.net ≡ saved_net r.host_after.state.cell) ⊎ (r.host_after.state.net ≡ (recover r.now (reads r)).after.net)
 Tried r order answer = Unit {0}

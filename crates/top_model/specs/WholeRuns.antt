@@ -1,5 +1,5 @@
 -- Whole runs: what the steps of a script leave, whatever fails in them and wherever they are stopped.
-use Rattle.std.specs.Prelude.{◌≡◌, ◌≢◌, ◌⊎◌, ◌<◌, ℕ, List, [], ◌∷◌, ◌++◌, Some, None, Result, Ok, Err}
+use Rattle.std.specs.Prelude.{◌≡◌, ◌≢◌, ◌⊎◌, ◌<◌, ℕ, true, List, [], ◌∷◌, ◌++◌, Some, None, Result, Ok, Err}
 use Rattle.net_model.specs.NetData.{NetData}
 use Rattle.document_model.specs.declared.Doc.{Doc}
 use Rattle.host_core.specs.Faults.{Rose}
@@ -17,9 +17,9 @@ use Rattle.engine_model.specs.Stations.{Stands, Near, Only, Settled, Either, at,
 use Rattle.engine_model.specs.Exit.{Unsettled, Marked}
 use Rattle.engine_model.specs.declared.ApplyOpts.{ApplyOpts}
 use Rattle.engine_model.specs.declared.Left.TheVariants as side
-use Rattle.top_model.specs.Orders.{Order, applying, committing, rolling_back, recovering, making}
+use Rattle.top_model.specs.Orders.{Order, AppliesTo, applying, applying_policy, committing, rolling_back, recovering, making}
 use Rattle.top_model.specs.Lines.{Timed}
-use Rattle.top_model.specs.Machine.{first_net}
+use Rattle.top_model.specs.Machine.{first_net, apply_policy}
 use Rattle.top_model.specs.Runs.{Run}
 use Rattle.top_model.specs.Told.{Answer}
 use Rattle.top_model.specs.Exits.{Stations}
@@ -27,7 +27,7 @@ use Rattle.top_model.specs.Answered.{Answered}
 use Rattle.top_model.specs.StepsRun.{World, with_out, step_run, Went, EndsWith}
 use Rattle.top_model.specs.declared.report.Report.{Report}
 use Rattle.top_model.specs.declared.report.Cause.{Cause}
-use Rattle.top_model.specs.declared.report.Cause.TheVariants.{MergeRefused, Pending, HostFault, InDoubt, OutOfMemory}
+use Rattle.top_model.specs.declared.report.Cause.TheVariants.{DocRefused, MergeRefused, Pending, HostFault, InDoubt, OutOfMemory}
 
 -- ---- the steps that were run
 
@@ -78,6 +78,21 @@ ApplyEnds a e rose (Err OutOfMemory) = Either (Only e) (Either (Settled a.now (a
 ApplyEnds a e rose (Err InDoubt) = Either (Settled a.now (at e)) (Only (apply a e).after)
 ApplyEnds a e rose (Err cause) = Only e
 
+-- the same of an apply of a policy, which leads to this where it is done
+abbrev pub PolicyMarked : ApplyOpts → Standing → Type 0 → Stands
+PolicyMarked opts after rose s = (opts.no_commit ≡ true) × rose × (s ≡ after)
+
+abbrev pub PolicyEnds : ApplyOpts → ℕ → Standing → Standing → Type 0 → Answer → Stands
+PolicyEnds opts now after e rose (Ok said) = Only after
+PolicyEnds opts now after e rose (Err (Pending deadline)) = Settled now (at e)
+PolicyEnds opts now after e rose (Err (DocRefused fault)) = Settled now (at e)
+PolicyEnds opts now after e rose (Err (MergeRefused refused)) = Settled now (at e)
+PolicyEnds opts now after e rose (Err (HostFault side.RolledBack)) = Settled now (at e)
+PolicyEnds opts now after e rose (Err (HostFault side.Pending)) = Either (λ s. Unsettled now (at e) × (s ≡ e)) (Either (Settled now (at e)) (PolicyMarked opts after rose))
+PolicyEnds opts now after e rose (Err OutOfMemory) = Either (Only e) (Either (Settled now (at e)) (PolicyMarked opts after rose))
+PolicyEnds opts now after e rose (Err InDoubt) = Either (Settled now (at e)) (Only after)
+PolicyEnds opts now after e rose (Err cause) = Only e
+
 abbrev pub CommitEnds : ℕ → Standing → Answer → Stands
 CommitEnds now e (Ok said) = Only (commit now e).after
 CommitEnds now e (Err InDoubt) = Either (Only e) (Only (commit now e).after)
@@ -97,6 +112,7 @@ MakeEnds first e (Err cause) = Only e
 
 abbrev pub Ends : ℕ → Standing → Type 0 → Result Order Cause → Answer → Stands
 Ends now e rose (Ok (applying doc opts)) answer = ApplyEnds (asked doc opts now) e rose answer
+Ends now e rose (Ok (applying_policy p opts)) answer = PolicyEnds opts now (apply_policy p opts now e).after e rose answer
 Ends now e rose (Ok committing) answer = CommitEnds now e answer
 Ends now e rose (Ok rolling_back) answer = BackEnds (rollback e).after e answer
 Ends now e rose (Ok recovering) answer = BackEnds (recover now e).after e answer
@@ -138,8 +154,8 @@ pub record Begins (is_honest : Type 0) (host : HostView) : Type 0 where
 pub record IsChangeOf (ran : Ran) (s : Standing) : Type 0 where
   pub doc : Doc
   pub opts : ApplyOpts
-  pub is : ran.order ≡ Ok (applying doc opts)
   pub from : NetData
+  pub is : AppliesTo from ran.order doc opts
   pub to : NetData
   pub merges : merge from doc ≡ Ok to
   pub stands : s ≡ (changed (asked doc opts ran.step.at) from to).after

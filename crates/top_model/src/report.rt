@@ -5,17 +5,20 @@ use doc_tree::JsonFault;
 use document_model::Refused;
 use engine_model::Left;
 use net_model::{Name, Net};
+use policy_model::PolicyFault;
 use rollout_model::Event;
 use std::alloc::{AllocError, AllocFailed};
 use tree_schema::SchemaFault;
 use yaml_read::YamlFault;
 
-/// Why an input is no document, or no hardware list. Out of memory is a cause of its own.
+/// Why an input is no document, no policy or no hardware list, or why a policy has no value that is a document. Out of memory
+/// is a cause of its own.
 #[derive(PartialEq, Eq, Drop)]
 pub enum DocFault {
     Json(JsonFault),
     Yaml(YamlFault),
     Schema(SchemaFault),
+    Policy(PolicyFault),
 }
 
 /// Why a command ended as it did.
@@ -23,7 +26,7 @@ pub enum DocFault {
 pub enum Cause {
     /// What was asked is done.
     Done,
-    /// The input is no document, or no hardware list.
+    /// The input is no document, no policy or no hardware list, or a policy has no value that is a document.
     DocRefused(DocFault),
     /// The document can't be merged with the running state.
     MergeRefused(Refused),

@@ -33,6 +33,7 @@ fn name_of(command: &Command) -> &'static str {
     match command {
         Command::Show { .. } => "show",
         Command::Plan { .. } => "plan",
+        Command::Policy { .. } => "policy",
         Command::Simulate { .. } => "simulate",
         Command::Apply { .. } => "apply",
         Command::Service { .. } => "service",
@@ -88,9 +89,10 @@ fn push_command(command: &Command, out: &mut Vec<u8>) -> Result<(), OutOfMemory>
             push_flag(" batch", *batch, out)?;
             push_text(" file=", file, out)
         }
-        Command::Simulate { file } | Command::Init { file } | Command::Script { file } => {
-            push_text(" file=", file, out)
-        }
+        Command::Policy { file }
+        | Command::Simulate { file }
+        | Command::Init { file }
+        | Command::Script { file } => { push_text(" file=", file, out) }
         Command::Service { dir } => {
             out.extend_from_slice(b" dir=")?;
             Ok(out.extend_from_slice(dir.as_str().as_bytes())?)

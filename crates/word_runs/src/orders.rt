@@ -29,6 +29,7 @@ fn name_of_refusal(cause: &Cause) -> &'static str {
         Cause::DocRefused(DocFault::Json(_)) => "json",
         Cause::DocRefused(DocFault::Yaml(_)) => "yaml",
         Cause::DocRefused(DocFault::Schema(_)) => "schema",
+        Cause::DocRefused(DocFault::Policy(_)) => "policy fault",
         Cause::BatchLine(_) => "batch line",
         Cause::BatchLarge => "batch too large",
         _ => "another",
@@ -39,8 +40,11 @@ fn name_of(answer: &Result<Order, Cause>) -> &'static str {
     match answer {
         Ok(Order::Show { .. }) => "show",
         Ok(Order::Plan { .. }) => "plan",
+        Ok(Order::PlanPolicy { .. }) => "plan of a policy",
+        Ok(Order::Evaluate { .. }) => "policy",
         Ok(Order::Simulate { .. }) => "simulate",
         Ok(Order::Apply { .. }) => "apply",
+        Ok(Order::ApplyPolicy { .. }) => "apply of a policy",
         Ok(Order::Commit) => "commit",
         Ok(Order::Rollback) => "rollback",
         Ok(Order::Recover) => "recover",
@@ -49,6 +53,16 @@ fn name_of(answer: &Result<Order, Cause>) -> &'static str {
         Ok(Order::Generate { .. }) => "generate",
         Err(cause) => name_of_refusal(cause),
     }
+}
+
+// What is asked, or why it is refused.
+fn name_asked(
+    alloc: Global,
+    in_script: bool,
+    words: &[String],
+    source: &mut MemorySource,
+) -> &'static str {
+    name_of(&read_order(alloc, words, in_script, source))
 }
 
 // `WORDS | N | TEXT`: the words, the call of the source that fails, and the text of the input.
@@ -61,8 +75,9 @@ fn push_order(
     let (line, rest) = case.split_once(" | ").unwrap_or((case, ""));
     let (failing, text) = rest.split_once(" | ").unwrap_or((rest, ""));
     let mut source = source(alloc, text, failing.parse::<u64>().unwrap_or(0))?;
-    let answer = read_order(alloc, &words(alloc, line)?, in_script, &mut source);
-    Ok(out.extend_from_slice(name_of(&answer).as_bytes())?)
+    let asked = words(alloc, line)?;
+    let name = name_asked(alloc, in_script, asked.as_slice(), &mut source);
+    Ok(out.extend_from_slice(name.as_bytes())?)
 }
 
 // How many steps there are, with the moment and the words of the first, or the number of the line that is none.

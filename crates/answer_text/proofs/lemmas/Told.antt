@@ -1,11 +1,13 @@
 -- What was told of an answer, as the top call's relation says it of a run.
-use Rattle.std.proofs.Common.{◌≡◌, ◌⊎◌, inl, inr, refl, ap}
+use Rattle.std.proofs.Common.{◌≡◌, ◌⊎◌, inl, inr, refl, sym, ap, subst}
 use Rattle.std.specs.Prelude.{◌≢◌, [], ◌++◌, Result, Ok, Err}
 use Rattle.top_model.specs.Said.{Said, Says}
-use Rattle.top_model.specs.Orders.{Text, Order, notes_of}
+use Rattle.net_model.specs.NetData.{NetData}
+use Rattle.top_model.specs.Orders.{Text, Order, planning_policy, applying_policy, notes_of}
 use Rattle.top_model.specs.Texts.{error_line, note_lines}
 use Rattle.top_model.specs.Runs.{Run}
-use Rattle.top_model.specs.Told.{Answer, cause_of, noted, ErrText, IsWhole, IsCut, Told}
+use Rattle.top_model.specs.Grounds.{Grounds}
+use Rattle.top_model.specs.Told.{Answer, cause_of, noted, ErrText, ErrTextOn, IsWhole, IsCut, Told}
 use Rattle.top_model.specs.declared.report.Cause.{Cause}
 use Rattle.top_model.specs.declared.report.Cause.TheVariants.{Done, DocRefused, MergeRefused, Usage, BadLine, BatchLine, BatchLarge, CallRefused, FolderFault, Halted, Pending, NoCheckpoint, Unfinished, Expired, Exists, NoSuchName, ReadFault, WriteFault, HostFault, InDoubt, KernelRefused, NotVerified, Damaged, HardwareDiffers, OutOfMemory}
 use Rattle.answer_text.specs.Speaking.{Spoken}
@@ -44,19 +46,35 @@ err_noted order (Damaged area) other = refl
 err_noted order (HardwareDiffers names) other = refl
 err_noted order OutOfMemory other = inr refl
 
+-- the errors of an order that evaluates no policy, or whose policy has no notes
+abbrev pub Plain : Run → Result Order Cause → Type 0
+Plain r order = (cause : Cause) (text : Text) → ErrText order cause text → ErrTextOn (Grounds r order) order cause text
+
+-- an input that isn't read has no notes
+pub unread_line : (on : NetData → Type 0) (order : Result Order Cause) → ErrTextOn on order ReadFault (error_line ReadFault)
+unread_line on (Ok (planning_policy p in_batch)) = refl
+unread_line on (Ok (applying_policy p opts)) = refl
+unread_line on order = refl
+
+-- memory may run out before the notes
+pub starved_line : (on : NetData → Type 0) (order : Result Order Cause) → ErrTextOn on order OutOfMemory (error_line OutOfMemory)
+starved_line on (Ok (planning_policy p in_batch)) = inl refl
+starved_line on (Ok (applying_policy p opts)) = inl refl
+starved_line on order = inl refl
+
 -- a command that is done was told
-pub told_done : (r : Run) (order : Result Order Cause) (said : Said) (text notes : Text) → Says said text → notes ≡ note_lines (notes_of order)
+pub told_done : (r : Run) (order : Result Order Cause) → Plain r order → (said : Said) (text notes : Text) → Says said text → notes ≡ note_lines (notes_of order)
     → Spoken r.sinks_tell Done text (notes ++ error_line Done) r.out r.out_after r.err r.err_after r.report → Told r order (Ok said)
-told_done r order said text notes says same spoken = record {
+told_done r order plain said text notes says same spoken = record {
   out = text;
   err = notes ++ error_line Done;
   is_out = says;
-  is_err = ap (λ (bytes : Text). bytes ++ error_line Done) same;
+  is_err = plain Done (notes ++ error_line Done) (ap (λ (bytes : Text). bytes ++ error_line Done) same);
   written = written r (Ok said) text (notes ++ error_line Done) spoken;
 }
 
 -- a refusal was told: its text is the line with the notes, or the line alone where that may come
-pub told_refused : (r : Run) (order : Result Order Cause) (cause : Cause) (notes : Text) → ErrText order cause (notes ++ error_line cause)
+pub told_refused : (r : Run) (order : Result Order Cause) (cause : Cause) (notes : Text) → ErrTextOn (Grounds r order) order cause (notes ++ error_line cause)
     → Spoken r.sinks_tell cause [] (notes ++ error_line cause) r.out r.out_after r.err r.err_after r.report → Told r order (Err cause)
 told_refused r order cause notes is_err spoken = record {
   out = [];
@@ -65,3 +83,9 @@ told_refused r order cause notes is_err spoken = record {
   is_err = is_err;
   written = written r (Err cause) [] (notes ++ error_line cause) spoken;
 }
+
+-- a refusal was told after the notes of its document
+pub told_noted : (r : Run) (order : Result Order Cause) → Plain r order → (cause : Cause) (notes : Text) → notes ≡ note_lines (notes_of order) → cause ≢ ReadFault
+    → Spoken r.sinks_tell cause [] (notes ++ error_line cause) r.out r.out_after r.err r.err_after r.report → Told r order (Err cause)
+told_noted r order plain cause notes same other spoken =
+    told_refused r order cause notes (plain cause (notes ++ error_line cause) (subst (λ (n : Text). ErrText order cause (n ++ error_line cause)) (sym same) (err_noted order cause other))) spoken

@@ -29,18 +29,21 @@ use Rattle.engine_model.specs.declared.CheckFault.{CheckFault}
 use Rattle.engine_model.specs.declared.CommitFault.{CommitFault}
 use Rattle.engine_model.specs.declared.CommitFault.TheVariants as co
 use Rattle.engine_model.specs.declared.Left.TheVariants as side
-use Rattle.top_model.specs.Said.{committed as said_committed, rolled_back, checked, said_applied, said_recovered}
-use Rattle.top_model.specs.Orders.{Order, showing, planning, simulating, applying, committing, rolling_back, recovering, checking, making, generating}
-use Rattle.top_model.specs.Machine.{told, apply_cause, commit_cause, back_cause, check_cause, make_on, machine_of, first_net}
+use Rattle.top_model.specs.Said.{Said, committed as said_committed, rolled_back, checked, said_applied, said_recovered}
+use Rattle.engine_model.specs.declared.ApplyOpts.{ApplyOpts}
+use Rattle.policy_model.specs.Values.{PolicyData}
+use Rattle.top_model.specs.Orders.{Order, showing, planning, evaluating, planning_policy, applying_policy, simulating, applying, committing, rolling_back, recovering, checking, making, generating}
+use Rattle.top_model.specs.Machine.{told, told_of, apply_policy, apply_cause, commit_cause, back_cause, check_cause, make_on, machine_of, first_net}
 use Rattle.top_model.specs.Texts.{status_of}
 use Rattle.top_model.specs.Runs.{Run, reads}
 use Rattle.top_model.specs.Told.{Answer, cause_of}
 use Rattle.top_model.specs.Causes.{Expects}
-use Rattle.top_model.specs.WholeRuns.{Ran, ApplyEnds, CommitEnds, BackEnds, MakeEnds, Ends, ReachedFrom}
+use Rattle.top_model.specs.WholeRuns.{Ran, ApplyEnds, PolicyEnds, CommitEnds, BackEnds, MakeEnds, Ends, ReachedFrom}
 use Rattle.top_model.specs.ScriptFaults.{is_fault_status, is_unread, is_fault_step, IsLoose, IsExplained, ExplainedFrom}
 use Rattle.top_model.specs.declared.report.Cause.{Cause}
 use Rattle.top_model.specs.declared.report.Cause.TheVariants.{ReadFault, HostFault, InDoubt, KernelRefused, NotVerified, OutOfMemory}
-use Rattle.top_model.proofs.lemmas.Firm.{Firm, Saved, Closed, kin, after_of, apply_to, closed_taken, back_to, Applies, it_waits, it_merges, applies, changed_when}
+use Rattle.top_model.proofs.lemmas.Firm.{Firm, Saved, Closed, kin, after_of, apply_to, policy_to, closed_taken, back_to, Applies, it_waits, it_merges, applies, changed_when}
+use Rattle.top_model.proofs.lemmas.Deriving.{Derives, it_waits as policy_waits, it_refuses, it_merges as policy_merges, derives}
 use Rattle.top_model.proofs.lemmas.Reaching.{Led}
 
 none_some : (net : NetData) → None ≡ Some net → ⊥
@@ -70,6 +73,26 @@ module _ (now : ℕ) (e : Standing) (firm : Firm e) (rose : Type 0) where
     by_applies : Applies a e → OfApply (apply a e)
     by_applies (it_waits deadline is stands) = subst OfApply (sym is) stands
     by_applies (it_merges from is stands) = subst OfApply (sym is) (by_merge from (merge from a.doc) stands is)
+
+  module _ (p : PolicyData) (opts : ApplyOpts) where
+    abbrev OfPolicy : Outcome Said Cause → Type 0
+    OfPolicy o = PolicyEnds opts now (apply_policy p opts now e).after e rose o.answer o.after
+
+    abbrev answers_as : Outcome Applied ApplyFault → Outcome Said Cause
+    answers_as outcome = told_of said_applied apply_cause outcome
+
+    policy_change : (a : Asked) (from to : NetData) (no_commit : Bool) → apply_policy p opts now e ≡ answers_as (changed_when a from to no_commit) → OfPolicy (answers_as (changed_when a from to no_commit))
+    policy_change a from to true is = sym (ap (λ (o : Outcome Said Cause). o.after) is)
+    policy_change a from to false is = sym (ap (λ (o : Outcome Said Cause). o.after) is)
+
+    policy_merge : (a : Asked) (from : NetData) (m : Result NetData Refused) → settled now e ≡ Some (restored_to from) → apply_policy p opts now e ≡ answers_as (merged_as a from m) → OfPolicy (answers_as (merged_as a from m))
+    policy_merge a from (Ok to) stands is = policy_change a from to a.opts.no_commit is
+    policy_merge a from (Err refused) stands is = stands
+
+    by_policy : Derives p opts now e → OfPolicy (apply_policy p opts now e)
+    by_policy (policy_waits deadline is stands) = subst OfPolicy (sym is) stands
+    by_policy (it_refuses from fault is stands) = subst OfPolicy (sym is) stands
+    by_policy (policy_merges from doc reads is stands) = subst OfPolicy (sym is) (policy_merge (asked doc opts now) from (merge from doc) stands is)
 
   abbrev OfCommit : Outcome ⊤ CommitFault → Type 0
   OfCommit o = CommitEnds now e (told (λ (x : ⊤). said_committed) commit_cause o.answer) o.after
@@ -120,6 +143,9 @@ module _ (now : ℕ) (e : Standing) (firm : Firm e) (rose : Type 0) where
 
   by_order : (order : Result Order Cause) → Ends now e rose order (machine_of now order e).answer (after_of now order e)
   by_order (Ok (applying doc opts)) = by_applies (asked doc opts now) (applies (asked doc opts now) e firm)
+  by_order (Ok (applying_policy p opts)) = by_policy p opts (derives p opts now e firm)
+  by_order (Ok (evaluating p)) = refl
+  by_order (Ok (planning_policy p in_batch)) = refl
   by_order (Ok committing) = by_commit e.cell refl
   by_order (Ok rolling_back) = by_rollback e.cell refl
   by_order (Ok recovering) = by_recover e.cell refl refl
@@ -213,6 +239,10 @@ module _ (now : ℕ) (e r : Standing) (firm : Firm e) (other : Firm r) (like : A
   closed_status saved closed_r closed_e (Ok (applying doc opts)) =
       let a = asked doc opts now in
       inr (ap (λ (o : Outcome Applied ApplyFault). status_of (cause_of (told said_applied apply_cause o.answer))) (apply_to r saved other.backed closed_r a ∙ sym (apply_to e saved firm.backed closed_e a)))
+  closed_status saved closed_r closed_e (Ok (applying_policy p opts)) =
+      inr (ap (λ (o : Outcome Said Cause). status_of (cause_of o.answer)) (policy_to r saved other.backed closed_r p opts now ∙ sym (policy_to e saved firm.backed closed_e p opts now)))
+  closed_status saved closed_r closed_e (Ok (evaluating p)) = inl tt
+  closed_status saved closed_r closed_e (Ok (planning_policy p in_batch)) = inl tt
   closed_status saved closed_r closed_e (Ok committing) = inr (commit_three now r saved other closed_r ∙ sym (commit_three now e saved firm closed_e))
   closed_status saved closed_r closed_e (Ok rolling_back) = inl tt
   closed_status saved closed_r closed_e (Ok recovering) = inr (recover_zero now r saved other closed_r ∙ sym (recover_zero now e saved firm closed_e))

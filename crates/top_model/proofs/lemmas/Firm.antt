@@ -26,8 +26,11 @@ use Rattle.engine_model.specs.Stations.{at}
 use Rattle.engine_model.specs.Exit.{Unsettled}
 use Rattle.engine_model.proofs.lemmas.Leading.{alike_is}
 use Rattle.engine_model.proofs.lemmas.SameDevices.{differing_none}
-use Rattle.top_model.specs.Orders.{Order, showing, planning, simulating, applying, committing, rolling_back, recovering, checking, making, generating}
-use Rattle.top_model.specs.Machine.{make_on, machine_of}
+use Rattle.engine_model.specs.declared.ApplyOpts.{ApplyOpts}
+use Rattle.policy_model.specs.Values.{PolicyData}
+use Rattle.top_model.specs.Said.{Said}
+use Rattle.top_model.specs.Orders.{Order, showing, planning, evaluating, planning_policy, applying_policy, simulating, applying, committing, rolling_back, recovering, checking, making, generating}
+use Rattle.top_model.specs.Machine.{apply_on, apply_settling, apply_policy, make_on, machine_of}
 use Rattle.top_model.specs.declared.report.Cause.{Cause}
 use Rattle.top_model.proofs.lemmas.Settles.{same_some}
 
@@ -189,6 +192,17 @@ module _ (e : Standing) (saved : NetData) (backed : IsBacked e) (closed : Closed
   pub apply_to : (a : Asked) → apply a e ≡ merged_as a saved (merge saved a.doc)
   apply_to a = apply_cell_to a e.cell refl
 
+  policy_cell_to : (p : PolicyData) (opts : ApplyOpts) (now : ℕ) (cell : Option Checkpoint) → e.cell ≡ cell
+      → apply_settling p opts now (recover_cell now e cell) ≡ apply_on p opts now (restored_to saved) (Some saved)
+  policy_cell_to p opts now None is = ap (λ (x : Standing). apply_on p opts now x x.net) (closed_none is)
+  policy_cell_to p opts now (Some c) is =
+      let t = closed_taken c is now in
+      ap (λ (b : Bool). apply_settling p opts now (recovered e c b)) t.0 ∙ ap (apply_settling p opts now) (back_to Restored e c saved t.1)
+
+  -- a policy is evaluated on that network
+  pub policy_to : (p : PolicyData) (opts : ApplyOpts) (now : ℕ) → apply_policy p opts now e ≡ apply_on p opts now (restored_to saved) (Some saved)
+  policy_to p opts now = policy_cell_to p opts now e.cell refl
+
 -- ---- after each order
 
 abbrev pub after_of : ℕ → Result Order Cause → Standing → Standing
@@ -202,6 +216,9 @@ module _ (now : ℕ) (e r : Standing) (firm : Firm e) (other : Firm r) (like : A
   closed_after saved closed_r closed_e (Ok (applying doc opts)) =
       let a = asked doc opts now in
       alike_is (apply a r).after (apply a e).after (ap (λ (o : Outcome Applied ApplyFault). o.after) (apply_to r saved other.backed closed_r a ∙ sym (apply_to e saved firm.backed closed_e a)))
+  closed_after saved closed_r closed_e (Ok (applying_policy p opts)) =
+      alike_is (apply_policy p opts now r).after (apply_policy p opts now e).after
+      (ap (λ (o : Outcome Said Cause). o.after) (policy_to r saved other.backed closed_r p opts now ∙ sym (policy_to e saved firm.backed closed_e p opts now)))
   closed_after saved closed_r closed_e (Ok committing) =
       λ m. ap (settled m) (commit_to r saved other.backed closed_r now) ∙ like m ∙ sym (ap (settled m) (commit_to e saved firm.backed closed_e now))
   closed_after saved closed_r closed_e (Ok rolling_back) =
@@ -213,6 +230,8 @@ module _ (now : ℕ) (e r : Standing) (firm : Firm e) (other : Firm r) (like : A
   closed_after saved closed_r closed_e (Ok checking) = like
   closed_after saved closed_r closed_e (Ok (showing only json)) = like
   closed_after saved closed_r closed_e (Ok (planning doc in_batch)) = like
+  closed_after saved closed_r closed_e (Ok (evaluating p)) = like
+  closed_after saved closed_r closed_e (Ok (planning_policy p in_batch)) = like
   closed_after saved closed_r closed_e (Ok (simulating calls)) = like
   closed_after saved closed_r closed_e (Ok (generating devices first second)) = like
   closed_after saved closed_r closed_e (Err refusal) = like
@@ -229,6 +248,13 @@ module _ (now : ℕ) (e r : Standing) (firm : Firm e) (other : Firm r) (like : A
   same_apply a = elim (kin e r like firm.backed) as (λ v. (apply a r).after ≡ (apply a e).after) [
     | inl same ↦ ap (λ (x : Standing). (apply a x).after) same
     | inr closed ↦ ap (λ (o : Outcome Applied ApplyFault). o.after) (apply_to r closed.0 other.backed closed.1 a ∙ sym (apply_to e closed.0 firm.backed closed.2 a))
+  ]
+
+  -- and so does an apply of a policy
+  pub same_policy : (p : PolicyData) (opts : ApplyOpts) → (apply_policy p opts now r).after ≡ (apply_policy p opts now e).after
+  same_policy p opts = elim (kin e r like firm.backed) as (λ v. (apply_policy p opts now r).after ≡ (apply_policy p opts now e).after) [
+    | inl same ↦ ap (λ (x : Standing). (apply_policy p opts now x).after) same
+    | inr closed ↦ ap (λ (o : Outcome Said Cause). o.after) (policy_to r closed.0 other.backed closed.1 p opts now ∙ sym (policy_to e closed.0 firm.backed closed.2 p opts now))
   ]
 
 -- ---- which states are firm
@@ -373,7 +399,8 @@ changed_to : (a : Asked) (from to : NetData) (no_commit : Bool) → a.opts.no_co
 changed_to a from to true is y same = is_left to (same ∙ changed_is a from to true is)
 changed_to a from to false is y same = is_bare (subst Firm (sym (same ∙ changed_is a from to false is)) (firm_restored to))
 
-merged_to : (a : Asked) (from : NetData) (m : Result NetData Refused) (y : Standing) → y ≡ (merged_as a from m).after → MergedTo a from y
+-- what the merge of an apply leads to
+pub merged_to : (a : Asked) (from : NetData) (m : Result NetData Refused) (y : Standing) → y ≡ (merged_as a from m).after → MergedTo a from y
 merged_to a from (Ok to) y same = changed_to a from to a.opts.no_commit refl y same
 merged_to a from (Err refused) y same = is_bare (subst Firm (sym same) (firm_restored from))
 
@@ -394,7 +421,8 @@ module _ (a : Asked) (e y p : Standing) (like : Alike y p) (backed : IsBacked p)
       let one : from ≡ saved = same_saved y c from saved t is (same_some (by_taken_back y t from) (restored_to saved) (sym (settled_some 0 y c from is refl) ∙ closed_y 0)) in
       inr (from, stands, λ m. ap (λ (n : NetData). Some (restored_to n)) one ∙ sym (closed_p m))
 
-  left_or_back : (from : NetData) → settled a.now e ≡ Some (restored_to from) → MergedTo a from y → FirmOrBack a e y p
+  -- of what a merge leads to
+  pub left_or_back : (from : NetData) → settled a.now e ≡ Some (restored_to from) → MergedTo a from y → FirmOrBack a e y p
   left_or_back from stands (is_bare firm) = inl firm
   left_or_back from stands (is_left to same) = elim (kin p y like backed) as (λ v. FirmOrBack a e y p) [
     | inl one ↦ inl (record { net = to; is_net = ap (λ (x : Standing). x.net) same; backed = subst IsBacked (sym one) backed })
@@ -408,13 +436,15 @@ module _ (a : Asked) (e y p : Standing) (like : Alike y p) (backed : IsBacked p)
   pub firm_or_back : Firm e → y ≡ (apply a e).after → FirmOrBack a e y p
   firm_or_back firm same = by_applies firm same (applies a e firm)
 
+-- what a merge leads to is firm where a recovery leads back from it
+pub firm_merged : (a : Asked) (from : NetData) (y : Standing) → IsBacked y → MergedTo a from y → Firm y
+firm_merged a from y backed (is_bare f) = f
+firm_merged a from y backed (is_left to gives) = record { net = to; is_net = ap (λ (x : Standing). x.net) gives; backed = backed }
+
 by_applied : (a : Asked) (e y : Standing) → Firm e → y ≡ (apply a e).after → IsBacked y → Applies a e → Firm y
 by_applied a e y firm same backed (it_waits deadline is stands) = subst Firm (sym (same ∙ ap (λ (o : Outcome Applied ApplyFault). o.after) is)) firm
-by_applied a e y firm same backed (it_merges from is stands) = firm_merged (merged_to a from (merge from a.doc) y (same ∙ ap (λ (o : Outcome Applied ApplyFault). o.after) is))
-  where
-    firm_merged : MergedTo a from y → Firm y
-    firm_merged (is_bare f) = f
-    firm_merged (is_left to gives) = record { net = to; is_net = ap (λ (x : Standing). x.net) gives; backed = backed }
+by_applied a e y firm same backed (it_merges from is stands) =
+    firm_merged a from y backed (merged_to a from (merge from a.doc) y (same ∙ ap (λ (o : Outcome Applied ApplyFault). o.after) is))
 
 -- what an apply leads to is firm where a recovery leads back from it
 pub firm_applied : (a : Asked) (e y : Standing) → Firm e → y ≡ (apply a e).after → IsBacked y → Firm y

@@ -3,7 +3,7 @@ use Rattle.std.proofs.Common.{◌≡◌, ◌∙◌, refl, ap, subst, List, [], �
 use Rattle.checkpoint_cell.specs.Settled.{Standing}
 use Rattle.top_model.specs.Orders.{Text, Inputs}
 use Rattle.top_model.specs.Lines.{Timed}
-use Rattle.top_model.specs.Scripts.{order_in, StepTexts, step_outcome, Folds}
+use Rattle.top_model.specs.Scripts.{order_in, StepGrounds, StepTexts, step_outcome, Folds}
 
 with_nothing : (xs : Text) → xs ≡ xs ++ []
 with_nothing [] = refl
@@ -15,10 +15,10 @@ grouped (x ∷ xs) ys zs = ap (λ (t : Text). x ∷ t) (grouped xs ys zs)
 
 module _ (inputs : Inputs) (step : Timed) where
   pub folds_on : (done : List Timed) (e last : Standing) (out err more_out more_err : Text) → Folds inputs done e out err last
-      → StepTexts (order_in inputs step) (step_outcome inputs step last).answer more_out more_err
+      → StepTexts (StepGrounds inputs step last) (order_in inputs step) (step_outcome inputs step last).answer more_out more_err
       → Folds inputs (done ++ step ∷ []) e (out ++ more_out) (err ++ more_err) (step_outcome inputs step last).after
   folds_on [] e last out err more_out more_err folds texts =
-      let on : Standing → Type 0 = λ x. StepTexts (order_in inputs step) (step_outcome inputs step x).answer more_out more_err in (
+      let on : Standing → Type 0 = λ x. StepTexts (StepGrounds inputs step x) (order_in inputs step) (step_outcome inputs step x).answer more_out more_err in (
         (more_out, more_err),
         ([], []),
         subst on folds.0 texts,

@@ -20,13 +20,14 @@ use Rattle.engine_model.specs.declared.BackFault.{BackFault}
 use Rattle.engine_model.specs.declared.CommitFault.{CommitFault}
 use Rattle.engine_model.specs.declared.CommitFault.TheVariants as co
 use Rattle.engine_model.specs.declared.Left.TheVariants as side
-use Rattle.top_model.specs.Orders.{Order, showing, planning, simulating, applying, committing, rolling_back, recovering, checking, making, generating}
-use Rattle.top_model.specs.Machine.{first_net}
+use Rattle.policy_model.specs.Values.{PolicyData}
+use Rattle.top_model.specs.Orders.{Order, document_on, showing, planning, evaluating, planning_policy, applying_policy, simulating, applying, committing, rolling_back, recovering, checking, making, generating}
+use Rattle.top_model.specs.Machine.{apply_read, apply_on, apply_settling, apply_policy, first_net}
 use Rattle.top_model.specs.Told.{Answer}
 use Rattle.top_model.specs.Exits.{Stations}
-use Rattle.top_model.specs.WholeRuns.{Ran, ApplyEnds, CommitEnds, BackEnds, MakeEnds, Ends, MayPass, IsChangeOf, Among}
+use Rattle.top_model.specs.WholeRuns.{Ran, ApplyEnds, PolicyEnds, CommitEnds, BackEnds, MakeEnds, Ends, MayPass, IsChangeOf, Among}
 use Rattle.top_model.specs.declared.report.Cause.{Cause}
-use Rattle.top_model.specs.declared.report.Cause.TheVariants.{MergeRefused, Pending, HostFault, InDoubt, OutOfMemory}
+use Rattle.top_model.specs.declared.report.Cause.TheVariants.{DocRefused, MergeRefused, Pending, HostFault, InDoubt, OutOfMemory}
 use Rattle.top_model.proofs.lemmas.Firm.{IsBacked, by_taken_back, settled_some, changed_when, self_or_back}
 
 some_none : {A : Type 0} (x : A) → None ≡ Some x → ⊥
@@ -53,7 +54,7 @@ module _ (ran : Ran) (doc : Doc) (opts : ApplyOpts) (is : ran.order ≡ Ok (appl
   Ask = asked doc opts ran.step.at
 
   grown_merge : (from : NetData) (m : Result NetData Refused) → merge from doc ≡ m → Grown ran e (merged_as Ask from m).after
-  grown_merge from (Ok to) merges = inr (inr (inr (record { doc = doc; opts = opts; is = is; from = from; to = to; merges = merges; stands = refl })))
+  grown_merge from (Ok to) merges = inr (inr (inr (record { doc = doc; opts = opts; from = from; is = inl is; to = to; merges = merges; stands = refl })))
   grown_merge from (Err refused) merges = inl (from, refl)
 
   grown_change : (net : Option NetData) → Grown ran e (change Ask e net).after
@@ -93,6 +94,61 @@ module _ (ran : Ran) (doc : Doc) (opts : ApplyOpts) (is : ran.order ≡ Ok (appl
   grown_ends rose (Err InDoubt) x (inl settles) = grown_settled ran Ask.now e x settles
   grown_ends rose (Err InDoubt) x (inr changes) = grown_apply x changes
   grown_ends rose (Err cause) x ends = inr (inl ends)
+
+-- ---- an apply of a policy
+
+module _ (ran : Ran) (p : PolicyData) (opts : ApplyOpts) (is : ran.order ≡ Ok (applying_policy p opts)) (e : Standing) where
+  abbrev At : ℕ
+  At = ran.step.at
+
+  policy_merge : (from : NetData) (doc : Doc) → document_on p from ≡ Ok doc → (m : Result NetData Refused) → merge from doc ≡ m → Grown ran e (merged_as (asked doc opts At) from m).after
+  policy_merge from doc reads (Ok to) merges = inr (inr (inr (record { doc = doc; opts = opts; from = from; is = inr (p, is, reads); to = to; merges = merges; stands = refl })))
+  policy_merge from doc reads (Err refused) merges = inl (from, refl)
+
+  policy_read : (from : NetData) (m : Result Doc Cause) → document_on p from ≡ m → Grown ran e (apply_read opts At (restored_to from) m).after
+  policy_read from (Ok doc) reads = policy_merge from doc reads (merge from doc) refl
+  policy_read from (Err cause) reads = inl (from, refl)
+
+  policy_net : e.cell ≡ None → (net : Option NetData) → e.net ≡ net → Grown ran e (apply_on p opts At e net).after
+  policy_net none None net = inr (inl refl)
+  policy_net none (Some from) net =
+      let same : e ≡ restored_to from = λ i. record { net = net i; cell = none i } in
+      subst (λ (x : Standing). Grown ran e (apply_read opts At x (document_on p from)).after) (sym same) (policy_read from (document_on p from) refl)
+
+  policy_restore : (m : Result NetData BackFault) → Grown ran e (apply_settling p opts At (restored_as Restored e m)).after
+  policy_restore (Ok saved) = policy_read saved (document_on p saved) refl
+  policy_restore (Err fault) = inr (inl refl)
+
+  abbrev settled_by : Checkpoint → Bool → Outcome Recovered BackFault
+  settled_by c taken = if taken then restore Restored e c else stays e (Ok (Waits c.deadline))
+
+  policy_taken : (c : Checkpoint) (taken : Bool) → Grown ran e (apply_settling p opts At (settled_by c taken)).after
+  policy_taken c true = policy_restore (saved_on c.net e.net)
+  policy_taken c false = inr (inl refl)
+
+  policy_cell : (cell : Option Checkpoint) → e.cell ≡ cell → Grown ran e (apply_settling p opts At (recover_cell At e cell)).after
+  policy_cell None none = policy_net none e.net refl
+  policy_cell (Some c) some = policy_taken c (taken_back At c.phase c.made c.deadline)
+
+  grown_policy : (x : Standing) → x ≡ (apply_policy p opts At e).after → Grown ran e x
+  grown_policy x same = subst (Grown ran e) (sym same) (policy_cell e.cell refl)
+
+  policy_ends : (rose : Type 0) (answer : Answer) (x : Standing) → PolicyEnds opts At (apply_policy p opts At e).after e rose answer x → Grown ran e x
+  policy_ends rose (Ok said) x ends = grown_policy x ends
+  policy_ends rose (Err (Pending d)) x ends = grown_settled ran At e x ends
+  policy_ends rose (Err (DocRefused fault)) x ends = grown_settled ran At e x ends
+  policy_ends rose (Err (MergeRefused refused)) x ends = grown_settled ran At e x ends
+  policy_ends rose (Err (HostFault side.RolledBack)) x ends = grown_settled ran At e x ends
+  policy_ends rose (Err (HostFault side.Pending)) x (inl stood) = inr (inl stood.1)
+  policy_ends rose (Err (HostFault side.Pending)) x (inr (inl settles)) = grown_settled ran At e x settles
+  policy_ends rose (Err (HostFault side.Pending)) x (inr (inr marked)) = grown_policy x marked.2
+  policy_ends rose (Err (HostFault side.NotBegun)) x ends = inr (inl ends)
+  policy_ends rose (Err OutOfMemory) x (inl stood) = inr (inl stood)
+  policy_ends rose (Err OutOfMemory) x (inr (inl settles)) = grown_settled ran At e x settles
+  policy_ends rose (Err OutOfMemory) x (inr (inr marked)) = grown_policy x marked.2
+  policy_ends rose (Err InDoubt) x (inl settles) = grown_settled ran At e x settles
+  policy_ends rose (Err InDoubt) x (inr changes) = grown_policy x changes
+  policy_ends rose (Err cause) x ends = inr (inl ends)
 
 -- ---- a commit, and what takes back
 
@@ -164,6 +220,9 @@ module _ (ran : Ran) (e : Standing) where
 
   grown_exit : (rose : Type 0) (order : Result Order Cause) → ran.order ≡ order → (x : Standing) → Ends ran.step.at e rose order ran.answer x → Grown ran e x
   grown_exit rose (Ok (applying doc opts)) is x ends = grown_ends ran doc opts is e rose ran.answer x ends
+  grown_exit rose (Ok (applying_policy p opts)) is x ends = policy_ends ran p opts is e rose ran.answer x ends
+  grown_exit rose (Ok (evaluating p)) is x ends = inr (inl ends)
+  grown_exit rose (Ok (planning_policy p in_batch)) is x ends = inr (inl ends)
   grown_exit rose (Ok committing) is x ends = commit_ends ran.step.at ran.answer x ends
   grown_exit rose (Ok rolling_back) is x ends = back_ends (rollback e).after grown_rollback ran.answer x ends
   grown_exit rose (Ok recovering) is x ends = back_ends (recover ran.step.at e).after (grown_recover ran.step.at) ran.answer x ends
@@ -181,6 +240,13 @@ module _ (ran : Ran) (e : Standing) where
   grown_station has (Ok (applying doc opts)) is x (inl stood) = inr (inl stood)
   grown_station has (Ok (applying doc opts)) is x (inr (inl settles)) = grown_settled ran ran.step.at e x settles
   grown_station has (Ok (applying doc opts)) is x (inr (inr changes)) = grown_apply ran doc opts is e x changes
+  grown_station has (Ok (applying_policy p opts)) is x (inl stood) = inr (inl stood)
+  grown_station has (Ok (applying_policy p opts)) is x (inr (inl settles)) = grown_settled ran ran.step.at e x settles
+  grown_station has (Ok (applying_policy p opts)) is x (inr (inr changes)) = grown_policy ran p opts is e x changes
+  grown_station has (Ok (evaluating p)) is x (inl stood) = inr (inl stood)
+  grown_station has (Ok (evaluating p)) is x (inr stood) = inr (inl stood)
+  grown_station has (Ok (planning_policy p in_batch)) is x (inl stood) = inr (inl stood)
+  grown_station has (Ok (planning_policy p in_batch)) is x (inr stood) = inr (inl stood)
   grown_station has (Ok committing) is x (inl stood) = inr (inl stood)
   grown_station has (Ok committing) is x (inr ended) = grown_commit ran.step.at x ended
   grown_station has (Ok rolling_back) is x (inl stood) = inr (inl stood)

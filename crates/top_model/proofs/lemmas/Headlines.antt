@@ -10,28 +10,33 @@ use Rattle.checkpoint_cell.specs.Settled.{Standing, standing, restored_to, settl
 use Rattle.engine_model.specs.Machine.{Asked, Outcome, asked, waiting, merged_as, apply, rollback, recover, deadline_of}
 use Rattle.engine_model.specs.Stations.{Stands, Entry, Near, Within, Only, Before, Settled, Either}
 use Rattle.engine_model.specs.Exit.{OnWay, Marked}
+use Rattle.engine_model.specs.Stations.{Kept as KeptOn}
+use Rattle.policy_model.specs.Values.{PolicyData}
 use Rattle.engine_model.specs.Sound.{Fit}
 use Rattle.engine_model.specs.declared.BackFault.{BackFault}
 use Rattle.engine_model.specs.declared.ApplyOpts.{ApplyOpts}
 use Rattle.engine_model.specs.declared.Applied.{Applied}
 use Rattle.engine_model.specs.declared.ApplyFault.{ApplyFault}
+use Rattle.engine_model.specs.declared.ApplyFault.TheVariants as af
 use Rattle.engine_model.specs.declared.Left.{Left}
 use Rattle.engine_model.specs.declared.Left.TheVariants as side
 use Rattle.top_model.specs.Said.{Said, rolled_back, said_applied, said_recovered}
-use Rattle.top_model.specs.Orders.{Order, applying, rolling_back, recovering}
-use Rattle.top_model.specs.Machine.{told, apply_cause, back_cause, machine_of}
+use Rattle.top_model.specs.Orders.{Order, AppliesTo, applying, applying_policy, rolling_back, recovering}
+use Rattle.top_model.specs.Machine.{told, told_of, apply_policy, apply_cause, back_cause, machine_of}
 use Rattle.top_model.specs.Texts.{status_of}
 use Rattle.top_model.specs.Runs.{Run, Asks, Alone, Quiet, HostRose, HostRoseTwice, SourceRose, reads, entry, left_at_exit}
 use Rattle.top_model.specs.Told.{Answer, cause_of}
 use Rattle.top_model.specs.Causes.{expected, Expects}
-use Rattle.top_model.specs.Exits.{ApplyLeaves, BackLeaves, Leaves, KeptBy}
+use Rattle.top_model.specs.Exits.{ApplyLeaves, PolicyLeaves, BackLeaves, Leaves, KeptBy}
 use Rattle.top_model.specs.Answered.{Answered}
 use Rattle.top_model.specs.Headline.{IsApply, after, IsHindered, Leaves as Leaving, RanOut, RefusedByRule, Reached, Accepted, Failed, Expired, Stopped, Merged, OfApply, Headline}
 use Rattle.top_model.specs.declared.report.Cause.{Cause}
-use Rattle.top_model.specs.declared.report.Cause.TheVariants.{Done, MergeRefused, Pending, ReadFault, WriteFault, HostFault, InDoubt, KernelRefused, NotVerified, Damaged, OutOfMemory}
+use Rattle.top_model.specs.declared.report.Cause.TheVariants.{Done, DocRefused, MergeRefused, Pending, ReadFault, WriteFault, HostFault, InDoubt, KernelRefused, NotVerified, Damaged, OutOfMemory}
 use Rattle.top_model.proofs.lemmas.Leaving.{wider, on_the_way}
 use Rattle.top_model.proofs.lemmas.Reports.{rests, order_is, reported, told_or_cut, is_done}
 use Rattle.top_model.proofs.lemmas.Promised.{committed_state}
+use Rattle.top_model.specs.declared.report.DocFault.{DocFault}
+use Rattle.top_model.proofs.lemmas.Deriving.{policy_is}
 use Rattle.top_model.proofs.lemmas.Settles.{same_some, apply_is, recover_settles, rollback_restores}
 
 -- ---- reports
@@ -148,24 +153,118 @@ module _ (a : Asked) (entry : Entry) (left : Stands) (rose twice : Type 0) where
   fallen_fault side.RolledBack x = from_fallen (Settled a.now entry) (λ s is. inr (inl is)) x
   fallen_fault side.Pending x = fallen_way twice x
 
--- ---- an apply of a document that was read, at which no change waits
+-- ---- an apply of a policy that is a document on the settled network is the apply of this document
+
+-- two orders of which the machine makes the same
+expects_same : (r : Run) (one two : Result Order Cause) → machine_of r.now one (reads r) ≡ machine_of r.now two (reads r) → (answer : Answer) → Expects r one answer → Expects r two answer
+expects_same r one two same (Err ReadFault) x = x
+expects_same r one two same (Err (HostFault left)) x = x
+expects_same r one two same (Err InDoubt) x = x
+expects_same r one two same (Err (KernelRefused k n left)) x = x
+expects_same r one two same (Err (NotVerified found left)) x = x
+expects_same r one two same (Err OutOfMemory) x = x
+expects_same r one two same answer x = record { answer = ap (λ (o : Outcome Said Cause). o.answer) (sym same) ∙ x.answer; after = x.after ∙ ap (λ (o : Outcome Said Cause). o.after) same }
+
+-- an apply of a document is never refused as one
+never_refused : (fault : DocFault) (result : Result Applied ApplyFault) → answer_of result ≡ Err (DocRefused fault) → ⊥
+never_refused fault (Ok done) is = cc
+never_refused fault (Err (af.Pending deadline)) is = cc
+never_refused fault (Err (af.MergeRefused refused)) is = cc
+never_refused fault (Err (af.HostFault left)) is = cc
+never_refused fault (Err (af.KernelRefused k n left)) is = cc
+never_refused fault (Err (af.NotVerified found left)) is = cc
+never_refused fault (Err af.InDoubt) is = cc
+never_refused fault (Err (af.Damaged area)) is = cc
+never_refused fault (Err (af.HardwareDiffers names)) is = cc
+never_refused fault (Err af.OutOfMemory) is = cc
+
+module _ (a : Asked) (entry : Entry) (left : Stands) (rose twice : Type 0) where
+  abbrev OfPolicy : Answer → Type 0
+  OfPolicy answer = PolicyLeaves a.opts a.now (apply a entry.reads).after entry left rose twice answer
+
+  leaves_same : (answer : Answer) → ((fault : DocFault) → answer ≡ Err (DocRefused fault) → ⊥) → OfPolicy answer → ApplyLeaves a entry left rose twice answer
+  leaves_same (Ok said) never x = x
+  leaves_same (Err (Pending d)) never x = x
+  leaves_same (Err (DocRefused fault)) never x = absurd (never fault refl)
+  leaves_same (Err (MergeRefused refused)) never x = x
+  leaves_same (Err (Damaged area)) never x = x
+  leaves_same (Err (HostFault side.NotBegun)) never x = x
+  leaves_same (Err (HostFault side.RolledBack)) never x = x
+  leaves_same (Err (HostFault side.Pending)) never x = x
+  leaves_same (Err OutOfMemory) never x = x
+  leaves_same (Err ReadFault) never x = x
+  leaves_same (Err InDoubt) never x = record { to = x.to; near = x.near; net = x.net; changed = x.changed }
+  leaves_same answer never x = absurd x
+
+-- what is said of an apply of this document
+record AsDocument (r : Run) (answer : Answer) (doc : Doc) (opts : ApplyOpts) : Type 0 where
+  expects : Expects r (Ok (applying doc opts)) answer
+  leaves : ApplyLeaves (asked doc opts r.now) (entry r) (left_at_exit r) (HostRose r) (HostRoseTwice r) answer
+  kept : KeptOn (Either (Settled r.now (entry r)) (Only (apply (asked doc opts r.now) (reads r)).after)) r.host r.host_after
+
+-- of a policy
+module _ (r : Run) (answer : Answer) (p : PolicyData) (doc : Doc) (opts : ApplyOpts)
+    (same : apply_policy p opts r.now (reads r) ≡ told_of said_applied apply_cause (apply (asked doc opts r.now) (reads r))) where
+  abbrev As : Asked
+  As = asked doc opts r.now
+
+  same_after : (apply_policy p opts r.now (reads r)).after ≡ (apply As (reads r)).after
+  same_after = ap (λ (o : Outcome Said Cause). o.after) same
+
+  expects_document : Expects r (Ok (applying_policy p opts)) answer → Expects r (Ok (applying doc opts)) answer
+  expects_document x = expects_same r (Ok (applying_policy p opts)) (Ok (applying doc opts)) same answer x
+
+  not_late : Expects r (Ok (applying doc opts)) answer → (fault : DocFault) → answer ≡ Err (DocRefused fault) → ⊥
+  not_late x fault is =
+      let machine : Expects r (Ok (applying doc opts)) (Err (DocRefused fault)) = subst (Expects r (Ok (applying doc opts))) is x in
+      never_refused fault (apply As (reads r)).answer machine.answer
+
+  leaves_document : Expects r (Ok (applying doc opts)) answer → PolicyLeaves opts r.now (apply_policy p opts r.now (reads r)).after (entry r) (left_at_exit r) (HostRose r) (HostRoseTwice r) answer
+      → ApplyLeaves As (entry r) (left_at_exit r) (HostRose r) (HostRoseTwice r) answer
+  leaves_document x l = leaves_same As (entry r) (left_at_exit r) (HostRose r) (HostRoseTwice r) answer (not_late x)
+      (subst (λ (s : Standing). PolicyLeaves opts r.now s (entry r) (left_at_exit r) (HostRose r) (HostRoseTwice r) answer) same_after l)
+
+  kept_document : KeptOn (Either (Settled r.now (entry r)) (Only (apply_policy p opts r.now (reads r)).after)) r.host r.host_after
+      → KeptOn (Either (Settled r.now (entry r)) (Only (apply As (reads r)).after)) r.host r.host_after
+  kept_document k = subst (λ (s : Standing). KeptOn (Either (Settled r.now (entry r)) (Only s)) r.host r.host_after) same_after k
+
+-- of the order that was answered
+module _ (r : Run) (order : Result Order Cause) (answer : Answer) (doc : Doc) (opts : ApplyOpts) (from : NetData) (fit : Fit r.host.state) (stands : settled r.now (reads r) ≡ Some (restored_to from)) where
+  as_document : AppliesTo from order doc opts → Expects r order answer → Leaves r order answer → KeptBy r order answer → AsDocument r answer doc opts
+  as_document (inl is) expects leaves kept =
+      let L : Result Order Cause → Type 0 = λ o. Leaves r o answer in
+      let K : Result Order Cause → Type 0 = λ o. KeptBy r o answer in
+      record { expects = subst (λ o. Expects r o answer) is expects; leaves = subst L is leaves; kept = subst K is kept }
+  as_document (inr policy) expects leaves kept =
+      let p = policy.0 in
+      let L : Result Order Cause → Type 0 = λ o. Leaves r o answer in
+      let K : Result Order Cause → Type 0 = λ o. KeptBy r o answer in
+      let same = policy_is p opts r.now from doc policy.2 r.host.state fit stands in
+      let x = expects_document r answer p doc opts same (subst (λ o. Expects r o answer) policy.1 expects) in
+      record { expects = x; leaves = leaves_document r answer p doc opts same x (subst L policy.1 leaves); kept = kept_document r answer p doc opts same (subst K policy.1 kept) }
+
+-- ---- an apply of a document, at which no change waits
 
 module _ (r : Run) (a : Answered r) (doc : Doc) (opts : ApplyOpts) (from : NetData) (i : IsApply r doc opts from) where
   abbrev Ask : Asked
   Ask = asked doc opts r.now
 
-  order : a.order ≡ Ok (applying doc opts)
-  order = order_is r a (Ok (applying doc opts)) i.asks
+  fit_here : Fit r.host.state
+  fit_here = i.nobody_else.sound.fit r.host.state (a.goes_on.lawful.reads (a.goes_on.tells i.nobody_else.honest))
+
+  document : AsDocument r a.answer doc opts
+  document = let rest = rests r a.order i.nobody_else in
+      as_document r a.order a.answer doc opts from fit_here i.stands (subst (λ (o : Result Order Cause). AppliesTo from o doc opts) (sym (order_is r a i.asks.0 i.asks.2)) i.asks.1) (a.expects rest) (a.leaves rest) (a.kept rest)
 
   expects : Expects r (Ok (applying doc opts)) a.answer
-  expects = subst (λ o. Expects r o a.answer) order (a.expects (rests r a.order i.nobody_else))
+  expects = document.expects
 
   leaves : ApplyLeaves Ask (entry r) (left_at_exit r) (HostRose r) (HostRoseTwice r) a.answer
-  leaves = let P : Result Order Cause → Type 0 = λ o. Leaves r o a.answer in subst P order (a.leaves (rests r a.order i.nobody_else))
+  leaves = document.leaves
 
   -- the machine's apply is the merge's
   merges : apply Ask (reads r) ≡ merged_as Ask from (merge from doc)
-  merges = apply_is Ask from r.host.state (i.nobody_else.sound.fit r.host.state (a.goes_on.lawful.reads (a.goes_on.tells i.nobody_else.honest))) i.stands
+  merges = apply_is Ask from r.host.state fit_here i.stands
 
   after_is : (m : Result NetData Refused) → merge from doc ≡ m → (apply Ask (reads r)).after ≡ (merged_as Ask from m).after
   after_is m is = ap (λ (o : Outcome Applied ApplyFault). o.after) (merges ∙ ap (merged_as Ask from) is)
@@ -261,9 +360,8 @@ module _ (r : Run) (a : Answered r) (doc : Doc) (opts : ApplyOpts) (from : NetDa
 
   stopped : Stopped r doc opts from
   stopped to ok s left =
-      let P : Result Order Cause → Type 0 = λ o. KeptBy r o a.answer in
       let during : Near (Three Ask (entry r) (left_at_exit r) (HostRose r) (HostRoseTwice r)) (standing s) =
-      on_the_way (Either (Settled r.now (entry r)) (Only (apply Ask (reads r)).after)) r.host r.host_after a.goes_on.lawful.stops (subst P order (a.kept (rests r a.order i.nobody_else))) s left in
+      on_the_way (Either (Settled r.now (entry r)) (Only (apply Ask (reads r)).after)) r.host r.host_after a.goes_on.lawful.stops document.kept s left in
       wider (Three Ask (entry r) (left_at_exit r) (HostRose r) (HostRoseTwice r)) (Either (Before (entry r)) (Either (Only (restored_to from)) (Only (after r doc opts from to))))
       (λ x is. elim is as (λ v. Either (Before (entry r)) (Either (Only (restored_to from)) (Only (after r doc opts from to))) x) [
         | inl b ↦ inl b

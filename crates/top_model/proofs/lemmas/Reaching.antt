@@ -1,5 +1,5 @@
 -- One step more of a whole run: what a stop may leave at its exit settles like a state that is reached by it.
-use Rattle.std.proofs.Common.{◌≡◌, ◌∙◌, ◌⊎◌, inl, inr, refl, sym, ap, subst, ℕ, Some, None}
+use Rattle.std.proofs.Common.{◌≡◌, ◌∙◌, ◌⊎◌, inl, inr, refl, sym, ap, subst, ℕ, true, Some, None}
 use Rattle.std.specs.Prelude.{Result, Ok, Err}
 use Rattle.net_model.specs.NetData.{NetData}
 use Rattle.checkpoint_cell.specs.Settled.{Standing, restored_to, settled, Alike}
@@ -7,16 +7,19 @@ use Rattle.engine_model.specs.Machine.{Asked, asked, apply, commit}
 use Rattle.engine_model.specs.Checks.{AsRead}
 use Rattle.engine_model.specs.Stations.{Stands, Entry, Near, Within, Only, Before, BeforeAsRead, Settled, Either, at}
 use Rattle.engine_model.specs.Exit.{OnWay, Unsettled, Marked}
+use Rattle.engine_model.specs.declared.ApplyOpts.{ApplyOpts}
 use Rattle.engine_model.specs.declared.Left.TheVariants as side
+use Rattle.policy_model.specs.Values.{PolicyData}
 use Rattle.top_model.specs.Said.{Said}
-use Rattle.top_model.specs.Orders.{Order, showing, planning, simulating, applying, committing, rolling_back, recovering, checking, making, generating}
-use Rattle.top_model.specs.Machine.{first_net}
+use Rattle.top_model.specs.Orders.{Order, showing, planning, evaluating, planning_policy, applying_policy, simulating, applying, committing, rolling_back, recovering, checking, making, generating}
+use Rattle.top_model.specs.Machine.{first_net, apply_policy}
 use Rattle.top_model.specs.Told.{Answer}
-use Rattle.top_model.specs.Exits.{ApplyLeaves, CommitLeaves, BackLeaves, CheckLeaves, MakeLeaves, MaybeMade, AtExit}
-use Rattle.top_model.specs.WholeRuns.{ApplyEnds, CommitEnds, BackEnds, MakeEnds, Ends}
+use Rattle.top_model.specs.Exits.{ApplyLeaves, PolicyOnWay, PolicyLeaves, CommitLeaves, BackLeaves, CheckLeaves, MakeLeaves, MaybeMade, AtExit}
+use Rattle.top_model.specs.WholeRuns.{ApplyEnds, PolicyMarked, PolicyEnds, CommitEnds, BackEnds, MakeEnds, Ends}
 use Rattle.top_model.specs.declared.report.Cause.{Cause}
-use Rattle.top_model.specs.declared.report.Cause.TheVariants.{ReadFault, MergeRefused, Pending, NoCheckpoint, Unfinished, Expired, Exists, HostFault, InDoubt, Damaged, HardwareDiffers, OutOfMemory}
-use Rattle.top_model.proofs.lemmas.Firm.{IsBacked, Firm, after_of, same_after, same_apply, firm_settled, firm_restored, firm_commit, firm_rollback, firm_recover, firm_or_back, unsettled_or_stays}
+use Rattle.top_model.specs.declared.report.Cause.TheVariants.{ReadFault, DocRefused, MergeRefused, Pending, NoCheckpoint, Unfinished, Expired, Exists, HostFault, InDoubt, Damaged, HardwareDiffers, OutOfMemory}
+use Rattle.top_model.proofs.lemmas.Firm.{IsBacked, Firm, after_of, same_after, same_apply, same_policy, firm_settled, firm_restored, firm_commit, firm_rollback, firm_recover, firm_or_back, unsettled_or_stays}
+use Rattle.top_model.proofs.lemmas.Deriving.{policy_or_back}
 
 -- a firm state of these settles like it
 pub record Led (stations : Stands) (p : Standing) : Type 0 where
@@ -190,6 +193,81 @@ module _ (a : Asked) (entry : Entry) (reached : Stands) (begins : (x : Standing)
       (settled_apply (Err InDoubt) (λ e y is. inl is) p) (changed_led ends (λ e y is. inl is) (λ y is. inr (is ∙ sym same)) p l) (x.near p l)
   led_apply answer done x p l = absurd x
 
+-- ---- an apply of a policy
+
+module _ (p : PolicyData) (opts : ApplyOpts) (now : ℕ) (entry : Entry) (reached : Stands) (begins : (x : Standing) → entry.left x → Led reached x) (here : Led reached entry.reads) (firm : Firm entry.reads)
+    (left : Stands) (rose twice : Type 0) (backed : (s : Standing) → left s → IsBacked s) where
+  abbrev After : Standing → Standing
+  After e = (apply_policy p opts now e).after
+
+  abbrev PolicyTo : Answer → Standing → Stands
+  PolicyTo answer e = PolicyEnds opts now (After e) e rose answer
+
+  same_change : After here.station ≡ After entry.reads
+  same_change = same_policy now entry.reads here.station firm here.firm here.like p opts
+
+  -- the changed state
+  change_led : (ends : Standing → Stands) → ((e x : Standing) → settled now e ≡ Some x → ends e x) → ((x : Standing) → x ≡ After entry.reads → ends here.station x)
+      → (s : Standing) → left s → Near (Only (After entry.reads)) s → Led (NextBy reached ends) s
+  change_led ends settles changes s l near = elim (policy_or_back p opts now entry.reads near.station firm near.is s near.like (backed s l)) as (λ v. Led (NextBy reached ends) s) [
+    | inl leads ↦ record { station = near.station; is = (here.station, here.is, changes near.station near.is); like = near.like; firm = leads }
+    | inr back ↦ record { station = restored_to back.0; is = (here.station, here.is, settles here.station (restored_to back.0) (here.like now ∙ back.1)); like = back.2; firm = firm_restored back.0 }
+  ]
+
+  -- where it was taken back
+  back_led : (stays : Standing → Stands) → ((e : Standing) → Firm e → stays e e ⊎ (settled now e ≡ Some e)) → (begun : Type 0) → PolicyOnWay opts now (After entry.reads) entry left rose begun
+      → (s : Standing) → left s → Led (NextBy reached (λ e. Either (stays e) (Either (Settled now (at e)) (PolicyMarked opts (After e) rose)))) s
+  back_led stays stayed begun x s l =
+      let ends : Standing → Stands = λ e. Either (stays e) (Either (Settled now (at e)) (PolicyMarked opts (After e) rose)) in
+      let goal : Type 0 = Led (NextBy reached ends) s in
+      let settles : Near (Settled now entry) s → goal = settled_led now entry reached begins here firm ends (λ e y is. inr (inl is)) s in
+      let before : Near (Before entry) s → goal = λ near.
+      let b = begins near.station near.is in
+      let stands : ends b.station b.station = elim (stayed b.station b.firm) as (λ v. ends b.station b.station) [ inl still ↦ inl still | inr to ↦ inr (inl to) ] in
+      record { station = b.station; is = (b.station, b.is, stands); like = λ m. b.like m ∙ near.like m; firm = b.firm }
+      in
+      let waits : Stands = λ stands. (opts.no_commit ≡ true) × rose × (stands ≡ After entry.reads) in
+      let marked : Near waits s → goal = λ near.
+      change_led ends (λ e y is. inr (inl is)) (λ y is. inr (inr (near.is.0, near.is.1, is ∙ sym same_change))) s l (record { station = near.station; is = near.is.2; like = near.like })
+      in
+      elim x as (λ v. goal) [
+        | inl unsettled ↦ either now entry reached begins here firm (Before entry) (Settled now entry) goal s before settles (unsettled.1 s l)
+        | inr going ↦ either now entry reached begins here firm (Settled now entry) waits goal s settles marked (going.1 s l)
+      ]
+
+  kept_policy : (answer : Answer) → ((e : Standing) → PolicyTo answer e e) → (s : Standing) → Near (Before entry) s → Led (NextBy reached (PolicyTo answer)) s
+  kept_policy answer stays s near = kept now entry reached begins here firm (PolicyTo answer) stays s near
+
+  settled_policy : (answer : Answer) → ((e x : Standing) → settled now e ≡ Some x → PolicyTo answer e x) → (s : Standing) → Near (Settled now entry) s → Led (NextBy reached (PolicyTo answer)) s
+  settled_policy answer settles s near = settled_led now entry reached begins here firm (PolicyTo answer) settles s near
+
+  pub led_policy : (answer : Answer) → ((said : Said) → answer ≡ Ok said → Firm (After entry.reads)) → PolicyLeaves opts now (After entry.reads) entry left rose twice answer → (s : Standing) → left s
+      → Led (NextBy reached (PolicyTo answer)) s
+  led_policy (Ok said) done x s l = let near = x s l in record {
+    station = After here.station;
+    is = (here.station, here.is, refl);
+    like = λ m. ap (settled m) (same_change ∙ sym near.is) ∙ near.like m;
+    firm = subst Firm (sym same_change) (done said refl);
+  }
+  led_policy (Err (Pending d)) done x s l = settled_policy (Err (Pending d)) (λ e y is. is) s (x s l)
+  led_policy (Err (DocRefused fault)) done x s l = settled_policy (Err (DocRefused fault)) (λ e y is. is) s (x s l)
+  led_policy (Err (MergeRefused refused)) done x s l = settled_policy (Err (MergeRefused refused)) (λ e y is. is) s (x s l)
+  led_policy (Err (Damaged area)) done x s l = kept_policy (Err (Damaged area)) (λ e. refl) s (x s l)
+  led_policy (Err (HostFault side.NotBegun)) done x s l = kept_policy (Err (HostFault side.NotBegun)) (λ e. refl) s (x s l)
+  led_policy (Err (HostFault side.RolledBack)) done x s l = settled_policy (Err (HostFault side.RolledBack)) (λ e y is. is) s (x s l)
+  led_policy (Err (HostFault side.Pending)) done x s l =
+      back_led (λ e y. Unsettled now (at e) × (y ≡ e)) (λ e f. elim (unsettled_or_stays now e f.backed) as (λ v. (Unsettled now (at e) × (e ≡ e)) ⊎ (settled now e ≡ Some e)) [ inl u ↦ inl (u, refl) | inr to ↦ inr to ])
+      twice x s l
+  led_policy (Err OutOfMemory) done x s l = elim x as (λ v. Led (NextBy reached (PolicyTo (Err OutOfMemory))) s) [
+    | inl before ↦ kept_policy (Err OutOfMemory) (λ e. inl refl) s (before s l)
+    | inr way ↦ back_led Only (λ e f. inl refl) (Unit {0}) way s l
+  ]
+  led_policy (Err ReadFault) done x s l = kept_policy (Err ReadFault) (λ e. refl) s (x s l)
+  led_policy (Err InDoubt) done x s l =
+      either now entry reached begins here firm (Settled now entry) (Only (After entry.reads)) (Led (NextBy reached (PolicyTo (Err InDoubt))) s) s
+      (settled_policy (Err InDoubt) (λ e y is. inl is) s) (change_led (PolicyTo (Err InDoubt)) (λ e y is. inl is) (λ y is. inr (is ∙ sym same_change)) s l) (x.near s l)
+  led_policy answer done x s l = absurd x
+
 -- ---- each order
 
 module _ (now : ℕ) (entry : Entry) (reached : Stands) (begins : (x : Standing) → entry.left x → Led reached x) (here : Led reached entry.reads) (firm : Firm entry.reads)
@@ -212,6 +290,9 @@ module _ (now : ℕ) (entry : Entry) (reached : Stands) (begins : (x : Standing)
   pub led_exit : (order : Result Order Cause) → ((said : Said) → answer ≡ Ok said → Firm (after_of now order entry.reads)) → AtExit now entry left rose twice order answer → (p : Standing) → left p
       → Led (NextBy reached (λ e. Ends now e rose order answer)) p
   led_exit (Ok (applying doc opts)) done x p l = led_apply (asked doc opts now) entry reached begins here firm left rose twice backed answer done x p l
+  led_exit (Ok (applying_policy policy opts)) done x p l = led_policy policy opts now entry reached begins here firm left rose twice backed answer done x p l
+  led_exit (Ok (evaluating policy)) done x p l = only_kept (Ok (evaluating policy)) (λ e. refl) x p l
+  led_exit (Ok (planning_policy policy in_batch)) done x p l = only_kept (Ok (planning_policy policy in_batch)) (λ e. refl) x p l
   led_exit (Ok committing) done x p l = led_commit now entry reached begins here firm left answer x p l
   led_exit (Ok rolling_back) done x p l = led_back now entry reached begins here firm (Ok rolling_back) left (firm_rollback here.station here.firm) answer x p l
   led_exit (Ok recovering) done x p l = led_back now entry reached begins here firm (Ok recovering) left (firm_recover now here.station here.firm) answer x p l

@@ -10,7 +10,7 @@ use Rattle.top_model.specs.Runs.{Run, reads, HostRose, HostRoseTwice, reads_afte
 use Rattle.top_model.specs.Told.{Told}
 use Rattle.top_model.specs.Causes.{MayWant}
 use Rattle.top_model.specs.Exits.{AtExit}
-use Rattle.top_model.specs.Scripts.{order_in, StepTexts, Folds, IsFold, IsCutShort, Folded, file_of, as_steps, KeepsFrom, IsUnrun, IsRun, ScriptAnswered, IsScript}
+use Rattle.top_model.specs.Scripts.{order_in, StepGrounds, StepTexts, Folds, IsFold, IsCutShort, Folded, file_of, as_steps, KeepsFrom, IsUnrun, IsRun, ScriptAnswered, IsScript}
 use Rattle.top_model.specs.declared.report.Cause.{Cause}
 use Rattle.top_model.specs.declared.report.Cause.TheVariants.{OutOfMemory}
 use Rattle.top_model.proofs.lemmas.Settles.{same_some}
@@ -67,7 +67,7 @@ module _ (r : Run) (words : List Text) (in_script : Bool) (now : ℕ) (untouched
     folds = subst (λ (i : Inputs). Folds i f.done (reads r) f.out f.err f.last) (inputs tells) f.folds;
     step_out = f.step_out;
     step_err = f.step_err;
-    texts = subst (λ (i : Inputs). StepTexts (order_in i f.step) (Err OutOfMemory) f.step_out f.step_err) (inputs tells) f.texts;
+    texts = subst (λ (i : Inputs). StepTexts (StepGrounds i f.step f.last) (order_in i f.step) (Err OutOfMemory) f.step_out f.step_err) (inputs tells) f.texts;
     wrote = record { to_out = f.wrote.to_out; to_err = f.wrote.to_err; report = f.wrote.report };
     stands = let P : Inputs → Type 0 = λ i. AtExit f.step.at (at f.last) (Only (reads_after r)) (HostRose r) (HostRoseTwice r) (order_in i f.step) (Err OutOfMemory) in subst P (inputs tells) f.stands;
   }

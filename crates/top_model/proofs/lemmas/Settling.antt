@@ -98,7 +98,8 @@ module _ (a : Asked) (deadline : ℕ) where
   merged_waits from (Ok to) is = made_waits from to a.opts.no_commit is
   merged_waits from (Err broken) is = cc
 
-  change_waits : (e : Standing) (net : Option NetData) → (change a e net).answer ≡ waits → ⊥
+  -- a change that begins from what stands meets none that waits
+  pub change_waits : (e : Standing) (net : Option NetData) → (change a e net).answer ≡ waits → ⊥
   change_waits e None is = cc
   change_waits e (Some from) is = merged_waits from (merge from a.doc) is
 

@@ -9,7 +9,8 @@ use Rattle.engine_model.specs.Machine.{asked, apply}
 use Rattle.engine_model.specs.Sound.{Fit, Sound}
 use Rattle.engine_model.specs.Stations.{Stands, Near, Kept, Only, Settled, Either, at, left_by}
 use Rattle.top_model.specs.Said.{Said}
-use Rattle.top_model.specs.Orders.{Order, showing, planning, simulating, applying, committing, rolling_back, recovering, checking, making, generating}
+use Rattle.top_model.specs.Orders.{Order, showing, planning, evaluating, planning_policy, applying_policy, simulating, applying, committing, rolling_back, recovering, checking, making, generating}
+use Rattle.top_model.specs.Machine.{apply_policy}
 use Rattle.top_model.specs.Runs.{Run, Alone, reads, entry, left_at_exit, HostRose, HostRoseTwice}
 use Rattle.top_model.specs.Told.{Answer}
 use Rattle.top_model.specs.Causes.{Expects}
@@ -19,6 +20,7 @@ use Rattle.top_model.specs.WholeRuns.{Ran, ran_of, Ends, RanEnds, MayReach, MayP
 use Rattle.top_model.specs.declared.report.Cause.{Cause}
 use Rattle.top_model.proofs.lemmas.Reports.{rests}
 use Rattle.top_model.proofs.lemmas.Firm.{IsBacked, Firm, after_of, same_after, make_stays, firm_commit, firm_rollback, firm_recover, firm_applied, firm_like, firm_left, backed_fit}
+use Rattle.top_model.proofs.lemmas.Deriving.{firm_derived}
 use Rattle.top_model.proofs.lemmas.Reaching.{Led, NextBy, led_exit}
 
 some_none : {A : Type 0} (x : A) → None ≡ Some x → ⊥
@@ -34,6 +36,9 @@ firm_order now e firm (Ok (making links)) backed = subst Firm (sym (make_stays l
 firm_order now e firm (Ok checking) backed = firm
 firm_order now e firm (Ok (showing only json)) backed = firm
 firm_order now e firm (Ok (planning doc in_batch)) backed = firm
+firm_order now e firm (Ok (evaluating p)) backed = firm
+firm_order now e firm (Ok (planning_policy p in_batch)) backed = firm
+firm_order now e firm (Ok (applying_policy p opts)) backed = firm_derived p opts now e (apply_policy p opts now e).after firm refl backed
 firm_order now e firm (Ok (simulating calls)) backed = firm
 firm_order now e firm (Ok (generating devices first second)) backed = firm
 firm_order now e firm (Err refusal) backed = firm
@@ -48,6 +53,9 @@ keeps_sound r (Ok recovering) answer sound has kept = kept.sound
 keeps_sound r (Ok checking) answer sound has kept = kept.sound
 keeps_sound r (Ok (showing only json)) answer sound has kept = kept.sound
 keeps_sound r (Ok (planning doc in_batch)) answer sound has kept = kept.sound
+keeps_sound r (Ok (evaluating p)) answer sound has kept = kept.sound
+keeps_sound r (Ok (planning_policy p in_batch)) answer sound has kept = kept.sound
+keeps_sound r (Ok (applying_policy p opts)) answer sound has kept = kept.sound
 keeps_sound r (Ok (simulating calls)) answer sound has kept = kept.sound
 keeps_sound r (Ok (generating devices first second)) answer sound has kept = kept.sound
 keeps_sound r (Err refusal) answer sound has kept = kept.sound
@@ -62,6 +70,9 @@ station_self now (Ok recovering) e = inl refl
 station_self now (Ok checking) e = inl refl
 station_self now (Ok (showing only json)) e = inl refl
 station_self now (Ok (planning doc in_batch)) e = inl refl
+station_self now (Ok (evaluating p)) e = inl refl
+station_self now (Ok (planning_policy p in_batch)) e = inl refl
+station_self now (Ok (applying_policy p opts)) e = inl refl
 station_self now (Ok (simulating calls)) e = inl refl
 station_self now (Ok (generating devices first second)) e = inl refl
 station_self now (Err refusal) e = inl refl
@@ -229,6 +240,13 @@ module _ (r : Run) (a : Answered r) (honest : r.honest) (after_lawful : IsLawful
       let stations : Stands = Either (Settled r.now (entry r)) (Only (after_of r.now order (reads r))) in
       let to : (p : Standing) → Near stations p → Near (OfStep order) p = apply_station order (λ e x is. inr (inl is)) (λ e. inr (inr refl)) in
       (stepped order stations to kept, moved order stations to kept)
+  way (Ok (applying_policy p opts)) kept =
+      let order : Result Order Cause = Ok (applying_policy p opts) in
+      let stations : Stands = Either (Settled r.now (entry r)) (Only (after_of r.now order (reads r))) in
+      let to : (p : Standing) → Near stations p → Near (OfStep order) p = apply_station order (λ e x is. inr (inl is)) (λ e. inr (inr refl)) in
+      (stepped order stations to kept, moved order stations to kept)
+  way (Ok (evaluating p)) kept = plain (Ok (evaluating p)) (λ e. inr refl) kept
+  way (Ok (planning_policy p in_batch)) kept = plain (Ok (planning_policy p in_batch)) (λ e. inr refl) kept
   way (Ok committing) kept = plain (Ok committing) (λ e. inr refl) kept
   way (Ok rolling_back) kept = plain (Ok rolling_back) (λ e. inr refl) kept
   way (Ok recovering) kept = plain (Ok recovering) (λ e. inr refl) kept

@@ -1,12 +1,13 @@
 -- What is told to one sink, where nothing goes to the other.
-use Rattle.std.proofs.Common.{◌≡◌, ◌∙◌, inl, inr, refl, ap, sym, ℕ, List, [], ◌∷◌, ◌++◌, ◌≤◌, arith, subst}
+use Rattle.std.proofs.Common.{◌≡◌, ◌∙◌, inl, inr, refl, ap, ℕ, List, [], ◌∷◌, ◌++◌, ◌≤◌, arith, subst}
 use Rattle.std.specs.Prelude.{Result, Ok, Err}
 use Rattle.host_core.specs.Streams.{SinkView, Appends, AppendsSome}
 use Rattle.top_model.specs.Said.{Said, Says}
 use Rattle.top_model.specs.Orders.{Text, Order}
 use Rattle.top_model.specs.Texts.{error_line}
 use Rattle.top_model.specs.Runs.{Run}
-use Rattle.top_model.specs.Told.{Told, noted, ErrText}
+use Rattle.top_model.specs.Grounds.{Grounds}
+use Rattle.top_model.specs.Told.{Told, ErrTextOn}
 use Rattle.top_model.specs.Telling.{Tells}
 use Rattle.top_model.specs.declared.report.Report.{Report}
 use Rattle.top_model.specs.declared.report.Cause.{Cause}
@@ -24,25 +25,25 @@ none_of_it : (text : Text) (old new : SinkView) → new ≡ old → AppendsSome 
 none_of_it text old new same = (0, omega arith, ap (λ (v : SinkView). v.written) same ∙ with_nothing old.written)
 
 -- done, by an order without notes
-pub told_done : (r : Run) (order : Result Order Cause) (said : Said) (text : Text) → Says said text → noted order Done ≡ []
+pub told_done : (r : Run) (order : Result Order Cause) (said : Said) (text : Text) → Says said text → ErrTextOn (Grounds r order) order Done []
     → Tells r.sinks_tell text Done r.out r.out_after r.report → r.err_after ≡ r.err → Told r order (Ok said)
 told_done r order said text says none (inl t) same = record {
   out = text;
   err = [];
   is_out = says;
-  is_err = sym none;
+  is_err = none;
   written = inl (record { to_out = t.all; to_err = λ w. no_more r.err r.err_after same; out_steady = t.steady; err_steady = ap (λ (v : SinkView). v.faults) same; report = t.is });
 }
 told_done r order said text says none (inr t) same = record {
   out = text;
   err = [];
   is_out = says;
-  is_err = sym none;
+  is_err = none;
   written = inr (record { rose = inl t.rose; to_out = t.some; to_err = λ w. none_of_it [] r.err r.err_after same; stops = inr (λ w. no_more r.err r.err_after same); report = t.is });
 }
 
 -- refused, by an order without notes
-pub told_refused : (r : Run) (order : Result Order Cause) (cause : Cause) → ErrText order cause (error_line cause)
+pub told_refused : (r : Run) (order : Result Order Cause) (cause : Cause) → ErrTextOn (Grounds r order) order cause (error_line cause)
     → Tells r.sinks_tell (error_line cause) cause r.err r.err_after r.report → r.out_after ≡ r.out → Told r order (Err cause)
 told_refused r order cause is_err (inl t) same = record {
   out = [];

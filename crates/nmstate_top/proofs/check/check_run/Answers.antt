@@ -16,7 +16,7 @@ returns-in-Ok g c = λ now words in_script src src_after asked.
     let e = c.in-Ok.ensures in
     answered r (record { state = e.state; stops = e.stops; later = e.later }) asked.inputs asked.may_read asked.is (Ok c.in-Ok.found) e.says e.answer e.exit e.sound
     (record { host = e.later; source = asked.later; out = c.tell_done.ensures.out; err = c.tell_done.ensures.err; inputs = asked.same; takes = takes_only r _ asked.takes; lawful = g.met.H.Host.lawful c.args.host.now; tells = g.met.H.Host.honest_tells })
-    (told_done r (Ok checking) (checked c.in-Ok.found) c.as_bytes.result.now [] (says_as (checked c.in-Ok.found) c.as_bytes.result.now c.checked_line.result c.as_bytes.ensures c.checked_line.ensures) refl c.tell_done.ensures.told)
+    (told_done r (Ok checking) (λ c t e. e) (checked c.in-Ok.found) c.as_bytes.result.now [] (says_as (checked c.in-Ok.found) c.as_bytes.result.now c.checked_line.result c.as_bytes.ensures c.checked_line.ensures) refl c.tell_done.ensures.told)
 
 pub returns-in-Err : goal.returns-in-Err
 returns-in-Err g c = λ now words in_script src src_after asked.
@@ -24,4 +24,4 @@ returns-in-Err g c = λ now words in_script src src_after asked.
     let e = c.in-Err.ensures in
     answered r (record { state = e.state; stops = e.stops; later = e.later }) asked.inputs asked.may_read asked.is (Err c.in-Err.fault) e.says e.answer e.exit e.sound
     (record { host = e.later; source = asked.later; out = c.tell_refused.ensures.out; err = c.tell_refused.ensures.err; inputs = asked.same; takes = takes_only r _ asked.takes; lawful = g.met.H.Host.lawful c.args.host.now; tells = g.met.H.Host.honest_tells })
-    (refusal_told r (Ok checking) c.check_cause.result (check_cause c.in-Err.fault) [] c.check_cause.ensures refl (check_reads c.in-Err.fault) c.tell_refused.ensures.told)
+    (refusal_told r (Ok checking) (λ c t e. e) c.check_cause.result (check_cause c.in-Err.fault) [] c.check_cause.ensures refl (check_reads c.in-Err.fault) c.tell_refused.ensures.told)

@@ -35,7 +35,7 @@ returns-in-Ok-planned g c = λ now words in_script src src_after asked.
       inputs = asked.inputs;
       may_read = asked.may_read;
       is = asked.is;
-      told = told_text r (planning c.args.doc.now c.args.batch) c.as_slice.result.now (c.as_slice.ensures.value ∙ c.in-Ok.ensures ∙ notes_are _ _ _ c.deref.ensures.value c.items.ensures) l.answer c.in-Ok-planned.text c.as_slice-in-Ok-planned.result.now c.as_slice-in-Ok-planned.ensures.value l.text c.tell_done.ensures.told;
+      told = told_text r (planning c.args.doc.now c.args.batch) (λ c t e. e) c.as_slice.result.now (c.as_slice.ensures.value ∙ c.in-Ok.ensures ∙ notes_are _ _ _ c.deref.ensures.value c.items.ensures) l.answer c.in-Ok-planned.text c.as_slice-in-Ok-planned.result.now c.as_slice-in-Ok-planned.ensures.value l.text c.tell_done.ensures.told;
       goes_on = record { host = c.in-Ok-planned.ensures.looks.later; source = asked.later; out = c.tell_done.ensures.out; err = c.tell_done.ensures.err; inputs = asked.same; takes = takes_only r _ asked.takes; lawful = g.met.H.Host.lawful c.args.host.now; tells = g.met.H.Host.honest_tells };
     })
 
@@ -47,7 +47,7 @@ returns g c = λ now words in_script src src_after asked.
       inputs = asked.inputs;
       may_read = asked.may_read;
       is = asked.is;
-      told = told_refusal r (planning c.args.doc.now c.args.batch) c.as_slice-in-Err-planned.result.now (c.as_slice-in-Err-planned.ensures.value ∙ c.in-Ok.ensures ∙ notes_are _ _ _ c.deref.ensures.value c.items.ensures) l.answer c.in-Err-planned.cause l.text
+      told = told_refusal r (planning c.args.doc.now c.args.batch) (λ c t e. e) c.as_slice-in-Err-planned.result.now (c.as_slice-in-Err-planned.ensures.value ∙ c.in-Ok.ensures ∙ notes_are _ _ _ c.deref.ensures.value c.items.ensures) l.answer c.in-Err-planned.cause l.text
           (not_unread r.host_tells r.honest (λ net. plan_to c.args.batch net (merge net c.args.doc.now)) r.host r.host_after l.answer c.in-Err-planned.cause l.looked l.text) c.tell_refused-in-Err-planned.ensures.told;
       goes_on = record { host = c.in-Err-planned.ensures.looks.later; source = asked.later; out = c.tell_refused-in-Err-planned.ensures.out; err = c.tell_refused-in-Err-planned.ensures.err; inputs = asked.same; takes = takes_only r _ asked.takes; lawful = g.met.H.Host.lawful c.args.host.now; tells = g.met.H.Host.honest_tells };
     })

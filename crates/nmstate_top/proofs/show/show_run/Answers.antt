@@ -15,7 +15,7 @@ returns-in-Ok g c = λ now words in_script src src_after asked.
       inputs = asked.inputs;
       may_read = asked.may_read;
       is = asked.is;
-      told = told_text r (showing c.args.only.now c.args.json) [] refl l.answer c.in-Ok.text c.as_slice.result.now c.as_slice.ensures.value l.text c.tell_done.ensures.told;
+      told = told_text r (showing c.args.only.now c.args.json) (λ c t e. e) [] refl l.answer c.in-Ok.text c.as_slice.result.now c.as_slice.ensures.value l.text c.tell_done.ensures.told;
       goes_on = record { host = c.in-Ok.ensures.looks.later; source = asked.later; out = c.tell_done.ensures.out; err = c.tell_done.ensures.err; inputs = asked.same; takes = takes_only r _ asked.takes; lawful = g.met.H.Host.lawful c.args.host.now; tells = g.met.H.Host.honest_tells };
     })
 
@@ -27,7 +27,7 @@ returns-in-Err g c = λ now words in_script src src_after asked.
       inputs = asked.inputs;
       may_read = asked.may_read;
       is = asked.is;
-      told = told_refusal r (showing c.args.only.now c.args.json) [] refl l.answer c.in-Err.cause l.text
+      told = told_refusal r (showing c.args.only.now c.args.json) (λ c t e. e) [] refl l.answer c.in-Err.cause l.text
           (not_unread r.host_tells r.honest (λ net. Ok (printed c.args.only.now c.args.json net)) r.host r.host_after l.answer c.in-Err.cause l.looked l.text) c.tell_refused.ensures.told;
       goes_on = record { host = c.in-Err.ensures.looks.later; source = asked.later; out = c.tell_refused.ensures.out; err = c.tell_refused.ensures.err; inputs = asked.same; takes = takes_only r _ asked.takes; lawful = g.met.H.Host.lawful c.args.host.now; tells = g.met.H.Host.honest_tells };
     })

@@ -11,4 +11,4 @@ returns c =
     let bytes = c.as_slice.ensures.value in
     subst (λ (defined : Result Shape Cause). Answers shape defined c.yaml_tree.result)
     (reprints c.as_slice.result.now (shape c.args.tree.now) (bytes ∙ text.text) (λ fits. rw bytes (text.reads c.requires.filled (rw bytes at fits))))
-    c.yaml_tree.ensures
+    c.yaml_tree.ensures.read

@@ -3,7 +3,7 @@ use Rattle.top_model.specs.Orders.{input, calls_of}
 use Rattle.order_reading.specs.Reading.{itself}
 use Rattle.order_reading.proofs.Readings.{unread}
 use Rattle.order_reading.proofs.Batches.{no_usage_calls}
-use Rattle.order_reading.proofs.order.read_calls.Goals as goal
+use Rattle.order_reading.proofs.files.read_calls.Goals as goal
 
 pub returns-in_err-bytes-clause-read : goal.returns-in_err-bytes-clause-read
 returns-in_err-bytes-clause-read g c =

@@ -2,7 +2,7 @@ use Rattle.std.proofs.lemmas.Result.{err_from_is_err_and}
 use Rattle.top_model.specs.Orders.{input, hardware_list}
 use Rattle.order_reading.specs.Reading.{itself}
 use Rattle.order_reading.proofs.Readings.{unread, no_usage_hardware}
-use Rattle.order_reading.proofs.order.read_hardware.Goals as goal
+use Rattle.order_reading.proofs.files.read_hardware.Goals as goal
 
 pub returns-in_err-bytes-clause-read : goal.returns-in_err-bytes-clause-read
 returns-in_err-bytes-clause-read g c =

@@ -1,0 +1,13 @@
+use Rattle.std.proofs.lemmas.Result.{err_from_is_err_and}
+use Rattle.top_model.specs.Orders.{input, policy}
+use Rattle.policy_lang.specs.Held.{data_of}
+use Rattle.order_reading.proofs.Readings.{unread}
+use Rattle.order_reading.proofs.PolicyReadings.{no_usage_policy}
+use Rattle.order_reading.proofs.files.read_policy.Goals as goal
+
+pub returns-in_err-bytes-clause-read : goal.returns-in_err-bytes-clause-read
+returns-in_err-bytes-clause-read g c =
+    let p = err_from_is_err_and c.from_residual.result c.from_residual.ensures.1 in
+    rw (p.1, p.2)
+    (unread g.S.Source.tells (λ inputs. input c.args.in_script inputs c.args.file.now) policy data_of (g.S.Source.told c.args.src.now) (g.S.Source.told c.read_input.new.src) c.in_err-bytes.field-0.0 no_usage_policy
+    c.in_err-bytes.ensures.bytes)
