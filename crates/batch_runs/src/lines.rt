@@ -1,0 +1,87 @@
+//! The lines of plans, and the calls that they are read back as.
+ghost use Rattle.std.specs.Prelude.{◌≡◌};
+ghost use Rattle.net_text.specs.Line.{has_line};
+
+use base_model::OutOfMemory;
+use ip_batch::{BatchFault, read_batch, write_batch};
+use net_model::{Call, Kind};
+use net_text::write_call_line;
+use std::alloc::Global;
+
+// Whether plans have a line for the call: they have none for one that would make a device.
+fn has_line(call: &Call) -> bool
+    ensures { result ≡ has_line call.now }
+{
+    match call {
+        Call::AddLink { kind, .. } => !matches!(kind, Kind::Ethernet { .. }),
+        _ => true,
+    }
+}
+
+fn push_call(call: &Call, out: &mut Vec<u8>) -> Result<(), OutOfMemory> {
+    if has_line(call) {
+        write_call_line(call, out)?;
+    }
+    out.push(b'\n')?;
+    Ok(())
+}
+
+/// Calls as `plan` prints them.
+pub fn plan_text(alloc: Global, calls: &[Call]) -> Result<Vec<u8>, OutOfMemory> {
+    let mut out = Vec::new(alloc);
+    for call in calls {
+        push_call(call, &mut out)?;
+    }
+    Ok(out)
+}
+
+/// Calls as `plan --batch` prints them.
+pub fn lines_text(alloc: Global, calls: &Vec<Call>) -> Result<Vec<u8>, OutOfMemory> {
+    let mut out = Vec::new(alloc);
+    write_batch(calls, &mut out)?;
+    Ok(out)
+}
+
+// The calls of lines, or none where they are no lines of calls.
+fn calls_of(alloc: Global, lines: &[u8]) -> Result<Option<Vec<Call>>, OutOfMemory> {
+    match read_batch(alloc, lines) {
+        Ok(calls) => Ok(Some(calls)),
+        Err(BatchFault::OutOfMemory) => Err(OutOfMemory),
+        Err(_) => Ok(None),
+    }
+}
+
+// Whether the calls are those of a plan, and are written as these lines again.
+fn are_the_calls(
+    alloc: Global,
+    calls: &Vec<Call>,
+    plan: &[u8],
+    lines: &[u8],
+) -> Result<bool, OutOfMemory> {
+    let own = plan_text(alloc, calls)?;
+    let again = lines_text(alloc, calls)?;
+    Ok(own.as_slice() == plan && again.as_slice() == lines)
+}
+
+/// How many calls lines are read back as, or none where these aren't the calls of the plan that was printed so.
+pub fn read_back(alloc: Global, plan: &[u8], lines: &[u8]) -> Result<Option<u64>, OutOfMemory> {
+    let Some(calls) = calls_of(alloc, lines)? else {
+        return Ok(None);
+    };
+    if are_the_calls(alloc, &calls, plan, lines)? {
+        Ok(Some(calls.len() as u64))
+    } else {
+        Ok(None)
+    }
+}
+
+/// How many lines a text has.
+pub fn count_lines(text: &[u8]) -> u64 {
+    let mut count = 0_u64;
+    for byte in text {
+        if *byte == b'\n' {
+            count = count.saturating_add(1);
+        }
+    }
+    count
+}
