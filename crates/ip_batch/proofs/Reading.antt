@@ -16,9 +16,9 @@ use Rattle.ip_batch.proofs.Lines.{stand_skip, stand_call, stand_good, stand_read
 
 -- ---- one line after another
 
-stands_on : (front : List Text) (line : Text) (old new : List Call) → StandFor front old → TakesLine line old new true → StandFor (front ++ line ∷ []) new
-stands_on front line old new h (inl p) = subst (λ (calls : List Call). StandFor (front ++ line ∷ []) calls) (sym p.1) (stand_skip front old line h p.0)
-stands_on front line old new h (inr q) = subst (λ (calls : List Call). StandFor (front ++ line ∷ []) calls) (sym q.2) (stand_call front old line q.0 h q.1)
+depends_on : (front : List Text) (line : Text) (old new : List Call) → StandFor front old → TakesLine line old new true → StandFor (front ++ line ∷ []) new
+depends_on front line old new h (inl p) = subst (λ (calls : List Call). StandFor (front ++ line ∷ []) calls) (sym p.1) (stand_skip front old line h p.0)
+depends_on front line old new h (inr q) = subst (λ (calls : List Call). StandFor (front ++ line ∷ []) calls) (sym q.2) (stand_call front old line q.0 h q.1)
 
 -- before the first line
 pub at_first : (lines : List Text) (calls : List Call) → calls ≡ [] → SoFar lines lines 1 calls
@@ -30,7 +30,7 @@ on lines left rest line n old new s e t = record {
   front = s.front ++ line ∷ [];
   is = s.is ∙ ap (λ (more : List Text). s.front ++ more) e ∙ sym (append_assoc s.front (line ∷ []) rest);
   number = rw (length-append s.front (line ∷ [])) (omega (arith, s.number));
-  stands = stands_on s.front line old new s.stands t;
+  stands = depends_on s.front line old new s.stands t;
 }
 
 -- the first line that may not

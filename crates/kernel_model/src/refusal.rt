@@ -10,7 +10,7 @@ pub const PHYSICAL: u8 = 3;
 pub const BAD_BASE: u8 = 4;
 /// A VLAN of this base, protocol and number is there.
 pub const VLAN_TWIN: u8 = 5;
-/// A link would stand on itself.
+/// A link would depend on itself.
 pub const CYCLE: u8 = 6;
 /// The base is down.
 pub const BASE_DOWN: u8 = 7;

@@ -13,33 +13,16 @@ ghost use Rattle.kernel_model.specs.Routes.{same_route, add_route_refusals, del_
 ghost use Rattle.kernel_model.specs.Rest.{add_rule_refusals, del_rule_refusals, set_dns_refusals};
 
 use crate::places::{has_key, has_rule};
-use crate::routes::{route_on_link, same_route};
+use crate::routes::same_route;
 use kernel_model::refusal::{
     ADDRESS_EXISTS, BAD_GATEWAY, LIMIT, LINK_DOWN, NO_ADDRESS, NO_LINK, NO_ROUTE, NO_RULE,
     PORT_ADDRESS, ROUTE_EXISTS, RULE_EXISTS,
 };
-use link_step::find_link;
+use link_step::has_link;
 use net_model::{
     Dns, Kind, Link, MAX_ADDRESSES, MAX_LINK_ADDRESSES, MAX_ROUTES, MAX_RULES, MAX_SEARCH,
-    MAX_SERVERS, Name, Net, Prefix, Route, Rule,
+    MAX_SERVERS, Name, Net, Prefix, Route, Rule, find_link, is_bond_or_bridge, route_on_link,
 };
-
-fn has_link(links: &[Link], name: &Name) -> bool
-    requires { rises link_cmp links.now ≡ true }
-    ensures { result ≡ has_link name.now links.now }
-{
-    find_link(links, name).is_some()
-}
-
-fn is_bond_or_bridge(kind: &Kind) -> bool
-    ensures { result ≡ is_bond_or_bridge kind.now }
-{
-    match kind {
-        Kind::Bond { .. } => true,
-        Kind::Bridge => true,
-        _ => false,
-    }
-}
 
 #[tactic(auto, using(net_model::proofs::lemmas::Found::named_passes_found))]
 fn is_named_bond_or_bridge(links: &[Link], name: &Name) -> bool

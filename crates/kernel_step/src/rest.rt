@@ -48,17 +48,11 @@ pub(crate) fn del_rule(parts: &mut Parts, rule: &Rule)
     keep_rules(&mut parts.rules, rule);
 }
 
-fn copy_dns(dns: &Dns) -> Result<Dns, AllocError>
-    ensures { IfOk result (λ copy. copy ≡ dns.now) }
-{
-    dns.clone()
-}
-
 // Replaces both lists. The copy is made first.
 pub(crate) fn set_dns(parts: &mut Parts, dns: &Dns) -> Result<(), OutOfMemory>
     ensures ok { OnOk result (parts.new ≡ after_set_dns dns.now parts.old) }
     ensures err { OnErr result (parts.new ≡ parts.old) }
 {
-    parts.dns = copy_dns(dns)?;
+    parts.dns = dns.copy()?;
     Ok(())
 }

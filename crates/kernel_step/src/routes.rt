@@ -3,33 +3,11 @@ ghost use Rattle.std.specs.Prelude.{◌≡◌, ◌≤◌, true, false, not, filt
 ghost use Rattle.std.specs.List.{list_any};
 ghost use Rattle.net_model.specs.Words.{rises};
 ghost use Rattle.net_model.specs.Order.{route_cmp};
-ghost use Rattle.net_model.specs.OnLink.{holds, is_on_link};
-ghost use Rattle.net_model.specs.Valid.{same_key, route_on_link};
+ghost use Rattle.net_model.specs.Valid.{same_key};
 ghost use Rattle.kernel_model.specs.Routes.{same_route, after_add_route, after_del_route};
 
 use crate::places::route_gap;
 use net_model::{Addr, Link, OutOfMemory, Parts, Prefix, Route};
-
-fn one_holds(addrs: &[Prefix], gateway: Addr) -> bool
-    ensures { result ≡ list_any (λ b. holds b gateway) addrs.now }
-{
-    addrs.iter().any(|prefix| prefix.holds(gateway))
-}
-
-fn is_on_link(addrs: &[Prefix], v6: bool, gateway: Addr) -> bool
-    ensures { result ≡ is_on_link addrs.now v6 gateway }
-{
-    gateway.is_v6() == v6 && (gateway.is_link_local() || one_holds(addrs, gateway))
-}
-
-pub(crate) fn route_on_link(link: &Link, route: &Route) -> bool
-    ensures { result ≡ route_on_link link.now route.now }
-{
-    match route.gateway {
-        Some(gateway) => is_on_link(link.addrs.items(), route.dest.is_v6(), gateway),
-        None => true,
-    }
-}
 
 pub(crate) fn same_route(a: &Route, b: &Route) -> bool
     ensures { result ≡ same_route a.now b.now }

@@ -9,8 +9,8 @@ ghost use Rattle.merge_model.specs.Addresses.{is_bound, own_addrs, addrs_over, v
 use crate::options::controller_member;
 use document_model::IpEntry;
 use link_members::Members;
-use link_slots::{Slot, is_absent, is_bond_or_bridge, is_off, is_stated_down};
-use net_model::{Items, Link, Prefix};
+use link_slots::{Slot, is_absent, is_off, is_stated_down};
+use net_model::{Items, Link, Prefix, is_bond_or_bridge};
 use std::alloc::{AllocError, Global};
 
 // Whether the link is a port of a bond or bridge.

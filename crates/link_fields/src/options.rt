@@ -10,8 +10,8 @@ ghost use Rattle.link_members.specs.Listers.{port_place};
 
 use document_model::{BondEntry, BridgeEntry, LinkEntry, PortEntry};
 use link_members::Members;
-use link_slots::{Slot, is_port_of, same_mode};
-use net_model::{BondOpts, BridgeOpts, Items, Kind, Link, Name, PortOpts, is_bridge};
+use link_slots::{Slot, same_mode};
+use net_model::{BondOpts, BridgeOpts, Items, Kind, Link, Name, PortOpts, is_bridge, is_port_of};
 use option_rules::{merge_bond, merge_bridge, merge_port};
 use std::alloc::Global;
 

@@ -12,7 +12,7 @@ use Rattle.reach.specs.Reach.{IsGraph, IsLeast, Represents}
 use Rattle.net_model.specs.Name.{same_bytes}
 use Rattle.net_model.specs.Words.{apart, is_among}
 use Rattle.net_model.specs.Order.{name_cmp}
-use Rattle.net_model.specs.Standing.{has_base}
+use Rattle.net_model.specs.Dependence.{has_base}
 use Rattle.net_model.specs.declared.Kind.{Kind}
 use Rattle.net_model.specs.declared.Kind.TheVariants.{Ethernet, Bond, Bridge, Vlan, Vrf, Dummy, Veth}
 use Rattle.net_model.proofs.lemmas.Found.{one_name, itself}

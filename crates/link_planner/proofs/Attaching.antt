@@ -28,7 +28,7 @@ use Rattle.kernel_laws.proofs.lemmas.Taking.{is_accepted}
 use Rattle.link_planner.specs.declared.phase.Phase.TheVariants.{AttachPorts}
 use Rattle.link_planner.specs.Drafts.{DraftData, Holds}
 use Rattle.link_planner.specs.Pairs.{ArePair}
-use Rattle.link_planner.specs.Phases.{CanGrow, IsNext}
+use Rattle.link_planner.specs.Phases.{MayBuildUp, IsNext}
 use Rattle.link_planner.specs.Growing.{IsOnWay, IsToward, SameController}
 use Rattle.link_planner.proofs.Editing.{IsEdit, edited, way_of}
 use Rattle.link_planner.proofs.Phasing.{whole_at}
@@ -53,7 +53,7 @@ port_default o h =
 within_target : (target net : NetData) → IsToward target net → StandsWithin net.links target.links
 within_target target net toward = record { each = λ n l found. let w = toward.links n l found in (w.0, w.1, w.2.kind, w.2.controller) }
 
-module _ (d : DraftData) (h : Holds d) (stands : CanGrow 9 d) (n c : List ℕ) (link there : Link) (pair : ArePair d n link there) (has : there.controller ≡ Some c) (other : link.controller ≡ Some c → ⊥) where
+module _ (d : DraftData) (h : Holds d) (stands : MayBuildUp 9 d) (n c : List ℕ) (link there : Link) (pair : ArePair d n link there) (has : there.controller ≡ Some c) (other : link.controller ≡ Some c → ⊥) where
   way : IsOnWay d.target link there
   way = way_of d.target d.net stands.toward n link there pair.here pair.at
 

@@ -18,7 +18,7 @@ use Rattle.link_planner.specs.declared.phase.Phase.TheVariants.{AttachPorts, Set
 use Rattle.link_planner.specs.Drafts.{DraftData, Holds}
 use Rattle.link_planner.specs.Pairs.{ArePair}
 use Rattle.link_planner.specs.Growing.{IsOnWay, IsToward, HasPort, NearBond, Fits, AlmostSameBond, SameBond}
-use Rattle.link_planner.specs.Phases.{CanGrow, IsNext}
+use Rattle.link_planner.specs.Phases.{MayBuildUp, IsNext}
 use Rattle.link_planner.proofs.Editing.{IsEdit, edited, way_of}
 use Rattle.link_planner.proofs.Phasing.{whole_at}
 use Rattle.link_planner.proofs.Primaries.{bond_mode, bond_still, fitting_stays, port_among, primary_port}
@@ -56,7 +56,7 @@ module _ (d : DraftData) (h : Holds d) (toward : IsToward d.target d.net) (n : L
       (record { kind = way.kind; up = way.up; controller = way.controller; bond_port = way.bond_port; addrs = way.addrs })
       (record { mtu = λ h. h; enough_mtu = λ h. h; mac = λ h. h; near_bond = λ _. near; bond = stays; bridge = λ h. h; controller = λ h. h; port = λ h. h; up = λ h. h }) reached
 
-pub bond_next : (d : DraftData) → Holds d → (n : List ℕ) (l t : Link) → ArePair d n l t → CanGrow 7 d → (o : BondOpts) → Fits d.net n t.bond o → (l.bond ≡ o → ⊥) → IsNext SetBonds d n (SetBond n o)
+pub bond_next : (d : DraftData) → Holds d → (n : List ℕ) (l t : Link) → ArePair d n l t → MayBuildUp 7 d → (o : BondOpts) → Fits d.net n t.bond o → (l.bond ≡ o → ⊥) → IsNext SetBonds d n (SetBond n o)
 bond_next d h n l t pair stands o fits differs =
     let stays : l.bond ≡ t.bond → o ≡ t.bond = fitting_stays d.net h.net n l pair.here t.bond o fits in
     let e : IsEdit AlmostSameBond d n (SetBond n o) = bond_edit d h stands.toward n l t pair o fits.near fits.ready stays differs AlmostSameBond fits.near in
@@ -68,7 +68,7 @@ bond_next d h n l t pair stands o fits differs =
     }
 
 -- where all ports are attached, the primary of target is a port of the bond
-pub primary_next : (d : DraftData) → Holds d → (n : List ℕ) (l t : Link) → ArePair d n l t → CanGrow 11 d → (l.bond ≡ t.bond → ⊥) → IsNext SetPrimaries d n (SetBond n t.bond)
+pub primary_next : (d : DraftData) → Holds d → (n : List ℕ) (l t : Link) → ArePair d n l t → MayBuildUp 11 d → (l.bond ≡ t.bond → ⊥) → IsNext SetPrimaries d n (SetBond n t.bond)
 primary_next d h n l t pair stands differs =
     let ready : (p : List ℕ) → t.bond.primary ≡ Some p → HasPort d.net n p = λ p has.
     let there = primary_port d.target h.target n t pair.at p has in

@@ -14,11 +14,11 @@ use Rattle.link_planner.specs.declared.phase.Phase.TheVariants.{SetBridges}
 use Rattle.link_planner.specs.Drafts.{DraftData, Holds}
 use Rattle.link_planner.specs.Pairs.{ArePair}
 use Rattle.link_planner.specs.Growing.{IsOnWay, SameBridge}
-use Rattle.link_planner.specs.Phases.{CanGrow, IsNext}
+use Rattle.link_planner.specs.Phases.{MayBuildUp, IsNext}
 use Rattle.link_planner.proofs.Editing.{IsEdit, edited, way_of}
 use Rattle.link_planner.proofs.Unused.{shown, unused_bridge}
 
-pub bridge_next : (d : DraftData) → Holds d → (n : List ℕ) (l t : Link) → ArePair d n l t → CanGrow 8 d → (l.bridge ≡ t.bridge → ⊥) → IsNext SetBridges d n (SetBridge n t.bridge)
+pub bridge_next : (d : DraftData) → Holds d → (n : List ℕ) (l t : Link) → ArePair d n l t → MayBuildUp 8 d → (l.bridge ≡ t.bridge → ⊥) → IsNext SetBridges d n (SetBridge n t.bridge)
 bridge_next d h n l t pair stands differs =
     let bridge : is_bridge l.kind ≡ true = shown (is_bridge l.kind) (λ off. differs (unused_bridge d.target d.net h.target h.net stands.toward n l t pair.here pair.at off)) in
     let taken : step (SetBridge n t.bridge) d.net ≡ Ok (after (SetBridge n t.bridge) d.net) = is_accepted (SetBridge n t.bridge) d.net h.net (((facts d.target h.target).link n t pair.at).bridge_right, (l, pair.here, bridge)) in

@@ -13,7 +13,7 @@ use Rattle.net_model.proofs.lemmas.FactsHold.{facts}
 use Rattle.link_planner.specs.declared.phase.Phase.TheVariants.{CreateLinks, LowerMtus, SetMacs, SetBridges, AttachPorts, SetPorts, SetPrimaries, RaiseLinks}
 use Rattle.link_planner.specs.Drafts.{DraftData, Holds}
 use Rattle.link_planner.specs.Growing.{IsOnWay, IsNearer}
-use Rattle.link_planner.specs.Phases.{CanGrow, Grows}
+use Rattle.link_planner.specs.Phases.{MayBuildUp, Grows}
 use Rattle.link_planner.specs.LinkPlans.{without_addrs, HasSameLinks, ReachesLinks}
 use Rattle.link_planner.proofs.Editing.{way_of}
 use Rattle.link_planner.proofs.Nearer.{nearer_more}
@@ -21,7 +21,7 @@ use Rattle.link_planner.proofs.Nearer.{nearer_more}
 abbrev bare : List ℕ → Kind → Bool → ℕ → Mac → Option (List ℕ) → BondOpts → BridgeOpts → PortOpts → Link
 bare n k u t m c b r p = record { name = n; kind = k; up = u; mtu = t; mac = m; controller = c; bond = b; bridge = r; port = p; addrs = [] }
 
-module _ (d : DraftData) (h : Holds d) (stands : CanGrow 13 d) where
+module _ (d : DraftData) (h : Holds d) (stands : MayBuildUp 13 d) where
   same_link : (n : List ℕ) (l t : Link) → find_link n d.net.links ≡ Some l → find_link n d.target.links ≡ Some t → without_addrs l ≡ without_addrs t
   same_link n l t found at =
       let way : IsOnWay d.target l t = way_of d.target d.net stands.toward n l t found at in

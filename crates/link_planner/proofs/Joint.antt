@@ -1,15 +1,14 @@
 -- Where all that is in the way has gone, what is left is on its way to target.
 use Rattle.std.proofs.Common.{◌≡◌, inl, inr, ℕ, true, false, List, Option, Some, None, refl, sym, ap, ◌∙◌, lit<}
-use Rattle.net_model.specs.Links.{find_link}
+use Rattle.net_model.specs.Links.{find_link, is_ethernet}
 use Rattle.net_model.specs.NetData.{NetData, IsNet}
 use Rattle.net_model.specs.Facts.{ControllerFacts}
 use Rattle.net_model.specs.declared.link.Link.{Link}
 use Rattle.net_model.proofs.lemmas.FactsHold.{facts}
-use Rattle.kernel_model.specs.Devices.{is_ethernet}
 use Rattle.link_planner.specs.declared.phase.Phase.TheVariants.{DetachPorts, LowerLinks, DeleteLinks}
 use Rattle.link_planner.specs.Drafts.{DraftData, Holds, Advances}
 use Rattle.link_planner.specs.Kept.{is_kept}
-use Rattle.link_planner.specs.Phases.{CanShed}
+use Rattle.link_planner.specs.Phases.{MayTakeAway}
 use Rattle.link_planner.specs.Shrinking.{IsLess, IsShrunk, IsFree, IsLow, HasStayed}
 use Rattle.link_planner.specs.Growing.{IsToward}
 use Rattle.link_planner.specs.LinkPlans.{IsReady}
@@ -70,7 +69,7 @@ module _ (start target before net : NetData) (first : IsNet start) (good : IsNet
   }
 
 -- where the three phases have reached all names
-pub cleared : (m : ℕ) (old d : DraftData) → Advances m old d → Holds d → IsReady old.start old.target old.net → IsShrunk old.net d.net → CanShed 3 d → IsToward d.target d.net
+pub cleared : (m : ℕ) (old d : DraftData) → Advances m old d → Holds d → IsReady old.start old.target old.net → IsShrunk old.net d.net → MayTakeAway 3 d → IsToward d.target d.net
 cleared m old d advances h ready shrunk stands =
     let now : IsReady d.start d.target old.net = of_ends (λ s t. IsReady s t old.net) m old d advances ready in
     on_way d.start d.target old.net d.net h.start h.target h.net now shrunk (device_kept d.start d.target now.devices) (stands.done DetachPorts refl (lit< tt)) (stands.done LowerLinks refl (lit< tt)) (stands.done DeleteLinks refl (lit< tt))

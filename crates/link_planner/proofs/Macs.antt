@@ -11,10 +11,10 @@ use Rattle.link_planner.specs.declared.phase.Phase.TheVariants.{SetMacs}
 use Rattle.link_planner.specs.Drafts.{DraftData, Holds}
 use Rattle.link_planner.specs.Pairs.{ArePair}
 use Rattle.link_planner.specs.Growing.{IsOnWay, SameMac}
-use Rattle.link_planner.specs.Phases.{CanGrow, IsNext}
+use Rattle.link_planner.specs.Phases.{MayBuildUp, IsNext}
 use Rattle.link_planner.proofs.Editing.{IsEdit, edited, way_of}
 
-pub mac_next : (d : DraftData) → Holds d → (n : List ℕ) (l t : Link) → ArePair d n l t → CanGrow 6 d → (l.mac ≡ t.mac → ⊥) → IsNext SetMacs d n (SetMac n t.mac)
+pub mac_next : (d : DraftData) → Holds d → (n : List ℕ) (l t : Link) → ArePair d n l t → MayBuildUp 6 d → (l.mac ≡ t.mac → ⊥) → IsNext SetMacs d n (SetMac n t.mac)
 mac_next d h n l t pair stands differs =
     let taken : step (SetMac n t.mac) d.net ≡ Ok (after (SetMac n t.mac) d.net) = is_accepted (SetMac n t.mac) d.net h.net (l, pair.here, tt) in
     let leads : Leads (SetMac n t.mac) d.net (after (SetMac n t.mac) d.net) = has_frame (SetMac n t.mac) d.net (after (SetMac n t.mac) d.net) h.net taken in

@@ -11,7 +11,7 @@ use Rattle.link_planner.specs.Drafts.{DraftData, Advances, IsSafe, with_call, wi
 use Rattle.link_planner.specs.Kept.{EachOf}
 use Rattle.link_planner.specs.Shrinking.{IsShrunk, IsFree, HasStayed}
 use Rattle.link_planner.specs.Growing.{IsAsNear, IsNearer, IsMade, IsWhole, Reaches, EnoughMtu, SameMtu, SameMac, AlmostSameBond, SameBond, SameBridge, SameController, SamePort, SameUp}
-use Rattle.link_planner.specs.Phases.{rank, builds, Done, AllDone, CanGrow, Stands, Sheds, Grows, Moves, counts, most, IsDue, Serves, IsServed, gone_over, IsOrder, IsAlong, HasRun}
+use Rattle.link_planner.specs.Phases.{rank, builds, Done, AllDone, MayBuildUp, Stands, Sheds, Grows, Moves, counts, most, IsDue, Serves, IsServed, gone_over, IsOrder, IsAlong, HasRun}
 use Rattle.link_planner.proofs.Counting.{one_counts, count_more, count_all}
 use Rattle.link_planner.proofs.Done.{one_more_done, all_done, done_base}
 use Rattle.link_planner.proofs.lemmas.Advancing.{advances_itself, advances_more, of_ends, one_call}
@@ -91,7 +91,7 @@ module _ (old new : DraftData) (m : ℕ) (advances : Advances m old new) (grows 
   grow_still RaiseLinks half whole n done = reached SameUp (λ t k l near h. near.up h) (whole (lit< tt)) n done
 
 -- where all links of target are there
-pub whole_at : (k : ℕ) (d : DraftData) → 3 < k → CanGrow k d → IsWhole d.target d.net
+pub whole_at : (k : ℕ) (d : DraftData) → 3 < k → MayBuildUp k d → IsWhole d.target d.net
 whole_at k d lt stands n = stands.done CreateLinks refl lt n
 
 -- whichever the half

@@ -14,12 +14,12 @@ use Rattle.link_planner.specs.declared.phase.Phase.TheVariants.{AttachPorts, Set
 use Rattle.link_planner.specs.Drafts.{DraftData, Holds}
 use Rattle.link_planner.specs.Pairs.{ArePair}
 use Rattle.link_planner.specs.Growing.{IsOnWay, SamePort}
-use Rattle.link_planner.specs.Phases.{CanGrow, IsNext}
+use Rattle.link_planner.specs.Phases.{MayBuildUp, IsNext}
 use Rattle.link_planner.proofs.Editing.{IsEdit, edited, way_of}
 use Rattle.link_planner.proofs.Phasing.{whole_at}
 use Rattle.link_planner.proofs.Unused.{port_bridge}
 
-pub port_next : (d : DraftData) → Holds d → (n : List ℕ) (l t : Link) → ArePair d n l t → CanGrow 10 d → (l.port ≡ t.port → ⊥) → IsNext SetPorts d n (SetPort n t.port)
+pub port_next : (d : DraftData) → Holds d → (n : List ℕ) (l t : Link) → ArePair d n l t → MayBuildUp 10 d → (l.port ≡ t.port → ⊥) → IsNext SetPorts d n (SetPort n t.port)
 port_next d h n l t pair stands differs =
     let same : l.controller ≡ t.controller = stands.done AttachPorts refl (lit< tt) n l t pair.here pair.at in
     let bridge : (c : List ℕ) × (l.controller ≡ Some c) × IsThere c d.net.links (λ b. is_bridge b.kind ≡ true) = port_bridge d.target d.net h.target h.net stands.toward n l t pair.here pair.at (whole_at 10 d (lit< tt) stands) same differs in

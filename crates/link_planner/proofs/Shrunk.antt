@@ -2,8 +2,8 @@
 use Rattle.std.proofs.Common.{inl, inr, ℕ, List, refl, ap, ◌∙◌}
 use Rattle.net_model.specs.Lists.{NetData}
 use Rattle.net_model.specs.declared.link.Link.{Link}
-use Rattle.kernel_model.specs.Devices.{is_ethernet}
-use Rattle.link_planner.specs.Shrinking.{IsLess, IsShrunk, KeepsRules, IsFree, HasStayed}
+use Rattle.net_model.specs.Links.{is_ethernet}
+use Rattle.link_planner.specs.Shrinking.{IsLess, IsShrunk, KeepsRulesAndDns, IsFree, HasStayed}
 
 pub less_itself : (l : Link) → IsLess l l
 less_itself l = record { kind = refl; mtu = refl; mac = refl; up = λ h. h; controller = λ c h. h; addrs = λ b h. h }
@@ -31,7 +31,7 @@ shrunk_more a b c first second = record {
 }
 
 -- rules and DNS stay through both
-pub rules_more : (a b c : NetData) → KeepsRules a b → KeepsRules b c → KeepsRules a c
+pub rules_more : (a b c : NetData) → KeepsRulesAndDns a b → KeepsRulesAndDns b c → KeepsRulesAndDns a c
 rules_more a b c first second = record { rules = second.rules ∙ first.rules; dns = second.dns ∙ first.dns }
 
 -- a port that is free stays so

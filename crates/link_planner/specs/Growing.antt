@@ -90,8 +90,8 @@ SameUp l t = l.up ≡ t.up
 abbrev pub OfBase : NetData → (List ℕ → Type 0) → List ℕ → Type 0
 OfBase target P n = (t : Link) (base : List ℕ) (id : ℕ) (proto : Proto) → find_link n target.links ≡ Some t → t.kind ≡ Vlan base id proto → P base
 
-abbrev pub OnMade : NetData → NetData → List ℕ → Type 0
-OnMade target net n = OfBase target (IsMade target net) n
+abbrev pub BaseIsThere : NetData → NetData → List ℕ → Type 0
+BaseIsThere target net n = OfBase target (IsMade target net) n
 
 abbrev pub BaseHasEnough : NetData → NetData → List ℕ → Type 0
 BaseHasEnough target net n = OfBase target (Reaches EnoughMtu target net) n

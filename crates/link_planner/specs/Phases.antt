@@ -8,7 +8,7 @@ use Rattle.link_planner.specs.declared.phase.Phase.TheVariants.{DetachPorts, Low
 use Rattle.link_planner.specs.Depths.{IsBaseFirst, NamesAll}
 use Rattle.link_planner.specs.Drafts.{DraftData, IsSafe, Advances, with_call}
 use Rattle.link_planner.specs.Kept.{EachOf}
-use Rattle.link_planner.specs.Shrinking.{IsShrunk, KeepsRules, KeepsPorts, IsFree, IsLow, HasStayed}
+use Rattle.link_planner.specs.Shrinking.{IsShrunk, KeepsRulesAndDns, KeepsPorts, IsFree, IsLow, HasStayed}
 use Rattle.link_planner.specs.Growing.{IsToward, IsNearer, IsMade, Reaches, OfBase, EnoughMtu, SameMtu, SameMac, AlmostSameBond, SameBond, SameBridge, SameController, SamePort, SameUp}
 
 -- how many phases come before it
@@ -62,24 +62,24 @@ abbrev pub AllDone : Bool → ℕ → DraftData → Type 0
 AllDone half k d = (q : Phase) → builds q ≡ half → rank q < k → (n : List ℕ) → Done q d n
 
 -- what holds where the phase of a rank may take away
-pub record CanShed (k : ℕ) (d : DraftData) : Type 0 where
+pub record MayTakeAway (k : ℕ) (d : DraftData) : Type 0 where
   pub shrunk : IsShrunk d.start d.net
   pub ports : k < 2 → KeepsPorts d.start d.target d.net
   pub done : AllDone false k d
 
 -- and where it may build up
-pub record CanGrow (k : ℕ) (d : DraftData) : Type 0 where
+pub record MayBuildUp (k : ℕ) (d : DraftData) : Type 0 where
   pub toward : IsToward d.target d.net
   pub done : AllDone true k d
 
 abbrev pub Stands : Bool → ℕ → DraftData → Type 0
-Stands false k d = CanShed k d
-Stands true k d = CanGrow k d
+Stands false k d = MayTakeAway k d
+Stands true k d = MayBuildUp k d
 
 -- what the phase of a rank changes where it takes away
 pub record Sheds (k : ℕ) (old new : DraftData) : Type 0 where
   pub shrunk : IsShrunk old.net new.net
-  pub rest : KeepsRules old.net new.net
+  pub rest : KeepsRulesAndDns old.net new.net
   pub ports : k < 2 → KeepsPorts new.start new.target new.net
   pub low : 0 < k → (n : List ℕ) → IsLow old.start old.target old.net n → IsLow new.start new.target new.net n
 

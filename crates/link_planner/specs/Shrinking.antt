@@ -1,11 +1,10 @@
 -- The phases that take away: ports are detached, links taken down, links deleted.
 use Rattle.std.specs.Prelude.{◌≡◌, ◌⊎◌, ℕ, true, false, List, Some}
 use Rattle.net_model.specs.Address.{Block}
-use Rattle.net_model.specs.Links.{find_link, is_bond}
+use Rattle.net_model.specs.Links.{find_link, is_bond, is_ethernet}
 use Rattle.net_model.specs.Lists.{NetData}
 use Rattle.net_model.specs.declared.Link.{Link}
 use Rattle.net_model.specs.declared.Route.{Route}
-use Rattle.kernel_model.specs.Devices.{is_ethernet}
 use Rattle.kernel_model.specs.Addresses.{has_block}
 use Rattle.plan_model.specs.Undisturbed.{has_route}
 use Rattle.link_planner.specs.Kept.{is_kept}
@@ -25,7 +24,7 @@ pub record IsShrunk (start net : NetData) : Type 0 where
   pub routes : (r : Route) → has_route r net.routes ≡ true → has_route r start.routes ≡ true
 
 -- rules and DNS stay
-pub record KeepsRules (old new : NetData) : Type 0 where
+pub record KeepsRulesAndDns (old new : NetData) : Type 0 where
   pub rules : new.rules ≡ old.rules
   pub dns : new.dns ≡ old.dns
 

@@ -1,19 +1,13 @@
 //! Links that are deleted.
 ghost use Rattle.std.specs.Prelude.{◌≡◌};
 ghost use Rattle.std.specs.Bool.{OnTrue, OnFalse};
-ghost use Rattle.kernel_model.specs.Devices.{is_ethernet};
+ghost use Rattle.net_model.specs.Links.{is_ethernet};
 ghost use Rattle.link_planner.specs.Phases.{IsDue, Serves};
 ghost use Rattle.link_planner.specs.Shrinking.{MustGo, HasStayed};
 
 use crate::draft::Draft;
 use crate::phase::Phase;
-use net_model::{Call, Kind, Name};
-
-fn is_ethernet(kind: &Kind) -> bool
-    ensures { result ≡ is_ethernet kind.now }
-{
-    matches!(kind, Kind::Ethernet { .. })
-}
+use net_model::{Call, Kind, Name, is_ethernet};
 
 // Whether the link is virtual and isn't kept.
 fn must_go(draft: &Draft, name: &Name) -> bool

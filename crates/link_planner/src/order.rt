@@ -4,7 +4,7 @@ ghost use Rattle.std.specs.List.Sorted.{IsNonDecreasingBy};
 ghost use Rattle.net_model.specs.declared.Link.{Link};
 ghost use Rattle.link_planner.specs.Depths.{IsBasePlace, IsDepthAt, AreDepths, by_base, by_top, IsBaseFirst, NamesAll, AreOrders};
 
-use net_model::{Kind, Link, Name, Net, OutOfMemory, Place};
+use net_model::{Kind, Link, Name, Net, OutOfMemory, Position};
 use std::alloc::{AllocError, Global};
 
 // The place of the base of a VLAN.
@@ -12,9 +12,9 @@ fn base_place(net: &Net, kind: &Kind) -> Option<usize>
     ensures { IsBasePlace net.now.links kind.now result }
 {
     match kind {
-        Kind::Vlan { base, .. } => match net.link_place(base) {
-            Place::At(at) => Some(at),
-            Place::Gap(_) => None,
+        Kind::Vlan { base, .. } => match net.link_position(base) {
+            Position::At(at) => Some(at),
+            Position::Gap(_) => None,
         },
         _ => None,
     }

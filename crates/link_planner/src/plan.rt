@@ -4,7 +4,7 @@ ghost use Rattle.plan_model.specs.Plans.{name_count};
 ghost use Rattle.link_planner.specs.Drafts.{Advances};
 ghost use Rattle.link_planner.specs.Growing.{IsToward};
 ghost use Rattle.link_planner.specs.LinkPlans.{MayPlanLinks, IsReady, ReachesLinks, IsLinkPlan};
-ghost use Rattle.link_planner.specs.Shrinking.{KeepsRules};
+ghost use Rattle.link_planner.specs.Shrinking.{KeepsRulesAndDns};
 
 use crate::draft::Draft;
 use crate::order::orders_of;
@@ -24,7 +24,7 @@ pub struct LinkPlan {
 fn take_away(alloc: Global, draft: &mut Draft) -> Result<(), OutOfMemory>
     requires { IsReady draft.old.start draft.old.target draft.old.net }
     ensures toward { OnOk result (IsToward draft.new.target draft.new.net) }
-    ensures rest { OnOk result (KeepsRules draft.old.net draft.new.net) }
+    ensures rest { OnOk result (KeepsRulesAndDns draft.old.net draft.new.net) }
     ensures advances { OnOk result (Advances (3 * length draft.old.start.links) draft.old draft.new) }
 {
     let orders = orders_of(alloc, draft.start())?;

@@ -8,8 +8,7 @@ ghost use Rattle.merge_model.specs.BrokenLinks.{bond_options};
 
 use crate::merged::Merged;
 use document_model::Place;
-use link_slots::is_port_of;
-use net_model::{BondMode, Kind, Link, Name, bond_ok};
+use net_model::{BondMode, Kind, Link, Name, bond_ok, is_port_of};
 use std::alloc::{AllocError, Global};
 
 #[tactic(auto, using(crate::proofs::ByName::named_passes_found))]

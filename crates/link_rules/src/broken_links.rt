@@ -12,8 +12,8 @@ ghost use Rattle.merge_model.specs.BrokenLinks.{port_kind, bad_base, base_down, 
 use crate::merged::Merged;
 use document_model::{IpEntry, LinkEntry, Place};
 use link_members::Members;
-use link_slots::{is_bond_or_bridge, is_off};
-use net_model::{Items, Kind, Link, Name, Prefix, can_be_base, takes};
+use link_slots::is_off;
+use net_model::{Items, Kind, Link, Name, Prefix, can_be_base, is_bond_or_bridge, takes};
 
 /// The place at a link.
 pub(crate) fn at_link(found: Option<&Link>) -> Option<Place>

@@ -14,8 +14,8 @@ mod broken_links;
 mod merged;
 // The rules 6 to 8 of the merge, which are asked of claims and lists of ports.
 mod ports;
-// The rule 11 of the merge: whether a link stands on itself, through any others.
-mod standing;
+// The rule 11 of the merge: whether a link depends on itself, through any others.
+mod dependence;
 // The rule 17 of the merge: a link has one address twice, whatever the lengths.
 mod twice;
 // The rule 12 of the merge: two VLANs agree in base, protocol and number.

@@ -6,10 +6,9 @@ ghost use Rattle.merge_model.specs.Members.{entered_over, is_unheard, other_end,
 ghost use Rattle.link_slots.specs.Implied.{HasNames, further};
 
 use crate::entries::Entries;
-use crate::kinds::peer_of;
 use crate::slot::Slot;
 use document_model::Wish;
-use net_model::{Kind, Name, Net};
+use net_model::{Kind, Name, Net, peer_of};
 use std::alloc::{AllocError, Global};
 use std::collections::BTreeSet;
 

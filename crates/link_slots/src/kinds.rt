@@ -2,8 +2,8 @@
 ghost use Rattle.std.specs.Prelude.{◌≡◌, Some, option_copied};
 ghost use Rattle.std.specs.Option.{option_map, option_or, option_and_then};
 ghost use Rattle.document_model.specs.declared.KindWord.TheVariants.{Bond as ABond, Vlan as AVlan, Vrf as AVrf, Veth as AVeth};
-ghost use Rattle.net_model.specs.Links.{peer_of, is_bond_or_bridge};
-ghost use Rattle.merge_model.specs.Kinds.{word_of, same_type, mode_number, same_mode, permanent_of, mode_of, base_of, id_of, proto_of, table_of, vlan_of, kind_by, merged_kind};
+ghost use Rattle.net_model.specs.Links.{peer_of};
+ghost use Rattle.merge_model.specs.Kinds.{word_of, same_type, same_mode, permanent_of, mode_of, base_of, id_of, proto_of, table_of, vlan_of, kind_by, merged_kind};
 
 use document_model::{KindWord, LinkEntry};
 use net_model::{BondMode, Kind, Link, Mac, Name, Proto, TableId, VlanId};
@@ -37,27 +37,13 @@ pub fn same_type(a: &Kind, b: &Kind) -> bool
     }
 }
 
-fn mode_number(mode: BondMode) -> u8
-    ensures { result ≡ mode_number mode }
-{
-    match mode {
-        BondMode::BalanceRr => 0,
-        BondMode::ActiveBackup => 1,
-        BondMode::BalanceXor => 2,
-        BondMode::Broadcast => 3,
-        BondMode::Ieee8023ad => 4,
-        BondMode::BalanceTlb => 5,
-        BondMode::BalanceAlb => 6,
-    }
-}
-
 /// Whether both are bonds of one mode.
 pub fn same_mode(a: &Kind, b: &Kind) -> bool
     ensures { result ≡ same_mode a.now b.now }
 {
     match a {
         Kind::Bond { mode: one } => match b {
-            Kind::Bond { mode: other } => mode_number(*one) == mode_number(*other),
+            Kind::Bond { mode: other } => one.number() == other.number(),
             _ => false,
         },
         _ => false,
@@ -120,16 +106,6 @@ fn table_of(kind: &Kind) -> Option<TableId>
     }
 }
 
-/// The name of a veth's peer.
-pub(crate) fn peer_of(kind: &Kind) -> Option<Name>
-    ensures { result ≡ peer_of kind.now }
-{
-    match kind {
-        Kind::Veth { peer } => Some(*peer),
-        _ => None,
-    }
-}
-
 /// The kind of the running network's link of this name.
 pub fn kind_of<'a>(old: Option<&'a Link>) -> Option<&'a Kind>
     ensures { option_copied result ≡ option_map (λ l. l.kind) (option_copied old.entry) }
@@ -137,17 +113,6 @@ pub fn kind_of<'a>(old: Option<&'a Link>) -> Option<&'a Kind>
     match old {
         Some(link) => Some(&link.kind),
         None => None,
-    }
-}
-
-/// Whether the kind is a bond or a bridge.
-pub fn is_bond_or_bridge(kind: &Kind) -> bool
-    ensures { result ≡ is_bond_or_bridge kind.now }
-{
-    match kind {
-        Kind::Bond { .. } => true,
-        Kind::Bridge => true,
-        _ => false,
     }
 }
 

@@ -12,8 +12,6 @@ mod index;
 mod kinds;
 // What arrows lead to, and whether they lead round, with a refused allocation as the merge answers one.
 mod reached;
-// How a link is tied to another by its name: as a VLAN to its base, as a veth to its peer, as a port to its controller.
-mod relations;
 // The links of the merged state, before their fields: which they are, and of what kind.
 mod seating;
 // A link of the merged state, before its fields.
@@ -23,11 +21,8 @@ mod stated;
 
 pub use entries::Entries;
 pub use index::{Index, first_place, note};
-pub use kinds::{
-    base_of, is_bond_or_bridge, kind_of, merged_kind, permanent_of, same_mode, same_type,
-};
+pub use kinds::{base_of, kind_of, merged_kind, permanent_of, same_mode, same_type};
 pub use reached::{closure, has_cycle};
-pub use relations::{has_base, is_port_of};
 pub use seating::seats;
 pub use slot::Slot;
 pub use stated::{is_absent, is_off, is_stated_down, is_stated_up};

@@ -5,19 +5,18 @@ ghost use Rattle.std.specs.Option.{option_map, option_map_or, option_and_then, o
 ghost use Rattle.reach.specs.Reach.{is_reached};
 ghost use Rattle.net_model.specs.Words.{positions};
 ghost use Rattle.net_model.specs.Links.{find_link, peer_of, has_peer};
-ghost use Rattle.net_model.specs.Standing.{has_base};
+ghost use Rattle.net_model.specs.Dependence.{has_base};
 ghost use Rattle.merge_model.specs.Stated.{find_entry, is_mentioned, is_absent};
 ghost use Rattle.merge_model.specs.Members.{is_removed, keeps_peer, leaves_peer, is_left, is_dropped, goes_with, is_gone, retired, stated_wish, entered, entered_over, stays, left_alone, implied, seats};
 
 use crate::entries::Entries;
 use crate::implied::implied;
-use crate::kinds::{kind_of, merged_kind, peer_of};
+use crate::kinds::{kind_of, merged_kind};
 use crate::reached::closure;
-use crate::relations::{has_base, has_peer};
 use crate::slot::Slot;
 use crate::stated::is_absent;
 use document_model::{LinkEntry, Wish};
-use net_model::{Items, Kind, Link, Name, Net, is_ethernet};
+use net_model::{Items, Kind, Link, Name, Net, has_base, has_peer, is_ethernet, peer_of};
 use std::alloc::{AllocError, Global};
 
 fn is_mentioned(entries: &Entries, link: &Link) -> bool

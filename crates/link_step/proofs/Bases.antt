@@ -1,8 +1,8 @@
 -- What a VLAN reaches by its base.
 use Rattle.std.proofs.Common.{◌≡◌, ℕ, zero, suc, Bool, true, false, not, ◌&&◌, ◌||◌, List, length, Option, Some, None, refl, sym, ap, ◌∙◌}
 use Rattle.net_model.specs.Name.{same_bytes}
-use Rattle.net_model.specs.Links.{find_link, is_named, is_port_of, takes}
-use Rattle.net_model.specs.Standing.{has_base, stands_on, reaches, no_cycle}
+use Rattle.net_model.specs.Links.{find_link, is_named, is_port_of, takes, is_ethernet}
+use Rattle.net_model.specs.Dependence.{has_base, depends_on, reaches, no_cycle}
 use Rattle.net_model.specs.NetData.{NetData, IsNet}
 use Rattle.net_model.specs.declared.link.Link.{Link}
 use Rattle.net_model.specs.declared.link.Kind.{Kind}
@@ -14,7 +14,6 @@ use Rattle.net_model.proofs.lemmas.Grounded.{found_named, any_found}
 use Rattle.net_model.proofs.lemmas.FactsHold.{facts}
 use Rattle.net_model.proofs.lemmas.ByName.{some_found, or_left}
 use Rattle.net_model.proofs.lemmas.Ranks.{or_elim, stands_reaches, reaches_further, reaches_enough}
-use Rattle.kernel_model.specs.Devices.{is_ethernet}
 use Rattle.kernel_model.specs.Words.{has_link, edit_link}
 use Rattle.kernel_model.specs.Ports.{attached}
 use Rattle.link_step.proofs.Cycles.{differ, controlling, attach_cycles, ethernet_reaches}
@@ -46,8 +45,8 @@ module _ (net : NetData) (is : IsNet net) where
           absurd cc
 
   module _ (p : Link) (base : List ℕ) (id : ℕ) (proto : Proto) (found : find_link p.name net.links ≡ Some p) (kind : p.kind ≡ Vlan base id proto) where
-    -- what it stands on is its base
-    on_base : (x : Link) → find_link x.name net.links ≡ Some x → stands_on p x ≡ true → same_bytes base x.name ≡ true
+    -- what it depends on is its base
+    on_base : (x : Link) → find_link x.name net.links ≡ Some x → depends_on p x ≡ true → same_bytes base x.name ≡ true
     on_base x there h =
         or_elim (has_base p.kind x.name) (is_port_of p.name x) (same_bytes base x.name ≡ true)
         (λ e. sym (ap (λ k. has_base k x.name) kind) ∙ e)
@@ -57,23 +56,23 @@ module _ (net : NetData) (is : IsNet net) where
     down : (d : ℕ) (x : Link) → find_link x.name net.links ≡ Some x → reaches net.links d p.name x ≡ true → (same_bytes base x.name || reaches net.links d base x) ≡ true
     down zero x there h = absurd cc
     down (suc d) x there h =
-        let c = some_found (λ c. stands_on c x && (is_named p.name c || reaches net.links d p.name c)) net.links (differ net is) h in
-        let step : stands_on c.0 x ≡ true = and_left (stands_on c.0 x) (is_named p.name c.0 || reaches net.links d p.name c.0) c.2 in
+        let c = some_found (λ c. depends_on c x && (is_named p.name c || reaches net.links d p.name c)) net.links (differ net is) h in
+        let step : depends_on c.0 x ≡ true = and_left (depends_on c.0 x) (is_named p.name c.0 || reaches net.links d p.name c.0) c.2 in
         let further : (is_named base c.0 || reaches net.links d base c.0) ≡ true → (same_bytes base x.name || reaches net.links (suc d) base x) ≡ true =
         λ e. or_right (same_bytes base x.name) (reaches net.links (suc d) base x)
-        (any_found (λ c. stands_on c x && (is_named base c || reaches net.links d base c)) net.links c.0.name c.0 c.1 (and_both (stands_on c.0 x) (is_named base c.0 || reaches net.links d base c.0) step e)) in
+        (any_found (λ c. depends_on c x && (is_named base c || reaches net.links d base c)) net.links c.0.name c.0 c.1 (and_both (depends_on c.0 x) (is_named base c.0 || reaches net.links d base c.0) step e)) in
         or_elim (is_named p.name c.0) (reaches net.links d p.name c.0) ((same_bytes base x.name || reaches net.links (suc d) base x) ≡ true)
         (λ e.
         let one : c.0 ≡ p = (let s : Some c.0 ≡ Some p = sym c.1 ∙ ap (λ m. find_link m net.links) (one_name c.0.name p.name e) ∙ found in cc) in
-        or_left (same_bytes base x.name) (reaches net.links (suc d) base x) (on_base x there (sym (ap (λ (l : Link). stands_on l x) one) ∙ step)))
+        or_left (same_bytes base x.name) (reaches net.links (suc d) base x) (on_base x there (sym (ap (λ (l : Link). depends_on l x) one) ∙ step)))
         (λ e.
         or_elim (same_bytes base c.0.name) (reaches net.links d base c.0) ((same_bytes base x.name || reaches net.links (suc d) base x) ≡ true)
         (λ s. further (or_left (is_named base c.0) (reaches net.links d base c.0) (ap (λ n. same_bytes n base) (sym (one_name base c.0.name s)) ∙ itself base)))
         (λ r. further (or_right (is_named base c.0) (reaches net.links d base c.0) r))
         (down d c.0 c.1 e))
-        (and_right (stands_on c.0 x) (is_named p.name c.0 || reaches net.links d p.name c.0) c.2)
+        (and_right (depends_on c.0 x) (is_named p.name c.0 || reaches net.links d p.name c.0) c.2)
 
-    on_it : (x : Link) → same_bytes base x.name ≡ true → stands_on p x ≡ true
+    on_it : (x : Link) → same_bytes base x.name ≡ true → depends_on p x ≡ true
     on_it x e = or_left (has_base p.kind x.name) (is_port_of p.name x) (ap (λ k. has_base k x.name) kind ∙ e)
 
     -- and these it reaches
@@ -85,7 +84,7 @@ module _ (net : NetData) (is : IsNet net) where
         let f = (facts net is).base p.name p base id proto found kind in
         let named : f.link.name ≡ base = found_named net.links base f.link f.there in
         let own : find_link f.link.name net.links ≡ Some f.link = ap (λ m. find_link m net.links) named ∙ f.there in
-        let on : stands_on p f.link ≡ true = on_it f.link (ap (same_bytes base) named ∙ itself base) in
+        let on : depends_on p f.link ≡ true = on_it f.link (ap (same_bytes base) named ∙ itself base) in
         sym (reaches_enough net.links p.name x there)
         ∙ reaches_further net.links p f.link found on own (differ net is) (length net.links) x (ap (λ m. reaches net.links (length net.links) m x) named ∙ r)) h
 

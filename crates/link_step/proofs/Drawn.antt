@@ -8,7 +8,7 @@ use Rattle.net_model.specs.Name.{same_bytes}
 use Rattle.net_model.specs.Words.{rises}
 use Rattle.net_model.specs.Order.{link_cmp}
 use Rattle.net_model.specs.Links.{is_named, is_port_of, same_name}
-use Rattle.net_model.specs.Standing.{has_base, stands_on, reaches}
+use Rattle.net_model.specs.Dependence.{has_base, depends_on, reaches}
 use Rattle.net_model.specs.declared.link.Link.{Link}
 use Rattle.net_model.proofs.lemmas.Found.{one_name, itself, names_tie, names_differ-rises, found_at}
 use Rattle.net_model.proofs.lemmas.Orders.{link_cmp_total}
@@ -195,7 +195,7 @@ module _ (links : List Link) (arrows : List (List ℕ)) (drawn : Draws links (le
   drawn-IsGraph i k lt below = ⊎_elim (λ o. omega (arith, o.to, drawn.whole)) (λ p. omega (arith, p.to, drawn.whole)) (drawn.sound i k (omega (arith, lt, drawn.whole)) below)
 
   module _ (port : List ℕ) (d : Link) where
-    stands : (a b : Link) → (has_base a.kind b.name ≡ true) ⊎ (is_port_of a.name b ≡ true) → stands_on a b ≡ true
+    stands : (a b : Link) → (has_base a.kind b.name ≡ true) ⊎ (is_port_of a.name b ≡ true) → depends_on a b ≡ true
     stands a b (inl h) = rw h refl
     stands a b (inr h) = rw h (or_true (has_base a.kind b.name))
       where
@@ -210,7 +210,7 @@ module _ (links : List Link) (arrows : List (List ℕ)) (drawn : Draws links (le
     same_links : (i j : ℕ) → i < length links → j < length links → (e : Link) → (get_or links i e ≡ get_or links i d) × (get_or links j e ≡ get_or links j d)
     same_links i j lt jt e = (get_or_default links i e d lt, get_or_default links j e d jt)
 
-    graph : Represents stands_on (is_named port) links d arrows (map (is_named port) links)
+    graph : Represents depends_on (is_named port) links d arrows (map (is_named port) links)
     graph = record {
       whole = drawn.whole;
       starting = λ i lt. get_or-map (is_named port) links i d false lt;
@@ -229,4 +229,4 @@ module _ (links : List Link) (arrows : List (List ℕ)) (drawn : Draws links (le
         → (get_or marks i false ≡ reaches links (length links) port (get_or links i d)) × (length marks ≡ length links)
     marked starts marks is least i lt =
         let closed = subst (λ (s : List Bool). IsLeast arrows s marks) is least in
-        (least_is_reached stands_on (is_named port) links d arrows (map (is_named port) links) marks graph drawn-IsGraph closed i lt, closed.whole ∙ drawn.whole)
+        (least_is_reached depends_on (is_named port) links d arrows (map (is_named port) links) marks graph drawn-IsGraph closed i lt, closed.whole ∙ drawn.whole)

@@ -6,7 +6,7 @@ use Rattle.std.proofs.lemmas.List.Elements.{filter_more}
 use Rattle.net_model.specs.Words.{rises}
 use Rattle.net_model.specs.Order.{link_cmp}
 use Rattle.net_model.specs.Links.{is_named}
-use Rattle.net_model.specs.Standing.{base_chain}
+use Rattle.net_model.specs.Dependence.{base_chain}
 use Rattle.net_model.specs.declared.link.Link.{Link}
 use Rattle.net_model.specs.declared.link.Kind.{Kind}
 use Rattle.net_model.specs.declared.link.Kind.TheVariants.{Vlan}

@@ -1,7 +1,7 @@
--- The arrows from links to those that they stand on, by their places.
+-- The arrows from links to those that they depend on, by their places.
 use Rattle.std.specs.Prelude.{◌≡◌, ◌⊎◌, ◌<◌, ℕ, Bool, true, false, List, [], length, get_or, Option, Some, None, slice_index_or}
 use Rattle.net_model.specs.Links.{is_port_of}
-use Rattle.net_model.specs.Standing.{has_base}
+use Rattle.net_model.specs.Dependence.{has_base}
 use Rattle.net_model.specs.declared.Link.{Link}
 
 -- the link at this place passes the test, and no other does

@@ -4,14 +4,13 @@ ghost use Rattle.net_model.specs.Name.{same_bytes};
 ghost use Rattle.net_model.specs.Words.{rises};
 ghost use Rattle.net_model.specs.Order.{link_cmp};
 ghost use Rattle.net_model.specs.Links.{is_named, is_port_of};
-ghost use Rattle.net_model.specs.Standing.{has_base, reaches, no_cycle};
+ghost use Rattle.net_model.specs.Dependence.{has_base, reaches, no_cycle};
 ghost use Rattle.kernel_model.specs.Words.{has_link, edit_link};
 ghost use Rattle.kernel_model.specs.Ports.{attached};
 ghost use Rattle.link_step.specs.Arrows.{FindsOnly, Draws};
 
-use crate::kinds::is_ethernet;
-use crate::lookup::{find_link, place_of};
-use net_model::{Items, Kind, Link, Name, Net, OutOfMemory};
+use crate::lookup::place_of;
+use net_model::{Items, Kind, Link, Name, Net, OutOfMemory, find_link, is_ethernet};
 use reach::closure;
 use std::alloc::{AllocError, Global};
 
@@ -81,7 +80,7 @@ fn no_arrows(alloc: Global, len: usize) -> Result<Vec<Items<usize>>, AllocError>
     Ok(arrows)
 }
 
-// For each link, the places of those that it stands on, each found by binary search.
+// For each link, the places of those that it depends on, each found by binary search.
 fn arrows(alloc: Global, links: &[Link]) -> Result<Vec<Items<usize>>, OutOfMemory>
     requires { rises link_cmp links.now ≡ true }
     ensures { IfOk result (λ arrows. Draws links.now (length links.now) (length links.now) arrows.items) }
@@ -141,7 +140,7 @@ fn by_bases(net: &Net, port: &Name, controller: &Name) -> Option<bool>
     None
 }
 
-// Whether standing on has a cycle once the port is attached: where the port is the controller, or stands on it.
+// Whether dependence has a cycle once the port is attached: where the port is the controller, or depends on it.
 pub(crate) fn makes_cycle(net: &Net, port: &Name, controller: &Name) -> Result<bool, OutOfMemory>
     requires { (has_link port.now net.now.links && has_link controller.now net.now.links) ≡ true }
     ensures { IfOk result (λ makes. makes ≡ not (no_cycle (edit_link port.now (attached controller.now) net.now.links))) }

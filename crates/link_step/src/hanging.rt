@@ -4,12 +4,12 @@ ghost use Rattle.std.specs.List.{list_any};
 ghost use Rattle.net_model.specs.Words.{rises, is_among};
 ghost use Rattle.net_model.specs.Order.{link_cmp, name_cmp};
 ghost use Rattle.net_model.specs.Links.{is_named};
-ghost use Rattle.net_model.specs.Standing.{has_base};
+ghost use Rattle.net_model.specs.Dependence.{has_base};
 ghost use Rattle.net_model.specs.declared.Link.{Link};
 ghost use Rattle.link_step.specs.Hanging.{IsBasePlace, AreBases, IsOverAt, AreOver, hangs, hanging};
 
 use crate::lookup::place_of;
-use net_model::{Kind, Link, Name};
+use net_model::{Kind, Link, Name, has_base};
 use std::alloc::{AllocError, Global};
 
 // The place of the base of a VLAN.
@@ -137,16 +137,7 @@ fn names_over(alloc: Global, links: &[Link], root: &Name) -> Result<Vec<Name>, A
     Ok(names)
 }
 
-fn has_base(kind: &Kind, name: &Name) -> bool
-    ensures { result ≡ has_base kind.now name.now }
-{
-    match kind {
-        Kind::Vlan { base, .. } => base == name,
-        _ => false,
-    }
-}
-
-// Whether a VLAN stands on the root.
+// Whether the root is the base of a VLAN.
 fn is_base(links: &[Link], root: &Name) -> bool
     ensures { result ≡ list_any (λ l. has_base l.kind root.now) links.now }
 {
@@ -164,7 +155,7 @@ fn own_name(alloc: Global, links: &[Link], root: &Name) -> Result<Vec<Name>, All
         .collect(alloc)
 }
 
-// The names of what hangs on the root. Chains of bases are walked only where a VLAN stands on it.
+// The names of what hangs on the root. Chains of bases are walked only where it is the base of a VLAN.
 fn names(alloc: Global, links: &[Link], root: &Name) -> Result<Vec<Name>, AllocError>
     requires { rises link_cmp links.now ≡ true }
     ensures { IfOk result (λ names. names.items ≡ hanging links.now root.now) }

@@ -7,8 +7,6 @@ mod cycle;
 mod detach;
 // What hangs on a link.
 mod hanging;
-// Kinds of links.
-mod kinds;
 // Links by name, in lists that rise by name.
 mod lookup;
 // Links that go down.

@@ -11,13 +11,14 @@ ghost use Rattle.kernel_model.specs.Ports.{pair_passes, attach_refusals, detach_
 ghost use Rattle.link_step.specs.Pairs.{pair_refusals};
 
 use crate::cycle::makes_cycle;
-use crate::kinds::{is_bond, is_bond_or_bridge, takes};
-use crate::lookup::{find_link, has_link};
+use crate::lookup::has_link;
 use crate::refuse::is_named_bridge;
 use kernel_model::refusal::{
     BAD_OPTIONS, CYCLE, HAS_CONTROLLER, NO_CONTROLLER, NO_LINK, PORT_ADDRESS, PORT_KIND, PORT_UP,
 };
-use net_model::{Kind, Link, Name, Net, OutOfMemory, PortOpts};
+use net_model::{
+    Kind, Link, Name, Net, OutOfMemory, PortOpts, find_link, is_bond, is_bond_or_bridge, takes,
+};
 
 #[tactic(auto, using(net_model::proofs::lemmas::Found::named_passes_found))]
 fn has_controller(links: &[Link], port: &Name) -> bool

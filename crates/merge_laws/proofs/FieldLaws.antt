@@ -3,7 +3,7 @@ use Rattle.std.proofs.Common.{◌≡◌, List, Option, Some, None, refl, sym, ap
 use Rattle.std.specs.Option.{option_map}
 use Rattle.std.proofs.lemmas.List.{length-map}
 use Rattle.net_model.specs.Lists.{NetData}
-use Rattle.net_model.specs.Standing.{ends}
+use Rattle.net_model.specs.Dependence.{ends}
 use Rattle.net_model.specs.Valid.{HasAllParts, each_base_stands, vlans_differ}
 use Rattle.net_model.specs.declared.Link.{Link}
 use Rattle.net_model.proofs.lemmas.AllParts.{all_parts}

@@ -3,7 +3,7 @@
 use Rattle.std.specs.Prelude.{Bool, false, ◌&&◌, ◌||◌, List, length, map, is_none}
 use Rattle.std.specs.Option.{option_map_or}
 use Rattle.reach.specs.Reach.{is_reached}
-use Rattle.net_model.specs.Standing.{has_base}
+use Rattle.net_model.specs.Dependence.{has_base}
 use Rattle.net_model.specs.declared.Link.{Link}
 use Rattle.document_model.specs.declared.LinkEntry.{LinkEntry}
 use Rattle.merge_model.specs.Stated.{is_stated_up}

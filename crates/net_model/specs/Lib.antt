@@ -7,7 +7,7 @@ pub mod Words
 pub mod Order
 pub mod OrderLaws
 pub mod Links
-pub mod Standing
+pub mod Dependence
 pub mod OnLink
 pub mod Options
 pub mod Lists
@@ -15,5 +15,5 @@ pub mod Valid
 pub mod NetData
 pub mod Hardware
 pub mod Facts
-pub mod Places
+pub mod Positions
 pub mod SameLists

@@ -7,7 +7,7 @@ use Rattle.net_model.specs.declared.link.Link.{Link}
 use Rattle.net_model.specs.declared.link.Kind.{Kind}
 use Rattle.net_model.specs.declared.link.Kind.TheVariants.{Bond}
 use Rattle.net_model.specs.declared.options.BondMode.{BondMode}
-use Rattle.net_model.specs.declared.options.BondMode.TheVariants.{ActiveBackup, Ieee8023ad, BalanceTlb, BalanceAlb}
+use Rattle.net_model.specs.declared.options.BondMode.TheVariants.{BalanceRr, ActiveBackup, BalanceXor, Broadcast, Ieee8023ad, BalanceTlb, BalanceAlb}
 use Rattle.net_model.specs.declared.options.BondOpts.{BondOpts}
 use Rattle.net_model.specs.declared.options.BridgeOpts.{BridgeOpts}
 use Rattle.net_model.specs.declared.options.PortOpts.{PortOpts}
@@ -15,6 +15,16 @@ use Rattle.net_model.specs.declared.options.LacpRate.{LacpRate}
 use Rattle.net_model.specs.declared.options.LacpRate.TheVariants.{Slow, Fast}
 use Rattle.net_model.specs.declared.options.HashPolicy.{HashPolicy}
 use Rattle.net_model.specs.declared.options.HashPolicy.TheVariants.{Layer2}
+
+-- the number of a mode in the Linux bonding documentation
+abbrev pub mode_number : BondMode → ℕ
+mode_number BalanceRr = 0
+mode_number ActiveBackup = 1
+mode_number BalanceXor = 2
+mode_number Broadcast = 3
+mode_number Ieee8023ad = 4
+mode_number BalanceTlb = 5
+mode_number BalanceAlb = 6
 
 abbrev pub default_bond : BondOpts
 default_bond = record { primary = None; lacp_rate = Slow; hash_policy = Layer2; miimon = 0; updelay = 0; downdelay = 0 }

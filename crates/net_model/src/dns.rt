@@ -1,12 +1,23 @@
 //! The settings of DNS.
+ghost use Rattle.std.specs.Prelude.{◌≡◌, IfOk};
 
 use crate::address::Addr;
 use crate::domain::Domain;
 use base_model::Items;
+use std::alloc::AllocError;
 
 /// The servers that are asked and the names that are searched under, each in the order of asking.
 #[derive(Clone, PartialEq, Eq, Drop)]
 pub struct Dns {
     pub servers: Items<Addr>,
     pub search: Items<Domain>,
+}
+
+impl Dns {
+    /// The same settings, in lists of their own.
+    pub fn copy(&self) -> Result<Dns, AllocError>
+        ensures { IfOk result (λ copy. copy ≡ self.now) }
+    {
+        self.clone()
+    }
 }

@@ -32,13 +32,15 @@ mod order;
 // The lists of a network that is taken apart, or not yet closed.
 mod parts;
 // Where something stands in a list of a network, or where it belongs, by binary search.
-mod place;
+mod position;
 // Routes.
 mod route;
 // Rules that choose the routing table of a packet.
 mod rule;
 // What is valid: the thirteen parts, asked one after another.
 mod valid;
+// The part of validity that looks at which link depends on which.
+mod valid_dependence;
 // The part of validity that looks at counts and at fields that aren't used.
 mod valid_limits;
 // The parts of validity that look at links: names, bases, controllers, MTUs and addresses.
@@ -49,8 +51,6 @@ mod valid_options;
 mod valid_peers;
 // The parts of validity that look at routes and rules.
 mod valid_routes;
-// The part of validity that looks at which link stands on which.
-mod valid_standing;
 
 pub use address::{Addr, Prefix, Subnet, max_len};
 pub use base_model::{Items, OutOfMemory, Path, PathStep, Str};
@@ -63,17 +63,20 @@ pub use limits::{
     MAX_NAME_LEN, MAX_ROUTES, MAX_RULES, MAX_SEARCH, MAX_SERVERS, MAX_VLAN_ID, MIN_MTU,
 };
 pub use link::{Kind, Link};
-pub use lookup::{can_be_base, is_bond, is_bridge, is_ethernet, takes};
+pub use lookup::{
+    can_be_base, find_link, has_base, has_peer, is_bond, is_bond_or_bridge, is_bridge, is_ethernet,
+    is_port_of, is_twin, peer_of, ports_of, takes,
+};
 pub use mac::Mac;
 pub use name::Name;
 pub use net::{Net, NetFault};
 pub use options::{BondMode, BondOpts, BridgeOpts, HashPolicy, LacpRate, PortOpts, Proto};
 pub use parts::Parts;
-pub use place::{Place, address_place, link_place, route_place, rule_place};
+pub use position::{Position, address_position, link_position, route_position, rule_position};
 pub use route::Route;
 pub use rule::{Rule, Target};
+pub use valid_dependence::no_cycle;
 pub use valid_limits::{is_default_bond, is_default_bridge, is_default_port};
-pub use valid_links::mtu_in_range;
+pub use valid_links::{base_stands, has_twin, mtu_in_range};
 pub use valid_options::{bond_ok, bridge_in_range, port_in_range};
 pub use valid_routes::{is_on_link, route_on_link};
-pub use valid_standing::no_cycle;

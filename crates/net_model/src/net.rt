@@ -6,7 +6,7 @@ ghost use Rattle.net_model.specs.Hardware.{hardware};
 ghost use Rattle.net_model.specs.Links.{find_link};
 ghost use Rattle.net_model.specs.NetData.{NetData, IsNet, IsRearranged, net_of, no_dns, ordered, is_net, Makes};
 ghost use Rattle.net_model.specs.Order.{route_cmp, rule_cmp};
-ghost use Rattle.net_model.specs.Places.{LinkPlace, Located};
+ghost use Rattle.net_model.specs.Positions.{LinkPosition, Located};
 ghost use Rattle.net_model.specs.Rule.{RuleParts};
 ghost use Rattle.net_model.specs.SameLists.{SameLinks, SameAddresses, SameRoutes, SameRules};
 ghost use Rattle.net_model.specs.Valid.{least_broken, same_address, same_block, same_key, same_rule};
@@ -17,7 +17,7 @@ use crate::link::Link;
 use crate::lookup::find_link;
 use crate::name::Name;
 use crate::parts::{Parts, sorted_parts};
-use crate::place::Place;
+use crate::position::Position;
 use crate::route::Route;
 use crate::rule::Rule;
 use crate::valid::least_broken;
@@ -202,24 +202,24 @@ impl Net {
     }
 
     /// The place of the link of a name among the links.
-    pub fn link_place(&self, name: &Name) -> Place
-        ensures { LinkPlace result name.now self.now.links }
+    pub fn link_position(&self, name: &Name) -> Position
+        ensures { LinkPosition result name.now self.now.links }
     {
-        self.parts.link_place(name)
+        self.parts.link_position(name)
     }
 
     /// The place among the routes of the one with this one's destination, table and metric.
-    pub fn route_place(&self, route: &Route) -> Place
+    pub fn route_position(&self, route: &Route) -> Position
         ensures { Located same_key route_cmp result route.now self.now.routes }
     {
-        self.parts.route_place(route)
+        self.parts.route_position(route)
     }
 
     /// The place of a rule among the rules.
-    pub fn rule_place(&self, rule: &Rule) -> Place
+    pub fn rule_position(&self, rule: &Rule) -> Position
         ensures { Located same_rule rule_cmp result rule.now self.now.rules }
     {
-        self.parts.rule_place(rule)
+        self.parts.rule_position(rule)
     }
 
     /// Whether both have the same Ethernet links, by name, with the same permanent MACs.

@@ -1,6 +1,6 @@
 //! What bonds, bridges and their ports are set to.
-ghost use Rattle.std.specs.Prelude.{◌≡◌};
-ghost use Rattle.net_model.specs.Options.{default_bond, default_bridge, default_port};
+ghost use Rattle.std.specs.Prelude.{◌≡◌, nat_le, true};
+ghost use Rattle.net_model.specs.Options.{mode_number, default_bond, default_bridge, default_port};
 
 use crate::name::Name;
 
@@ -21,6 +21,24 @@ pub enum BondMode {
     Ieee8023ad,
     BalanceTlb,
     BalanceAlb,
+}
+
+impl BondMode {
+    /// The mode's number in the Linux bonding documentation, 0 to 6.
+    pub fn number(self) -> u8
+        ensures value { result ≡ mode_number self }
+        ensures within { nat_le (mode_number self) 6 ≡ true }
+    {
+        match self {
+            BondMode::BalanceRr => 0,
+            BondMode::ActiveBackup => 1,
+            BondMode::BalanceXor => 2,
+            BondMode::Broadcast => 3,
+            BondMode::Ieee8023ad => 4,
+            BondMode::BalanceTlb => 5,
+            BondMode::BalanceAlb => 6,
+        }
+    }
 }
 
 /// How often a bond asks its partner to send LACP frames.

@@ -3,7 +3,7 @@ ghost use Rattle.std.specs.Prelude.{◌≡◌, true, IfOk, OnOk, map, IsPermutat
 ghost use Rattle.net_model.specs.Words.{rises, sorted};
 ghost use Rattle.net_model.specs.Order.{block_cmp, link_cmp, route_cmp, rule_cmp};
 ghost use Rattle.net_model.specs.NetData.{net_of, arranged, is_in_order, IsSorting};
-ghost use Rattle.net_model.specs.Places.{LinkPlace, Located};
+ghost use Rattle.net_model.specs.Positions.{LinkPosition, Located};
 ghost use Rattle.net_model.specs.Valid.{same_key, same_rule};
 
 use crate::address::Prefix;
@@ -11,7 +11,7 @@ use crate::dns::Dns;
 use crate::link::Link;
 use crate::name::Name;
 use crate::order::{each_in_order, links_in_order, routes_in_order, rules_in_order};
-use crate::place::{Place, link_place, route_place, rule_place};
+use crate::position::{Position, link_position, route_position, rule_position};
 use crate::route::Route;
 use crate::rule::Rule;
 use base_model::{Items, OutOfMemory};
@@ -48,27 +48,27 @@ impl Parts {
     }
 
     /// The place of the link of a name.
-    pub fn link_place(&self, name: &Name) -> Place
+    pub fn link_position(&self, name: &Name) -> Position
         requires { rises link_cmp self.now.links ≡ true }
-        ensures { LinkPlace result name.now self.now.links }
+        ensures { LinkPosition result name.now self.now.links }
     {
-        link_place(&self.links, name)
+        link_position(&self.links, name)
     }
 
     /// The place of the route with this one's destination, table and metric.
-    pub fn route_place(&self, route: &Route) -> Place
+    pub fn route_position(&self, route: &Route) -> Position
         requires { rises route_cmp self.now.routes ≡ true }
         ensures { Located same_key route_cmp result route.now self.now.routes }
     {
-        route_place(&self.routes, route)
+        route_position(&self.routes, route)
     }
 
     /// The place of a rule.
-    pub fn rule_place(&self, rule: &Rule) -> Place
+    pub fn rule_position(&self, rule: &Rule) -> Position
         requires { rises rule_cmp self.now.rules ≡ true }
         ensures { Located same_rule rule_cmp result rule.now self.now.rules }
     {
-        rule_place(&self.rules, rule)
+        rule_position(&self.rules, rule)
     }
 
     pub(crate) fn copy(&self) -> Result<Parts, OutOfMemory>
@@ -78,7 +78,7 @@ impl Parts {
             links: copy_links(&self.links)?,
             routes: copy_routes(&self.routes)?,
             rules: copy_rules(&self.rules)?,
-            dns: copy_dns(&self.dns)?,
+            dns: self.dns.copy()?,
         })
     }
 }
@@ -99,12 +99,6 @@ fn copy_rules(rules: &Vec<Rule>) -> Result<Vec<Rule>, AllocError>
     ensures { IfOk result (λ copy. copy.items ≡ rules.now.items) }
 {
     rules.clone()
-}
-
-fn copy_dns(dns: &Dns) -> Result<Dns, AllocError>
-    ensures { IfOk result (λ copy. copy ≡ dns.now) }
-{
-    dns.clone()
 }
 
 fn sort_addresses(addrs: &mut Vec<Prefix>) -> Result<(), AllocError>

@@ -9,7 +9,7 @@ ghost use Rattle.net_model.specs.Valid.{names_differ, each_base_stands, vlans_di
 use crate::address::Prefix;
 use crate::limits::{MAX_MTU, MIN_MTU};
 use crate::link::{Kind, Link};
-use crate::lookup::{can_be_base, find_link, is_bond, is_bridge, takes};
+use crate::lookup::{can_be_base, find_link, is_bond_or_bridge, is_twin, takes};
 use crate::name::Name;
 
 fn is_before_head(link: &Link, rest: &[Link]) -> bool
@@ -51,7 +51,8 @@ fn has_base(links: &[Link], base: &Name) -> bool
     find_link(links, base).is_some_and(|link| can_be_base(&link.kind))
 }
 
-fn base_stands(links: &[Link], kind: &Kind) -> bool
+/// Whether the base of a VLAN is there and may be one. A kind that is no VLAN passes. The links are sorted by name.
+pub fn base_stands(links: &[Link], kind: &Kind) -> bool
     requires { rises link_cmp links.now ≡ true }
     ensures { result ≡ base_passes (λ b. can_be_base b.kind) links.now kind.now }
 {
@@ -68,13 +69,8 @@ fn each_base_stands(links: &[Link]) -> bool
     links.iter().all(|link| base_stands(links, &link.kind))
 }
 
-fn is_twin(a: &Kind, b: &Kind) -> bool
-    ensures { result ≡ is_twin a.now b.now }
-{
-    matches!(a, Kind::Vlan { .. }) && a == b
-}
-
-fn has_twin(links: &[Link], kind: &Kind) -> bool
+/// Whether one of the links is a VLAN over the same base with the same protocol and number.
+pub fn has_twin(links: &[Link], kind: &Kind) -> bool
     ensures { result ≡ list_any (λ l. is_twin kind.now l.kind) links.now }
 {
     links.iter().any(|link| is_twin(kind, &link.kind))
@@ -186,12 +182,6 @@ pub(crate) fn mtus_fit(links: &[Link]) -> bool
     ensures { result ≡ mtus_fit links.now }
 {
     links.iter().all(|link| mtu_in_range(link.mtu) && base_allows(links, &link.kind, link.mtu))
-}
-
-fn is_bond_or_bridge(kind: &Kind) -> bool
-    ensures { result ≡ is_bond_or_bridge kind.now }
-{
-    is_bond(kind) || is_bridge(kind)
 }
 
 #[tactic(auto, using(crate::proofs::lemmas::Found::named_passes_found))]

@@ -4,7 +4,7 @@ use crate::lists::{Lists, rule};
 use crate::reading::{addr, first_word, name, number, prefix};
 use base_model::push_decimal;
 use net_model::{
-    Addr, Dns, Items, Link, Mac, Net, Parts, Place, Rule, Subnet, TableId, bridge_in_range,
+    Addr, Dns, Items, Link, Mac, Net, Parts, Position, Rule, Subnet, TableId, bridge_in_range,
     can_be_base, is_bond, is_bridge, is_default_bond, is_default_bridge, is_default_port,
     is_ethernet, is_on_link, mtu_in_range, port_in_range, takes,
 };
@@ -20,10 +20,10 @@ fn flag(alloc: Global, is: bool) -> Option<Vec<u8>> {
     text(alloc, if is { "true" } else { "false" })
 }
 
-fn place(alloc: Global, place: Place) -> Option<Vec<u8>> {
+fn place(alloc: Global, place: Position) -> Option<Vec<u8>> {
     let (word, index) = match place {
-        Place::At(index) => ("at ", index),
-        Place::Gap(index) => ("gap ", index),
+        Position::At(index) => ("at ", index),
+        Position::Gap(index) => ("gap ", index),
     };
     let mut out = text(alloc, word)?;
     push_decimal(index, &mut out).ok()?;
@@ -115,8 +115,8 @@ pub fn asked(alloc: Global, net: &Net, question: &str) -> Option<Vec<u8>> {
         "priorities" => priorities(alloc, net.copy().ok()?.rules()),
         "same-hardware" => flag(alloc, net.same_hardware(&net.copy().ok()?)),
         "has-link" => flag(alloc, net.has_link(&name(rest)?)),
-        "link-place" => place(alloc, net.link_place(&name(rest)?)),
-        "rule-place" => place(alloc, net.rule_place(&rule(number(rest)?))),
+        "link-position" => place(alloc, net.link_position(&name(rest)?)),
+        "rule-position" => place(alloc, net.rule_position(&rule(number(rest)?))),
         "route" => route(alloc, net, rest),
         "address" => address(alloc, net, rest),
         "mac" => mac(alloc, rest),

@@ -11,7 +11,7 @@ use Rattle.reach.specs.Reach.{is_reached}
 use Rattle.net_model.specs.Words.{apart}
 use Rattle.net_model.specs.Name.{same_bytes}
 use Rattle.net_model.specs.Links.{is_named, same_name, base_passes, can_be_base, is_twin, controller_passes, takes}
-use Rattle.net_model.specs.Standing.{stands_on, on_cycle}
+use Rattle.net_model.specs.Dependence.{depends_on, on_cycle}
 use Rattle.net_model.specs.Hardware.{device_of}
 use Rattle.net_model.specs.Lists.{net_of, no_dns}
 use Rattle.net_model.specs.Valid.{HasAllParts, least_broken, names_differ, address_count, unused_default, limits_hold}
@@ -38,7 +38,7 @@ use Rattle.scenario_model.specs.Draws.{devices as devices_drawn}
 use Rattle.scenario_model.specs.Trees.{hardware_tree}
 use Rattle.document_model.specs.declared.Doc.{Doc}
 use Rattle.top_model.specs.declared.report.Cause.{Cause}
-use Rattle.order_reading.specs.Asked.{asked}
+use Rattle.order_reading.specs.AsDefined.{as_defined}
 use Rattle.order_reading.specs.declared.order.Order.{Order}
 use Rattle.order_reading.specs.declared.order.Order.TheVariants.{Show, Plan, PlanPolicy, Evaluate, ApplyPolicy, Simulate, Apply, Commit, Rollback, Recover, Check, Init, Generate}
 use Rattle.nmstate_top.specs.First.{is_hardware, has_hardware}
@@ -290,13 +290,13 @@ no_addresses [] all = refl
 no_addresses (l ∷ ls) all = let e : length l.addrs ≡ 0 = ap (λ (k : Link). length k.addrs) all.0 in let more : address_count ls ≡ 0 = no_addresses ls all.1 in rw (e, more) refl
 
 module _ (ls : List Link) (short : IsShort ls) where
-  unstanding : (a b : Link) → IsBuilt a → IsBuilt b → stands_on a b ≡ false
+  unstanding : (a b : Link) → IsBuilt a → IsBuilt b → depends_on a b ≡ false
   unfolding IsBuilt
-  unstanding a b x y = ap₂ stands_on x y
+  unstanding a b x y = ap₂ depends_on x y
 
-  unreached : (starts : Link → Bool) (steps : ℕ) (l : Link) → IsBuilt l → is_reached stands_on starts ls steps l ≡ false
+  unreached : (starts : Link → Bool) (steps : ℕ) (l : Link) → IsBuilt l → is_reached depends_on starts ls steps l ≡ false
   unreached starts zero l is = refl
-  unreached starts (suc steps) l is = none_built (λ c. stands_on c l && (starts c || is_reached stands_on starts ls steps c)) (λ c b. rw (unstanding c l b is) refl) ls short.built
+  unreached starts (suc steps) l is = none_built (λ c. depends_on c l && (starts c || is_reached depends_on starts ls steps c)) (λ c b. rw (unstanding c l b is) refl) ls short.built
 
   simple : (p : Link → Bool) → ((n : List ℕ) (m : Mac) → p (built_in n m) ≡ true) → list_all p ls ≡ true
   unfolding IsBuilt
@@ -415,7 +415,7 @@ module _ (in_script : Bool) (inputs : Inputs) where
   right_order words order is = subst (λ (r : Result model.Order Cause). IfOk r RightOrder) is (order_right (command_of words))
 
   -- the links that the words give are a hardware list's
-  pub hardware_right : (words : List Text) (order : Order) → order_of in_script inputs words ≡ Ok (asked order) → has_hardware order ≡ true
+  pub hardware_right : (words : List Text) (order : Order) → order_of in_script inputs words ≡ Ok (as_defined order) → has_hardware order ≡ true
   hardware_right words (Show only json) is = refl
   hardware_right words (Plan doc in_batch) is = refl
   hardware_right words (PlanPolicy p in_batch) is = refl

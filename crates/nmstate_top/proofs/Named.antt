@@ -13,7 +13,7 @@ use Rattle.command_words.specs.declared.Command.TheVariants.{Show, Plan, Policy,
 use Rattle.top_model.specs.Orders.{Inputs, Order, planning, evaluating, planning_policy, applying_policy, simulating, applying, committing, making, generating, and_then, input, tree_of, policy, hardware_list, calls_of, policy_or_document, workload, generated_devices, generated_first, generated_second, generated, opts, order_named, order_of, Text}
 use Rattle.order_reading.specs.declared.order.Order.{Order as Asked}
 use Rattle.order_reading.specs.declared.order.Order.TheVariants as asked_as
-use Rattle.order_reading.specs.Asked.{asked, file_read}
+use Rattle.order_reading.specs.AsDefined.{as_defined, file_read}
 use Rattle.top_model.specs.declared.report.Cause.{Cause}
 use Rattle.nmstate_top.specs.Worked.{works_apart}
 use Rattle.nmstate_top.proofs.Either.{either}
@@ -94,15 +94,15 @@ works_is (Ok links) (Ok first) (Ok second) order e = subst IsWork (same_order (g
 generated_is : (count seed : ℕ) (order : Order) → generated count seed ≡ asks order → IsWork order
 generated_is count seed order e = works_is (generated_devices count seed) (generated_first count seed) (generated_second count seed) order e
 
-is_apart : (order : Asked) → IsWork (asked order) → works_apart order ≡ true
+is_apart : (order : Asked) → IsWork (as_defined order) → works_apart order ≡ true
 is_apart (asked_as.Generate devices first second) is = refl
 is_apart order is = absurd is
 
 -- the words `generate` are carried out on a host of their own
 pub generate_named : (in_script : Bool) (inputs : Inputs) (words : List Text) (count seed : ℕ) (order : Asked) → command_of words ≡ Some (Generate count seed)
-    → order_of in_script inputs words ≡ asks (asked order) → works_apart order ≡ true
+    → order_of in_script inputs words ≡ asks (as_defined order) → works_apart order ≡ true
 generate_named in_script inputs words count seed order is gives =
-    is_apart order (generated_is count seed (asked order) (ap (order_named in_script inputs) (sym is) ∙ gives))
+    is_apart order (generated_is count seed (as_defined order) (ap (order_named in_script inputs) (sym is) ∙ gives))
 
 -- and read nothing
 pub generate_reads_none : (in_script : Bool) (words : List Text) (count seed : ℕ) → command_of words ≡ Some (Generate count seed) → file_read in_script (command_of words) ≡ None

@@ -3,7 +3,7 @@ use Rattle.std.proofs.Common.{◌≡◌, refl}
 use Rattle.std.specs.Prelude.{[], IsSome, None, Result, Err, IsErrOf}
 use Rattle.command_words.specs.Words.{lone, command_of}
 use Rattle.order_reading.specs.declared.order.Order.{Order as Asked}
-use Rattle.order_reading.specs.Asked.{asked, file_read}
+use Rattle.order_reading.specs.AsDefined.{as_defined, file_read}
 use Rattle.order_reading.specs.Reading.{Reads}
 use Rattle.top_model.specs.Orders.{Order, order_of}
 use Rattle.top_model.specs.Texts.{error_line}
@@ -30,7 +30,7 @@ module _ (r : Run) (untouched : r.untouched) (goes_on : GoesOn (still r)) where
   pub ran_out : lone r.words ≡ None → Told r OutOfMemory → Answered (still r)
   ran_out none told = out_of_memory r untouched goes_on order (r.source.inputs, λ t. refl, refl) (may_want_words r none) (told_refused (still r) order OutOfMemory [] (starved_line _ order) told)
 
-  pub refusing : (c : Cause) → Reads asked (λ inputs. order_of r.in_script inputs r.words) r.source_tells r.source r.source_after (failed c)
+  pub refusing : (c : Cause) → Reads as_defined (λ inputs. order_of r.in_script inputs r.words) r.source_tells r.source r.source_after (failed c)
       → (IsErrOf (failed c) ReadFault → IsSome (file_read r.in_script (command_of r.words))) → (IsErrOf (failed c) OutOfMemory → lone r.words ≡ None)
       → Told r c → Answered (still r)
   refusing Usage reads file memory told = refused r untouched goes_on Usage reads refl (record { answer = refl; after = refl }) (told_refused (still r) (Err Usage) Usage [] refl told)

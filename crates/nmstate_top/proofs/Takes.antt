@@ -16,7 +16,7 @@ use Rattle.host_core.specs.Streams.{SourceView, SinkView}
 use Rattle.command_words.specs.Words.{command_of}
 use Rattle.command_words.specs.declared.Command.{Command}
 use Rattle.command_words.specs.declared.Command.TheVariants.{Show, Plan, Policy as PrintValue, Simulate, Apply, Commit, Rollback, Recover, Check, Init, Script, Generate, Service, Rollout}
-use Rattle.order_reading.specs.Asked.{TakesFile, asked}
+use Rattle.order_reading.specs.AsDefined.{TakesFile, as_defined}
 use Rattle.order_reading.specs.Reading.{Reads}
 use Rattle.order_reading.specs.declared.order.Order.{Order as Asked}
 use Rattle.answer_text.specs.Speaking.{Spoken}
@@ -193,7 +193,7 @@ no_name inputs file (inr (is, none)) = none
 
 module _ (r : Run) (untouched : Type 0) where
   abbrev ReadsSo : Cause → Type 0
-  ReadsSo c = Reads asked (λ inputs. order_of r.in_script inputs r.words) r.source_tells r.source r.source_after (failed c)
+  ReadsSo c = Reads as_defined (λ inputs. order_of r.in_script inputs r.words) r.source_tells r.source r.source_after (failed c)
 
   of_file : (file : Option Text) → file_read r.in_script (command_of r.words) ≡ Some file → (c : Cause) → TakesFile untouched r.source_tells r.source r.source_after (Some file) (failed c)
       → ReadsSo c → IsToldOf c r.report → TakesOnly r (Some file)

@@ -16,7 +16,7 @@ use Rattle.engine_model.specs.declared.ApplyOpts.{ApplyOpts}
 use Rattle.engine_model.proofs.lemmas.Leading.{kept_stays, near_wider}
 use Rattle.command_words.specs.declared.Command.{Command}
 use Rattle.command_words.specs.declared.Command.TheVariants.{Show, Plan, Policy, Simulate, Apply, Commit, Rollback, Recover, Check, Init, Script, Generate, Service, Rollout}
-use Rattle.order_reading.specs.Asked.{file_read}
+use Rattle.order_reading.specs.AsDefined.{file_read}
 use Rattle.top_model.specs.Said.{Said}
 use Rattle.top_model.specs.Orders.{Inputs, Order, showing, planning, evaluating, planning_policy, applying_policy, simulating, applying, committing, rolling_back, recovering, checking, making, generating, and_then, input, tree_of, policy, policy_or_document, hardware_list, calls_of, opts, order_named}
 use Rattle.top_model.specs.Runs.{Run, Gives, Alone, SourceRose, HostRose, HostRoseTwice, reads, entry, left_at_exit}

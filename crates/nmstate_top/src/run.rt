@@ -1,7 +1,7 @@
 //! One command, at the prompt or as a step of a script.
 ghost use Rattle.std.specs.Prelude.{◌≡◌, true, false, map, string_bytes};
 ghost use Rattle.command_words.specs.Words.{command_of};
-ghost use Rattle.order_reading.specs.Asked.{asked, has_right_document};
+ghost use Rattle.order_reading.specs.AsDefined.{as_defined, has_right_document};
 ghost use Rattle.top_model.specs.Answered.{Answered};
 ghost use Rattle.top_model.specs.Commands.{Promised, Commanded};
 ghost use Rattle.top_model.specs.Promises.{StandsApart};
@@ -43,7 +43,7 @@ fn run_order<H: Host, S: Source, W: Sink>(
 ) -> Report
     requires document { has_right_document order ≡ true }
     requires hardware { has_hardware order ≡ true }
-    ensures carried { Carried H.Host S.Source W.Sink (asked order) now host.old host.new out.old out.new err.old err.new result }
+    ensures carried { Carried H.Host S.Source W.Sink (as_defined order) now host.old host.new out.old out.new err.old err.new result }
     ensures apart { works_apart order ≡ true → host.new ≡ host.old }
 {
     match order {

@@ -6,7 +6,7 @@ use Rattle.std.proofs.lemmas.Bool.{cases_Bool}
 use Rattle.top_model.specs.Orders.{Text}
 use Rattle.command_words.specs.Words.{lone_word, lone, unescaped, command_of}
 use Rattle.command_words.specs.declared.Command.{Command}
-use Rattle.order_reading.specs.Asked.{TakesMemory}
+use Rattle.order_reading.specs.AsDefined.{TakesMemory}
 
 abbrev TakesNone : Option Command → Type 0
 TakesNone o = TakesMemory o → ⊥

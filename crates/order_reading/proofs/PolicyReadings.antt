@@ -93,7 +93,7 @@ no_usage_policy bytes = no_usage_then (tree_of bytes) policy_of (no_usage_tree b
 
 -- ---- a policy or a document
 
-module _ {D : Type 0} (asked : D → Order) (of_policy : PolicyData → Order) (of_document : Doc → Order) (tree : Shape) where
+module _ {D : Type 0} (as_defined : D → Order) (of_policy : PolicyData → Order) (of_document : Doc → Order) (tree : Shape) where
   abbrev by_policy : Result Order Cause
   by_policy = and_then (policy_of tree) (λ p. Ok (of_policy p))
 
@@ -106,22 +106,22 @@ module _ {D : Type 0} (asked : D → Order) (of_policy : PolicyData → Order) (
   is_by_document : is_policy tree ≡ false → policy_or_document of_policy of_document tree ≡ by_document
   is_by_document is = rw is refl
 
-  pub a_policy : (p : Held) (order : D) → is_policy tree ≡ true → policy_of tree ≡ Ok (data_of p) → asked order ≡ of_policy (data_of p) → policy_or_document of_policy of_document tree ≡ Ok (asked order)
+  pub a_policy : (p : Held) (order : D) → is_policy tree ≡ true → policy_of tree ≡ Ok (data_of p) → as_defined order ≡ of_policy (data_of p) → policy_or_document of_policy of_document tree ≡ Ok (as_defined order)
   a_policy p order is read same = rw (is, read, same) refl
 
-  pub no_policy : (cause : Cause) → is_policy tree ≡ true → Answers data_of (policy_of tree) (Err cause) → Answers asked (policy_or_document of_policy of_document tree) (Err cause)
+  pub no_policy : (cause : Cause) → is_policy tree ≡ true → Answers data_of (policy_of tree) (Err cause) → Answers as_defined (policy_or_document of_policy of_document tree) (Err cause)
   no_policy cause is h =
-      subst (λ (r : Result Order Cause). Answers asked r (Err cause)) (sym (is_by_policy is)) (refused_before data_of asked (policy_of tree) (λ p. Ok (of_policy p)) cause h)
+      subst (λ (r : Result Order Cause). Answers as_defined r (Err cause)) (sym (is_by_policy is)) (refused_before data_of as_defined (policy_of tree) (λ p. Ok (of_policy p)) cause h)
 
-  pub a_document : (doc : Doc) (order : D) → is_policy tree ≡ false → with_fault Schema (document_of_tree tree) ≡ Ok doc → asked order ≡ of_document doc
-      → policy_or_document of_policy of_document tree ≡ Ok (asked order)
+  pub a_document : (doc : Doc) (order : D) → is_policy tree ≡ false → with_fault Schema (document_of_tree tree) ≡ Ok doc → as_defined order ≡ of_document doc
+      → policy_or_document of_policy of_document tree ≡ Ok (as_defined order)
   a_document doc order is read same = rw (is, read, same) refl
 
   pub no_document : (cause : Cause) → is_policy tree ≡ false → Answers itself (with_fault Schema (document_of_tree tree)) (Err cause)
-      → Answers asked (policy_or_document of_policy of_document tree) (Err cause)
+      → Answers as_defined (policy_or_document of_policy of_document tree) (Err cause)
   no_document cause is h =
-      subst (λ (r : Result Order Cause). Answers asked r (Err cause)) (sym (is_by_document is))
-      (refused_before itself asked (with_fault Schema (document_of_tree tree)) (λ doc. Ok (of_document doc)) cause h)
+      subst (λ (r : Result Order Cause). Answers as_defined r (Err cause)) (sym (is_by_document is))
+      (refused_before itself as_defined (with_fault Schema (document_of_tree tree)) (λ doc. Ok (of_document doc)) cause h)
 
   pub no_usage_either : policy_or_document of_policy of_document tree ≢ Err Usage
   no_usage_either = elim (is_policy tree) as (λ b. (if b then by_policy else by_document) ≢ Err Usage) [

@@ -1,6 +1,6 @@
 pub mod Reading
 pub mod Pieces
 pub mod Faults
-pub mod Asked
+pub mod AsDefined
 pub mod Steps
 pub mod Workload

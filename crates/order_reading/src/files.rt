@@ -5,7 +5,7 @@ ghost use Rattle.doc_tree.specs.Shape.{shape, is_distinct, has_short_lists};
 ghost use Rattle.top_model.specs.Orders.{and_then, input, tree_of, policy, hardware_list, calls_of};
 ghost use Rattle.top_model.specs.declared.Cause.TheVariants.{Usage};
 ghost use Rattle.order_reading.specs.Reading.{Reads, GoesOn, Takes, itself};
-ghost use Rattle.order_reading.specs.Asked.{read_there};
+ghost use Rattle.order_reading.specs.AsDefined.{read_there};
 
 use crate::calls::calls_in;
 use crate::document::{hardware_in, tree_of};

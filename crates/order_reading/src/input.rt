@@ -3,7 +3,7 @@ ghost use Rattle.std.specs.Prelude.{◌≡◌, ◌<◌, ◌&&◌, None, is_none,
 ghost use Rattle.top_model.specs.Orders.{input, stdin};
 ghost use Rattle.top_model.specs.declared.Cause.TheVariants.{Usage};
 ghost use Rattle.order_reading.specs.Reading.{Reads, GoesOn, Takes};
-ghost use Rattle.order_reading.specs.Asked.{read_there};
+ghost use Rattle.order_reading.specs.AsDefined.{read_there};
 ghost use Rattle.order_reading.specs.Pieces.{ReadsPiece, ReadsName, bytes_seen};
 
 use base_model::Str;

@@ -1,7 +1,7 @@
 -- Whether something stands where it belongs.
 use Rattle.std.proofs.Common.{◌≡◌, ℕ, ◌<◌, Bool, true, false, List, [], ◌∷◌, length, get_or, refl, sym, ap, ◌∙◌}
 use Rattle.std.specs.List.{list_any}
-use Rattle.net_model.specs.Places.{Stands}
+use Rattle.net_model.specs.Positions.{Stands}
 use Rattle.net_model.proofs.lemmas.Places.{any_at, none_at}
 use Rattle.net_model.proofs.lemmas.Truth.{or_left_false, or_right_false}
 

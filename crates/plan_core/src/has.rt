@@ -9,15 +9,15 @@ ghost use Rattle.kernel_model.specs.Routes.{same_route};
 ghost use Rattle.plan_model.specs.Undisturbed.{has_route};
 ghost use Rattle.plan_core.specs.Parts.{has_address};
 
-use net_model::{Name, Net, Place, Prefix, Route, Rule, address_place};
+use net_model::{Name, Net, Position, Prefix, Route, Rule, address_position};
 
 /// Whether the rule is there.
 pub fn has_rule(net: &Net, rule: &Rule) -> bool
     ensures { result ≡ list_any (same_rule rule.now) net.now.rules }
 {
-    match net.rule_place(rule) {
-        Place::At(_) => true,
-        Place::Gap(_) => false,
+    match net.rule_position(rule) {
+        Position::At(_) => true,
+        Position::Gap(_) => false,
     }
 }
 
@@ -31,9 +31,9 @@ fn is_same_route(a: &Route, b: &Route) -> bool
 pub fn has_route(net: &Net, route: &Route) -> bool
     ensures { result ≡ has_route route.now net.now.routes }
 {
-    match net.route_place(route) {
-        Place::At(i) => is_same_route(route, &net.routes()[i]),
-        Place::Gap(_) => false,
+    match net.route_position(route) {
+        Position::At(i) => is_same_route(route, &net.routes()[i]),
+        Position::Gap(_) => false,
     }
 }
 
@@ -49,9 +49,9 @@ pub fn has_prefix(addrs: &[Prefix], prefix: &Prefix) -> bool
     requires differ { addresses_differ addrs.now ≡ true }
     ensures { result ≡ has_block prefix.now addrs.now }
 {
-    match address_place(addrs, prefix) {
-        Place::At(i) => is_same_prefix(prefix, &addrs[i]),
-        Place::Gap(_) => false,
+    match address_position(addrs, prefix) {
+        Position::At(i) => is_same_prefix(prefix, &addrs[i]),
+        Position::Gap(_) => false,
     }
 }
 

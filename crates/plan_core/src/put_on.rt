@@ -9,7 +9,7 @@ ghost use Rattle.plan_core.specs.Steps.{MayPutOn, PutsOn};
 use crate::equal::same_dns;
 use crate::has::{has_address, has_route, has_rule};
 use link_planner::Draft;
-use net_model::{Call, Dns, Link, Name, OutOfMemory, Prefix, Route, Rule};
+use net_model::{Call, Link, Name, OutOfMemory, Prefix, Route, Rule};
 use std::alloc::AllocError;
 
 // The call that puts the address on, or none where it is there.
@@ -104,12 +104,6 @@ fn add_rules(draft: &mut Draft) -> Result<(), OutOfMemory>
     Ok(())
 }
 
-fn copy_dns(dns: &Dns) -> Result<Dns, AllocError>
-    ensures { IfOk result (λ copy. copy ≡ dns.now) }
-{
-    dns.clone()
-}
-
 // Sets DNS, if it isn't the target's, where all else is the target's.
 fn set_dns(draft: &mut Draft) -> Result<(), OutOfMemory>
     requires links { draft.old.net.links ≡ draft.old.target.links }
@@ -120,7 +114,7 @@ fn set_dns(draft: &mut Draft) -> Result<(), OutOfMemory>
 {
     if !same_dns(draft.net().dns(), draft.target().dns()) {
         draft.laws();
-        let dns = copy_dns(draft.target().dns())?;
+        let dns = draft.target().dns().copy()?;
         draft.add(Call::SetDns { dns })?;
     }
     Ok(())

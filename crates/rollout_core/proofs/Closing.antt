@@ -22,7 +22,7 @@ use Rattle.rollout_core.specs.Answers.{closing}
 use Rattle.rollout_core.specs.Calls.{Commits}
 use Rattle.rollout_core.specs.Causes.{Comes}
 use Rattle.rollout_core.specs.Did.{change}
-use Rattle.rollout_core.specs.Places.{WaitsSince, Merged, Once, Station, Place, ReadsAs, BegunBy, NodeHolds}
+use Rattle.rollout_core.specs.Places.{WaitsSince, Merged, Once, Station, AtRest, ReadsAs, BegunBy, NodeHolds}
 use Rattle.rollout_core.proofs.Looking.{Waited, waited, in_time_at, due_at}
 use Rattle.rollout_core.proofs.Near.{near_self, widen, within_bind, through, goes_on}
 use Rattle.engine_model.proofs.lemmas.Leading.{near_wider}
@@ -81,7 +81,7 @@ module _ (tells honest : Type 0) (told : tells) (doc : Doc) (timeout now i : ℕ
       pub holds : NodeHolds doc timeout begun good (closed_to event) first new
       pub comes : Comes doc timeout begun first new now event
 
-    held : (to : NodeState) → ReadsAs doc timeout stood begun good to (standing new.state) → Within (left_by new) (Place doc timeout stood begun good to) → (to ≡ Fresh → ⊥) → NodeHolds doc timeout begun good to first new
+    held : (to : NodeState) → ReadsAs doc timeout stood begun good to (standing new.state) → Within (left_by new) (AtRest doc timeout stood begun good to) → (to ≡ Fresh → ⊥) → NodeHolds doc timeout begun good to first new
     held to reads left some =
         goes_on doc timeout first old new begun good Probed before begun good (λ a is. is) (Only (commit now was).after) kept (λ b is. near_self P b (after_is b is)) to (by to some) reads left later
       where

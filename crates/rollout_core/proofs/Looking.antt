@@ -25,7 +25,7 @@ use Rattle.rollout_core.specs.Answers.{in_time, probing}
 use Rattle.rollout_core.specs.Calls.{Looks}
 use Rattle.rollout_core.specs.Causes.{Comes, InTime, IsDue}
 use Rattle.rollout_core.specs.Did.{change}
-use Rattle.rollout_core.specs.Places.{Waits, WaitsSince, Once, Station, Place, ReadsAs, BegunBy, NodeHolds}
+use Rattle.rollout_core.specs.Places.{Waits, WaitsSince, Once, Station, AtRest, ReadsAs, BegunBy, NodeHolds}
 use Rattle.rollout_core.specs.Trace.{is_good_of}
 use Rattle.rollout_core.proofs.Near.{near_self, widen, through, station_good, goes_on}
 use Rattle.rollout_core.proofs.Probing.{look_sees, look_whole, look_same}
@@ -78,7 +78,7 @@ module _ (tells honest : Type 0) (trust : honest) (told : tells) (doc : Doc) (ti
     left : Within (left_by new) (WaitsSince doc timeout stood begun)
     left = through (WaitsSince doc timeout stood begun) old new before.left (before_within old new call.stays)
 
-    held : (later : Bool) → (good ≡ true → later ≡ true) → (to : NodeState) → ReadsAs doc timeout stood begun later to (standing new.state) → Within (left_by new) (Place doc timeout stood begun later to) → (to ≡ Fresh → ⊥)
+    held : (later : Bool) → (good ≡ true → later ≡ true) → (to : NodeState) → ReadsAs doc timeout stood begun later to (standing new.state) → Within (left_by new) (AtRest doc timeout stood begun later to) → (to ≡ Fresh → ⊥)
         → NodeHolds doc timeout begun later to first new
     held later up to reads left_ some =
         goes_on doc timeout first old new begun good Opened before begun later (station_good doc timeout stood begun good later up) (Station doc timeout stood begun later) (kept (Station doc timeout stood begun later))

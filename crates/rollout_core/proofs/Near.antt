@@ -8,7 +8,7 @@ use Rattle.engine_model.specs.Stations.{Stands, Near, Within, Before, BeforeAsRe
 use Rattle.engine_model.proofs.lemmas.Leading.{alike_is, near_on, near_wider}
 use Rattle.rollout_model.specs.declared.node.NodeState.{NodeState}
 use Rattle.rollout_model.specs.declared.node.NodeState.TheVariants.{Fresh, Starting, Opened, Probed, Committed, Restored, Doubt}
-use Rattle.rollout_core.specs.Places.{Station, Place, ReadsAs, BegunBy, NodeHolds}
+use Rattle.rollout_core.specs.Places.{Station, AtRest, ReadsAs, BegunBy, NodeHolds}
 
 -- without a checkpoint what stands settles to itself
 pub settled_alone : (now : ℕ) (a : Standing) → a.cell ≡ None → settled now a ≡ Some a
@@ -43,7 +43,7 @@ module _ (P : Stands) (old new : HostView) where
 
 module _ (doc : Doc) (timeout : ℕ) (stood : Standing) where
   -- where a node may be between two steps it may be at each moment
-  pub place_station : (begun : Option ℕ) (good : Bool) (state : NodeState) (a : Standing) → Place doc timeout stood begun good state a → Station doc timeout stood begun good a
+  pub place_station : (begun : Option ℕ) (good : Bool) (state : NodeState) (a : Standing) → AtRest doc timeout stood begun good state a → Station doc timeout stood begun good a
   place_station begun good Fresh a is = inl is
   place_station begun good Starting a is = is
   place_station begun good Opened a is = inr (inl is)
@@ -80,7 +80,7 @@ module _ (doc : Doc) (timeout : ℕ) (first old new : HostView) (begun : Option 
       | inl like ↦
           let near = before.left (standing r) (r, may, refl) in
           near_on S (standing r) (standing s)
-          (near_wider (Place doc timeout stood begun good state) S (λ a is. wider a (place_station doc timeout stood begun good state a is)) (standing r) near) like
+          (near_wider (AtRest doc timeout stood begun good state) S (λ a is. wider a (place_station doc timeout stood begun good state a is)) (standing r) near) like
       | inr near ↦ near_bind Q S each (standing s) near
     ]
 
@@ -97,7 +97,7 @@ module _ (doc : Doc) (timeout : ℕ) (first old new : HostView) (begun : Option 
     ]
 
     -- a call that leaves this of a node
-    pub goes_on : (to : NodeState) → BegunBy to since → ReadsAs doc timeout stood since later to (standing new.state) → Within (left_by new) (Place doc timeout stood since later to) → old.faults ≤ new.faults
+    pub goes_on : (to : NodeState) → BegunBy to since → ReadsAs doc timeout stood since later to (standing new.state) → Within (left_by new) (AtRest doc timeout stood since later to) → old.faults ≤ new.faults
         → NodeHolds doc timeout since later to first new
     goes_on to by reads left faults = record {
       empty = before.empty;

@@ -25,7 +25,7 @@ use Rattle.rollout_core.specs.Answers.{opening}
 use Rattle.rollout_core.specs.Calls.{Applies}
 use Rattle.rollout_core.specs.Causes.{Comes, IsRefused}
 use Rattle.rollout_core.specs.Did.{change}
-use Rattle.rollout_core.specs.Places.{Changes, WaitsSince, Station, Place, ReadsAs, BegunBy, NodeHolds}
+use Rattle.rollout_core.specs.Places.{Changes, WaitsSince, Station, AtRest, ReadsAs, BegunBy, NodeHolds}
 use Rattle.rollout_core.proofs.Near.{settled_alone, alone_same, widen, near_self, through, station_begun, goes_on}
 
 -- ---- what the machine makes of what stands, where no checkpoint does
@@ -123,7 +123,7 @@ module _ (tells honest : Type 0) (trust : honest) (told : tells) (doc : Doc) (ti
   q_station b is = elim is [ inl settled ↦ inl (settled_only b settled) | inr after ↦ after_is b after ]
 
   module _ (kept : Kept Q old new) (later : old.faults ≤ new.faults) where
-    held : (to : NodeState) → ReadsAs doc timeout stood (Some now) good to (standing new.state) → Within (left_by new) (Place doc timeout stood (Some now) good to) → (to ≡ Fresh → ⊥)
+    held : (to : NodeState) → ReadsAs doc timeout stood (Some now) good to (standing new.state) → Within (left_by new) (AtRest doc timeout stood (Some now) good to) → (to ≡ Fresh → ⊥)
         → NodeHolds doc timeout (Some now) good to first new
     held to reads left begun =
         goes_on doc timeout first old new None good Fresh before (Some now) good (station_begun doc timeout stood (Some now) good) Q kept (λ b is. near_self P b (q_station b is)) to (begun_by to begun) reads left later

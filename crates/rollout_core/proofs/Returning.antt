@@ -23,7 +23,7 @@ use Rattle.rollout_core.specs.Answers.{returning}
 use Rattle.rollout_core.specs.Calls.{TakesBack}
 use Rattle.rollout_core.specs.Causes.{Comes}
 use Rattle.rollout_core.specs.Did.{change}
-use Rattle.rollout_core.specs.Places.{WaitsSince, Station, Place, ReadsAs, BegunBy, NodeHolds}
+use Rattle.rollout_core.specs.Places.{WaitsSince, Station, AtRest, ReadsAs, BegunBy, NodeHolds}
 use Rattle.rollout_core.proofs.Looking.{Waited, waited}
 use Rattle.rollout_core.proofs.Near.{near_self, widen, within_bind, through, place_station, goes_on}
 
@@ -73,7 +73,7 @@ module _ (tells honest : Type 0) (trust : honest) (told : tells) (doc : Doc) (ti
         pub holds : NodeHolds doc timeout begun good (back_to event) first new
         pub comes : Comes doc timeout begun first new now event
 
-      held : (to : NodeState) → ReadsAs doc timeout stood begun good to (standing new.state) → Within (left_by new) (Place doc timeout stood begun good to) → (to ≡ Fresh → ⊥) → NodeHolds doc timeout begun good to first new
+      held : (to : NodeState) → ReadsAs doc timeout stood begun good to (standing new.state) → Within (left_by new) (AtRest doc timeout stood begun good to) → (to ≡ Fresh → ⊥) → NodeHolds doc timeout begun good to first new
       held to reads left some =
           goes_on doc timeout first old new begun good state before begun good (λ a is. is) (Only (rollback was).after) kept (λ b is. near_self P b (inl (after_stood b is))) to (by to some) reads left later
         where
@@ -88,7 +88,7 @@ module _ (tells honest : Type 0) (trust : honest) (told : tells) (doc : Doc) (ti
       }
 
       before_station : Within (left_by old) P
-      before_station = widen (left_by old) (Place doc timeout stood begun good state) P (place_station doc timeout stood begun good state) before.left
+      before_station = widen (left_by old) (AtRest doc timeout stood begun good state) P (place_station doc timeout stood begun good state) before.left
 
       was_station : (b : Standing) → b ≡ was → P b
       was_station b is = inr (inl (subst (λ (s : Standing). WaitsSince doc timeout stood begun s) (sym is) waits))

@@ -46,20 +46,20 @@ module _ (doc : Doc) (timeout : ℕ) (stood : Standing) where
   Station begun good = Either (Only stood) (Either (WaitsSince begun) (Once good Merged))
 
   -- between two steps, by the state of the node
-  abbrev pub Place : Option ℕ → Bool → NodeState → Stands
-  Place begun good Fresh = Only stood
-  Place begun good Starting = Station begun good
-  Place begun good Opened = WaitsSince begun
-  Place begun good Probed = Once good (WaitsSince begun)
-  Place begun good Committed = Once good Merged
-  Place begun good Restored = Only stood
-  Place begun good Doubt = Station begun good
+  abbrev pub AtRest : Option ℕ → Bool → NodeState → Stands
+  AtRest begun good Fresh = Only stood
+  AtRest begun good Starting = Station begun good
+  AtRest begun good Opened = WaitsSince begun
+  AtRest begun good Probed = Once good (WaitsSince begun)
+  AtRest begun good Committed = Once good Merged
+  AtRest begun good Restored = Only stood
+  AtRest begun good Doubt = Station begun good
 
   -- it reads so, unless nobody knows
   abbrev pub ReadsAs : Option ℕ → Bool → NodeState → Stands
   ReadsAs begun good Starting stands = Near (Station begun good) stands
   ReadsAs begun good Doubt stands = Near (Station begun good) stands
-  ReadsAs begun good state stands = Place begun good state stands
+  ReadsAs begun good state stands = AtRest begun good state stands
 
 -- a fresh node wasn't begun
 abbrev pub BegunBy : NodeState → Option ℕ → Type 0
@@ -73,7 +73,7 @@ pub record NodeHolds (doc : Doc) (timeout : ℕ) (begun : Option ℕ) (good : Bo
   pub sound : Sound now
   -- how it reads, and what a stop now may leave
   pub reads : ReadsAs doc timeout (standing first.state) begun good state (standing now.state)
-  pub left : Within (left_by now) (Place doc timeout (standing first.state) begun good state)
+  pub left : Within (left_by now) (AtRest doc timeout (standing first.state) begun good state)
   -- what a stop at any moment since the start of the rollout may have left
   pub during : (s : State) → now.stops.left_since first.stops.moment s → Near (Station doc timeout (standing first.state) begun good) (standing s)
   -- and each of those can be recovered from

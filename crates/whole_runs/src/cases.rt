@@ -29,7 +29,7 @@ use crate::expected::{Expected, push_bytes};
 use crate::inputs::Inputs;
 use crate::machine::{Kind, Machine, is_same, shown};
 use crate::reading::{bytes_of_hex, first_word, hex_of_bytes, number, text_of};
-use crate::runs::{Asked, Faults, Run, Seen};
+use crate::runs::{EntryPoint, Faults, Run, Seen};
 use crate::stored::{area_of, behind, cut, overwritten};
 use crate::sweeps::{Kept, Sweep, find, sweep_named};
 use anyhow::{Result, anyhow};
@@ -372,8 +372,8 @@ impl Cases {
     // Lines that run commands.
     fn runs(&mut self, alloc: Global, word: &str, rest: &str) -> Result<()> {
         match word {
-            "$" => self.run(alloc, &Run::of(alloc, Asked::Command, rest)?, rest),
-            "@" => self.run(alloc, &Run::of(alloc, Asked::At, rest)?, rest),
+            "$" => self.run(alloc, &Run::of(alloc, EntryPoint::Command, rest)?, rest),
+            "@" => self.run(alloc, &Run::of(alloc, EntryPoint::At, rest)?, rest),
             "%" => self.run(alloc, &Run::script_of(alloc, rest)?, rest),
             _ => self.sweep(alloc, word, rest),
         }

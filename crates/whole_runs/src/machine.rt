@@ -1,6 +1,6 @@
 //! Hosts at rest, between two commands.
 
-use crate::runs::{Asked, Faults, Run, Seen, run_on};
+use crate::runs::{EntryPoint, Faults, Run, Seen, run_on};
 use crate::stored::cut;
 use anyhow::{Result, anyhow};
 use base_model::OutOfMemory;
@@ -290,7 +290,7 @@ impl Machine {
 pub fn shown(alloc: Global, net: Option<Net>) -> Result<Vec<u8>> {
     let empty = Vec::new(alloc);
     let machine = Machine::Memory(MemoryHost::new(alloc, net, empty, Vec::new(alloc)));
-    let run = Run::of(alloc, Asked::Command, "0 show")?;
+    let run = Run::of(alloc, EntryPoint::Command, "0 show")?;
     let (_, seen) = machine.run(alloc, &run, &Faults::none(alloc), Vec::new(alloc))?;
     let mut text = seen.out.clone()?;
     text.extend_from_slice(&seen.err)?;

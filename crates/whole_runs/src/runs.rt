@@ -8,9 +8,9 @@ use net_model::Net;
 use nmstate_top::{Cause, Report, Step, run_at, run_command, run_script};
 use std::alloc::Global;
 
-/// Which call is asked.
+/// Which public call is made.
 #[derive(Clone, Copy, Debug)]
-pub enum Asked {
+pub enum EntryPoint {
     Command,
     At,
     Script,
@@ -19,7 +19,7 @@ pub enum Asked {
 /// What is asked of it: words at a moment, or the steps of a script.
 #[derive(Drop)]
 pub struct Run {
-    asked: Asked,
+    entry: EntryPoint,
     now: u64,
     words: Vec<String>,
     steps: Vec<Step>,
@@ -35,10 +35,10 @@ fn step(alloc: Global, line: &str) -> Result<Step> {
 
 impl Run {
     /// `MOMENT WORDS`, at the prompt or as one command.
-    pub fn of(alloc: Global, asked: Asked, line: &str) -> Result<Run> {
+    pub fn of(alloc: Global, entry: EntryPoint, line: &str) -> Result<Run> {
         let step = step(alloc, line)?;
         Ok(Run {
-            asked,
+            entry,
             now: step.at,
             words: step.words,
             steps: Vec::new(alloc),
@@ -52,7 +52,7 @@ impl Run {
             steps.push(step(alloc, part.trim())?)?;
         }
         Ok(Run {
-            asked: Asked::Script,
+            entry: EntryPoint::Script,
             now: 0,
             words: Vec::new(alloc),
             steps,
@@ -154,10 +154,10 @@ pub fn run_on<H: Host>(
     let mut src = MemorySource::new(alloc, inputs, faults.source.clone()?);
     let mut out = MemorySink::new(alloc, faults.out.clone()?);
     let mut err = MemorySink::new(alloc, faults.err.clone()?);
-    let report = match run.asked {
-        Asked::Command => command(alloc, run, host, &mut src, &mut out, &mut err),
-        Asked::At => at_moment(alloc, run, host, &mut src, &mut out, &mut err),
-        Asked::Script => script(alloc, run, host, &mut src, &mut out, &mut err),
+    let report = match run.entry {
+        EntryPoint::Command => command(alloc, run, host, &mut src, &mut out, &mut err),
+        EntryPoint::At => at_moment(alloc, run, host, &mut src, &mut out, &mut err),
+        EntryPoint::Script => script(alloc, run, host, &mut src, &mut out, &mut err),
     };
     make_seen(report, &out, &err)
 }

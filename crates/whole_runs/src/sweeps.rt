@@ -3,7 +3,7 @@
 use crate::inputs::copied;
 use crate::machine::{Machine, copied_net, is_same};
 use crate::reading::words;
-use crate::runs::{Asked, Faults, Run};
+use crate::runs::{EntryPoint, Faults, Run};
 use anyhow::{Result, anyhow};
 use host_memory::Fuse;
 use net_model::Net;
@@ -74,8 +74,8 @@ impl Sweep {
         }
         let recovery = format!(in alloc; "{moment} recover")?;
         Ok(Sweep {
-            run: Run::of(alloc, Asked::Command, command)?,
-            recovery: Run::of(alloc, Asked::Command, &recovery)?,
+            run: Run::of(alloc, EntryPoint::Command, command)?,
+            recovery: Run::of(alloc, EntryPoint::Command, &recovery)?,
             allowed,
             met: Vec::new(alloc),
             inputs,

@@ -3,7 +3,7 @@ use Rattle.std.proofs.Common.{◌≡◌, ℕ, zero, suc, ◌≤◌, Bool, true, 
 use Rattle.std.specs.Option.{is_none}
 use Rattle.std.proofs.lemmas.Bool.{and_parts, eqb-true, leb-true}
 use Rattle.net_model.specs.Links.{is_bond, is_bridge}
-use Rattle.net_model.specs.Options.{default_bond, default_bridge, is_default_bond, is_default_bridge, is_fast, is_layer2}
+use Rattle.net_model.specs.Options.{default_bond, default_bridge, is_default_bond, is_default_bridge, is_fast, is_layer2, mode_number}
 use Rattle.net_model.specs.declared.mac.Mac.{Mac}
 use Rattle.net_model.specs.declared.link.Kind.{Kind}
 use Rattle.net_model.specs.declared.link.Kind.TheVariants.{Ethernet, Bond, Bridge, Vlan, Vrf, Dummy, Veth}
@@ -19,7 +19,7 @@ use Rattle.net_model.specs.declared.options.Proto.{Proto}
 use Rattle.net_model.specs.declared.options.Proto.TheVariants.{Dot1q, Dot1ad}
 use Rattle.net_image.specs.Form.{◌⨾◌, byte, nothing, never, variant, linked, counted, number}
 use Rattle.net_image.specs.Fields.{up_to, flag, name, maybe_name, mac, table, prefix}
-use Rattle.net_image.specs.Links.{mode_number, mode_of, mode, rate_number, rate_of, rate, policy_number, policy_of, policy, proto_number, proto_of, proto, kind_number, ethernet_held, bond_held, bridge_held, vlan_held, vrf_held, dummy_held, veth_held, vlan_id, kind_behind, kind, bond_options, bridge_options, port_options, bond_part, bridge_part, Front, front, back, link_of, link_parts, link}
+use Rattle.net_image.specs.Links.{mode_of, mode, rate_number, rate_of, rate, policy_number, policy_of, policy, proto_number, proto_of, proto, kind_number, ethernet_held, bond_held, bridge_held, vlan_held, vrf_held, dummy_held, veth_held, vlan_id, kind_behind, kind, bond_options, bridge_options, port_options, bond_part, bridge_part, Front, front, back, link_of, link_parts, link}
 use Rattle.net_image.specs.Laws.{IsExact}
 use Rattle.net_image.proofs.lemmas.Exact.{byte_exact, nothing_exact, never_exact, such_that_exact, made_exact, variant_exact, linked_exact, seq_exact, tagged_exact, counted_exact}
 use Rattle.net_image.proofs.lemmas.Numbers.{number_exact}

@@ -8,7 +8,7 @@ use Rattle.std.proofs.lemmas.List.Sums.{sum_by-cons}
 use Rattle.byteorder.specs.Numbers.{length-bytes_high_first}
 use Rattle.net_model.specs.Name.{is_name}
 use Rattle.net_model.specs.NetData.{NetData, is_net}
-use Rattle.net_model.specs.Standing.{no_cycle}
+use Rattle.net_model.specs.Dependence.{no_cycle}
 use Rattle.net_model.specs.Valid.{least_broken, address_count, names_differ, bases_stand, controllers_take, bases_up, mtus_fit, ports_without_addresses, addresses_fit, routes_stand, rules_differ, options_fit, limits_hold, peers_stand, counts_fit, links_fit}
 use Rattle.net_model.specs.Words.{first_false}
 use Rattle.net_model.specs.Options.{default_bond, default_bridge, is_default_bond, is_default_bridge}

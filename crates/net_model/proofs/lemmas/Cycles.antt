@@ -1,4 +1,4 @@
--- Links stand on each other in a cycle exactly where the arrows of standing on lead round.
+-- Links depend on each other in a cycle exactly where the arrows of dependence lead round.
 use Rattle.std.proofs.Common.{◌≡◌, ℕ, ◌<◌, zero, suc, Bool, true, false, not, ◌&&◌, ◌||◌, List, [], ◌∷◌, map, length, get_or, Some, refl, sym, ap, subst, ◌∙◌, arith}
 use Rattle.reach.specs.Reach.{is_reached, Represents}
 use Rattle.reach.specs.Cycle.{target, HasRanks, Decides}
@@ -6,7 +6,7 @@ use Rattle.reach.proofs.lemmas.Least.{any_index}
 use Rattle.net_model.specs.Words.{positions, rises}
 use Rattle.net_model.specs.Order.{link_cmp}
 use Rattle.net_model.specs.Links.{find_link, is_named, same_name}
-use Rattle.net_model.specs.Standing.{stands_on, on_cycle, no_cycle}
+use Rattle.net_model.specs.Dependence.{depends_on, on_cycle, no_cycle}
 use Rattle.net_model.specs.Valid.{names_differ}
 use Rattle.net_model.specs.declared.link.Link.{Link}
 use Rattle.net_model.proofs.lemmas.Truth.{and_left, and_right}
@@ -16,27 +16,27 @@ use Rattle.net_model.proofs.lemmas.Arrows.{rows-IsGraph, rows-Represents, all_pl
 use Rattle.net_model.proofs.lemmas.Places.{only_itself}
 use Rattle.net_model.proofs.lemmas.Ranks.{or_elim, rank-falls}
 use Rattle.reach.proofs.lemmas.Saturate.{tally}
-use Rattle.net_model.specs.Standing.{reaches}
+use Rattle.net_model.specs.Dependence.{reaches}
 
--- for each link, the places of those that it stands on
+-- for each link, the places of those that it depends on
 abbrev pub rows : List Link → List (List ℕ)
-rows links = map (λ l. positions (stands_on l) 0 links) links
+rows links = map (λ l. positions (depends_on l) 0 links) links
 
 module _ (links : List Link) (d : Link) (differ : names_differ links ≡ true) where
-  graph : Represents stands_on (λ l. false) links d (rows links) (map (λ l. false) links)
-  graph = rows-Represents stands_on (λ l. false) links d
+  graph : Represents depends_on (λ l. false) links d (rows links) (map (λ l. false) links)
+  graph = rows-Represents depends_on (λ l. false) links d
 
   -- what is reached has a lower rank
-  lower : (r : HasRanks (rows links)) (i : ℕ) → i < length links → (steps j : ℕ) → j < length links → is_reached stands_on (is_named (get_or links i d).name) links steps (get_or links j d) ≡ true → r.rank j < r.rank i
+  lower : (r : HasRanks (rows links)) (i : ℕ) → i < length links → (steps j : ℕ) → j < length links → is_reached depends_on (is_named (get_or links i d).name) links steps (get_or links j d) ≡ true → r.rank j < r.rank i
   lower r i lt zero j below h = absurd cc
   lower r i lt (suc steps) j below h =
       let n = (get_or links i d).name in
-      let c = any_index (λ c. stands_on c (get_or links j d) && (is_named (get_or links i d).name c || is_reached stands_on (is_named (get_or links i d).name) links steps c)) links d h in
-      let on = and_left (stands_on (get_or links c.0 d) (get_or links j d)) (is_named (get_or links i d).name (get_or links c.0 d) || is_reached stands_on (is_named (get_or links i d).name) links steps (get_or links c.0 d)) c.2 in
-      let either = and_right (stands_on (get_or links c.0 d) (get_or links j d)) (is_named (get_or links i d).name (get_or links c.0 d) || is_reached stands_on (is_named (get_or links i d).name) links steps (get_or links c.0 d)) c.2 in
+      let c = any_index (λ c. depends_on c (get_or links j d) && (is_named (get_or links i d).name c || is_reached depends_on (is_named (get_or links i d).name) links steps c)) links d h in
+      let on = and_left (depends_on (get_or links c.0 d) (get_or links j d)) (is_named (get_or links i d).name (get_or links c.0 d) || is_reached depends_on (is_named (get_or links i d).name) links steps (get_or links c.0 d)) c.2 in
+      let either = and_right (depends_on (get_or links c.0 d) (get_or links j d)) (is_named (get_or links i d).name (get_or links c.0 d) || is_reached depends_on (is_named (get_or links i d).name) links steps (get_or links c.0 d)) c.2 in
       let arrow = graph.arrow c.0 j c.1 below on in
       let step : r.rank j < r.rank c.0 = subst (λ m. r.rank m < r.rank c.0) arrow.2 (r.falls c.0 arrow.0 (omega (arith, graph.whole, c.1)) arrow.1) in
-      or_elim (is_named (get_or links i d).name (get_or links c.0 d)) (is_reached stands_on (is_named (get_or links i d).name) links steps (get_or links c.0 d)) (r.rank j < r.rank i)
+      or_elim (is_named (get_or links i d).name (get_or links c.0 d)) (is_reached depends_on (is_named (get_or links i d).name) links steps (get_or links c.0 d)) (r.rank j < r.rank i)
       (λ e. subst (λ m. r.rank j < r.rank m) (only_itself same_name link_cmp link_cmp_total names_tie links differ i c.0 d lt c.1 e) step)
       (λ e. omega (arith, step, lower r i lt steps c.0 c.1 e))
       either
@@ -61,7 +61,7 @@ module _ (links : List Link) (d : Link) (differ : names_differ links ≡ true) w
     rank = λ j. tally (reaches links (length links) (get_or links j d).name) links;
     falls = λ i k lt below.
         let inside : i < length links = omega (arith, graph.whole, lt) in
-        let to : target (rows links) i k < length links = omega (arith, graph.whole, rows-IsGraph stands_on (λ l. false) links d i k lt below) in
+        let to : target (rows links) i k < length links = omega (arith, graph.whole, rows-IsGraph depends_on (λ l. false) links d i k lt below) in
         let here : find_link (get_or links i d).name links ≡ Some (get_or links i d) = found_at links (get_or links i d).name i d differ inside (itself (get_or links i d).name) in
         let there : find_link (get_or links (target (rows links) i k) d).name links ≡ Some (get_or links (target (rows links) i k) d) = found_at links (get_or links (target (rows links) i k) d).name (target (rows links) i k) d differ to (itself (get_or links (target (rows links) i k) d).name) in
         rank-falls links differ none (get_or links i d) (get_or links (target (rows links) i k) d) here there (graph.leading i k inside below);
@@ -71,7 +71,7 @@ module _ (links : List Link) (d : Link) (differ : names_differ links ≡ true) w
   decided_at false ranks = sym (ranked_none ranks)
   decided_at true no_ranks = sym (off (no_cycle links) (λ h. no_ranks (none_ranked h)))
 
--- whether the arrows lead round decides whether links stand on each other in a cycle
+-- whether the arrows lead round decides whether links depend on each other in a cycle
 pub decided_links : (links : List Link) → rises link_cmp links ≡ true → (cycle : Bool) (arrows : List (List ℕ)) → arrows ≡ rows links → Decides cycle arrows → not cycle ≡ no_cycle links
 decided_links [] up false arrows e decides = refl
 decided_links [] up true arrows e decides = absurd (subst (λ a. HasRanks a → ⊥) e decides (record { rank = λ _. 0; falls = λ i k lt below. absurd (omega arith) }))

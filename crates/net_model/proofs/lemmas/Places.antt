@@ -11,7 +11,7 @@ use Rattle.net_model.specs.Name.{same_bytes}
 use Rattle.net_model.specs.Words.{apart, put, rises}
 use Rattle.net_model.specs.Order.{link_cmp}
 use Rattle.net_model.specs.Links.{is_named, same_name, find_link}
-use Rattle.net_model.specs.Places.{Stands, IsGap, IsAt, IsLinkGap}
+use Rattle.net_model.specs.Positions.{Stands, IsGap, IsAt, IsLinkGap}
 use Rattle.net_model.specs.Valid.{names_differ}
 use Rattle.net_model.specs.declared.link.Link.{Link}
 use Rattle.net_model.proofs.lemmas.Truth.{and_left, and_right, not_true, or_left_false, or_right_false}

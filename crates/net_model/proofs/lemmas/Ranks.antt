@@ -1,8 +1,8 @@
--- Without a cycle links have ranks, which fall with each step of standing on; and where there are such ranks there is no cycle.
+-- Without a cycle links have ranks, which fall with each step of dependence; and where there are such ranks there is no cycle.
 use Rattle.std.proofs.Common.{◌≡◌, ℕ, ◌<◌, zero, suc, Bool, true, false, not, ◌&&◌, ◌||◌, cond, List, [], ◌∷◌, length, Some, refl, sym, ap, subst, ◌∙◌, arith}
 use Rattle.reach.proofs.lemmas.Saturate.{tally, AgreeOn, tally_le, reached_all}
 use Rattle.net_model.specs.Links.{find_link, is_named}
-use Rattle.net_model.specs.Standing.{stands_on, reaches, on_cycle, no_cycle}
+use Rattle.net_model.specs.Dependence.{depends_on, reaches, on_cycle, no_cycle}
 use Rattle.net_model.specs.Valid.{names_differ}
 use Rattle.net_model.specs.declared.link.Link.{Link}
 use Rattle.net_model.proofs.lemmas.Truth.{and_left, and_right, and_both, or_right, not_true}
@@ -12,7 +12,7 @@ use Rattle.net_model.proofs.lemmas.ByName.{or_left, all_found, by_name, some_fou
 
 -- the rank falls with each step
 abbrev pub Falls : List Link → (List ℕ → ℕ) → Type 0
-Falls links rank = (a b : Link) → find_link a.name links ≡ Some a → find_link b.name links ≡ Some b → stands_on a b ≡ true → rank b.name < rank a.name
+Falls links rank = (a b : Link) → find_link a.name links ≡ Some a → find_link b.name links ≡ Some b → depends_on a b ≡ true → rank b.name < rank a.name
 
 pub or_elim : (a b : Bool) (X : Type 0) → (a ≡ true → X) → (b ≡ true → X) → (a || b) ≡ true → X
 or_elim true b X f g h = f refl
@@ -22,12 +22,12 @@ or_elim false b X f g h = g h
 pub lower : (links : List Link) (rank : List ℕ → ℕ) → names_differ links ≡ true → Falls links rank → (n : List ℕ) (d : ℕ) (x : Link) → find_link x.name links ≡ Some x → reaches links d n x ≡ true → rank x.name < rank n
 lower links rank differ falls n zero x found h = absurd cc
 lower links rank differ falls n (suc d) x found h =
-    let c = some_found (λ c. stands_on c x && (is_named n c || reaches links d n c)) links differ h in
-    let step : rank x.name < rank c.0.name = falls c.0 x c.1 found (and_left (stands_on c.0 x) (is_named n c.0 || reaches links d n c.0) c.2) in
+    let c = some_found (λ c. depends_on c x && (is_named n c || reaches links d n c)) links differ h in
+    let step : rank x.name < rank c.0.name = falls c.0 x c.1 found (and_left (depends_on c.0 x) (is_named n c.0 || reaches links d n c.0) c.2) in
     or_elim (is_named n c.0) (reaches links d n c.0) (rank x.name < rank n)
     (λ e. subst (λ m. rank x.name < rank m) (one_name c.0.name n e) step)
     (λ e. omega (arith, step, lower links rank differ falls n d c.0 c.1 e))
-    (and_right (stands_on c.0 x) (is_named n c.0 || reaches links d n c.0) c.2)
+    (and_right (depends_on c.0 x) (is_named n c.0 || reaches links d n c.0) c.2)
 
 -- so none reaches itself
 pub falls-no_cycle : (links : List Link) (rank : List ℕ → ℕ) → names_differ links ≡ true → Falls links rank → no_cycle links ≡ true
@@ -63,31 +63,31 @@ tally_less f g more (x ∷ xs) n b found fails holds =
     ] found
 
 module _ (links : List Link) where
-  -- a link reaches what it stands on
-  pub stands_reaches : (a b : Link) → find_link a.name links ≡ Some a → stands_on a b ≡ true → (d : ℕ) → reaches links (suc d) a.name b ≡ true
+  -- a link reaches what it depends on
+  pub stands_reaches : (a b : Link) → find_link a.name links ≡ Some a → depends_on a b ≡ true → (d : ℕ) → reaches links (suc d) a.name b ≡ true
   stands_reaches a b found on d =
-      any_found (λ c. stands_on c b && (is_named a.name c || reaches links d a.name c)) links a.name a found
-      (and_both (stands_on a b) (is_named a.name a || reaches links d a.name a) on (or_left (is_named a.name a) (reaches links d a.name a) (itself a.name)))
+      any_found (λ c. depends_on c b && (is_named a.name c || reaches links d a.name c)) links a.name a found
+      (and_both (depends_on a b) (is_named a.name a || reaches links d a.name a) on (or_left (is_named a.name a) (reaches links d a.name a) (itself a.name)))
 
   -- and, in a step more, what that reaches
-  pub reaches_further : (a b : Link) → find_link a.name links ≡ Some a → stands_on a b ≡ true → find_link b.name links ≡ Some b → names_differ links ≡ true → (d : ℕ) (x : Link) → reaches links d b.name x ≡ true → reaches links (suc d) a.name x ≡ true
+  pub reaches_further : (a b : Link) → find_link a.name links ≡ Some a → depends_on a b ≡ true → find_link b.name links ≡ Some b → names_differ links ≡ true → (d : ℕ) (x : Link) → reaches links d b.name x ≡ true → reaches links (suc d) a.name x ≡ true
   reaches_further a b found on below differ zero x h = absurd cc
   reaches_further a b found on below differ (suc d) x h =
-      let c = some_found (λ c. stands_on c x && (is_named b.name c || reaches links d b.name c)) links differ h in
-      let step : stands_on c.0 x ≡ true = and_left (stands_on c.0 x) (is_named b.name c.0 || reaches links d b.name c.0) c.2 in
+      let c = some_found (λ c. depends_on c x && (is_named b.name c || reaches links d b.name c)) links differ h in
+      let step : depends_on c.0 x ≡ true = and_left (depends_on c.0 x) (is_named b.name c.0 || reaches links d b.name c.0) c.2 in
       let there : reaches links (suc d) a.name c.0 ≡ true =
       or_elim (is_named b.name c.0) (reaches links d b.name c.0) (reaches links (suc d) a.name c.0 ≡ true)
       (λ e.
       let one : b ≡ c.0 = (let s : Some b ≡ Some c.0 = sym below ∙ ap (λ m. find_link m links) (sym (one_name c.0.name b.name e)) ∙ c.1 in cc) in
       subst (λ y. reaches links (suc d) a.name y ≡ true) one (stands_reaches a b found on d))
       (reaches_further a b found on below differ d c.0)
-      (and_right (stands_on c.0 x) (is_named b.name c.0 || reaches links d b.name c.0) c.2) in
-      any_found (λ y. stands_on y x && (is_named a.name y || reaches links (suc d) a.name y)) links c.0.name c.0 c.1
-      (and_both (stands_on c.0 x) (is_named a.name c.0 || reaches links (suc d) a.name c.0) step (or_right (is_named a.name c.0) (reaches links (suc d) a.name c.0) there))
+      (and_right (depends_on c.0 x) (is_named b.name c.0 || reaches links d b.name c.0) c.2) in
+      any_found (λ y. depends_on y x && (is_named a.name y || reaches links (suc d) a.name y)) links c.0.name c.0 c.1
+      (and_both (depends_on c.0 x) (is_named a.name c.0 || reaches links (suc d) a.name c.0) step (or_right (is_named a.name c.0) (reaches links (suc d) a.name c.0) there))
 
   -- as many steps as there are links are enough
   pub reaches_enough : (n : List ℕ) (x : Link) → find_link x.name links ≡ Some x → reaches links (suc (length links)) n x ≡ reaches links (length links) n x
-  reaches_enough n x found = sym (agree_at (reaches links (length links) n) (reaches links (suc (length links)) n) links x.name x (reached_all stands_on (is_named n) links) found)
+  reaches_enough n x found = sym (agree_at (reaches links (length links) n) (reaches links (suc (length links)) n) links x.name x (reached_all depends_on (is_named n) links) found)
     where
       agree_at : (f g : Link → Bool) (xs : List Link) (m : List ℕ) (x : Link) → AgreeOn f g xs → find_link m xs ≡ Some x → f x ≡ g x
       agree_at f g [] m x a found = absurd cc
@@ -102,11 +102,11 @@ module _ (links : List Link) where
   rank n = tally (reaches links (length links) n) links
 
   -- without a cycle this falls
-  pub rank-falls : names_differ links ≡ true → no_cycle links ≡ true → (a b : Link) → find_link a.name links ≡ Some a → find_link b.name links ≡ Some b → stands_on a b ≡ true → tally (reaches links (length links) b.name) links < tally (reaches links (length links) a.name) links
+  pub rank-falls : names_differ links ≡ true → no_cycle links ≡ true → (a b : Link) → find_link a.name links ≡ Some a → find_link b.name links ≡ Some b → depends_on a b ≡ true → tally (reaches links (length links) b.name) links < tally (reaches links (length links) a.name) links
   rank-falls differ none a b found below on =
       let off : on_cycle links b ≡ false = not_true (on_cycle links b) (all_found (λ l. not (on_cycle links l)) links b.name b none below) in
       let less : tally (reaches links (length links) b.name) links < tally (reaches links (suc (length links)) a.name) links =
       tally_less (reaches links (length links) b.name) (reaches links (suc (length links)) a.name) (reaches_further a b found on below differ (length links)) links b.name b below off (stands_reaches a b found on (length links)) in
       let same : tally (reaches links (length links) a.name) links ≡ tally (reaches links (suc (length links)) a.name) links =
-      tally_agree (reaches links (length links) a.name) (reaches links (suc (length links)) a.name) links (reached_all stands_on (is_named a.name) links) in
+      tally_agree (reaches links (length links) a.name) (reaches links (suc (length links)) a.name) links (reached_all depends_on (is_named a.name) links) in
       omega (arith, less, same)

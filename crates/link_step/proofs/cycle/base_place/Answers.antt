@@ -1,5 +1,5 @@
 use Rattle.std.proofs.Common.{ap}
-use Rattle.net_model.specs.Standing.{has_base}
+use Rattle.net_model.specs.Dependence.{has_base}
 use Rattle.net_model.specs.declared.link.Link.{Link}
 use Rattle.net_model.specs.declared.link.Kind.{Kind}
 use Rattle.link_step.proofs.Drawn.{by_name}

@@ -1,5 +1,5 @@
 use Rattle.std.proofs.Common.{◌∙◌, ℕ, List, length, get_or, sym, ap, subst}
-use Rattle.net_model.specs.Standing.{reaches}
+use Rattle.net_model.specs.Dependence.{reaches}
 use Rattle.net_model.specs.declared.link.Link.{Link}
 use Rattle.net_model.proofs.lemmas.Arrows.{at_some}
 use Rattle.link_step.specs.Place.{IsAt}

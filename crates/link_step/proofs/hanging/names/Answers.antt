@@ -1,7 +1,7 @@
 use Rattle.std.proofs.Common.{◌≡◌, ◌∙◌, false, sym}
 use Rattle.std.specs.List.{list_any}
 use Rattle.std.proofs.lemmas.Result.{IfOk-weaker}
-use Rattle.net_model.specs.Standing.{has_base}
+use Rattle.net_model.specs.Dependence.{has_base}
 use Rattle.net_model.specs.declared.link.Link.{Link}
 use Rattle.link_step.proofs.Bare.{bare_hanging}
 use Rattle.link_step.proofs.hanging.names.Goals as goal

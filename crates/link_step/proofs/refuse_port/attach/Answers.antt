@@ -1,5 +1,5 @@
 use Rattle.std.proofs.Common.{◌≡◌, ◌∙◌, ℕ, Bool, true, false, not, ◌&&◌, List, ◌∷◌, sym, ap, refl, rules}
-use Rattle.net_model.specs.Standing.{no_cycle}
+use Rattle.net_model.specs.Dependence.{no_cycle}
 use Rattle.net_model.specs.declared.link.Link.{Link}
 use Rattle.kernel_model.specs.Words.{has_link, edit_link}
 use Rattle.kernel_model.specs.Outcome.{first_true}

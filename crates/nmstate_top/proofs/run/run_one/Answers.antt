@@ -3,7 +3,7 @@ use Rattle.std.specs.Prelude.{String, map, string_bytes, Option, Some, Result, O
 use Rattle.std.specs.declared.alloc.Global.{Global}
 use Rattle.command_words.specs.Words.{command_of}
 use Rattle.command_words.specs.declared.Command.TheVariants.{Generate}
-use Rattle.order_reading.specs.Asked.{TakesFile}
+use Rattle.order_reading.specs.AsDefined.{TakesFile}
 use Rattle.order_reading.specs.declared.order.Order.{Order}
 use Rattle.top_model.specs.Orders.{Text}
 use Rattle.top_model.specs.Taking.{file_read}
