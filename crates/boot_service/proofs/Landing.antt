@@ -6,7 +6,7 @@ use Rattle.document_model.specs.declared.Refused.{Refused}
 use Rattle.host_core.specs.HostView.{State, HostView}
 use Rattle.host_core.specs.Stops.{IsLawful}
 use Rattle.checkpoint_cell.specs.Settled.{Standing, standing, restored_to, settled, Alike}
-use Rattle.engine_model.specs.Merge.{merge}
+use Rattle.merge_model.specs.MergedNet.{merge}
 use Rattle.engine_model.specs.Machine.{Outcome, apply, apply_settled, change, merged_as, recover}
 use Rattle.engine_model.specs.Stations.{Stands, Near, Only, Either, Settled, Kept, Leads, Within, entry_of, left_by}
 use Rattle.engine_model.specs.Faults.{IsOutcome}

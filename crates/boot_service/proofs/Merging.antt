@@ -7,7 +7,7 @@ use Rattle.document_model.specs.declared.Refused.{Refused}
 use Rattle.document_model.specs.Entries.{is_document}
 use Rattle.merge_model.specs.Merge.{merged, least_refusal}
 use Rattle.merge_laws.specs.Laws.{IsMergeable, GivesAgain, target}
-use Rattle.engine_model.specs.Merge.{merge, unless_refused}
+use Rattle.merge_model.specs.MergedNet.{merge, unless_refused}
 use Rattle.host_core.specs.Folders.{File}
 use Rattle.boot_service.specs.Fold.{Taking, IsTaken}
 use Rattle.boot_service.specs.Stops.{IsTakenAs, merged_or}

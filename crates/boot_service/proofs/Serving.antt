@@ -6,7 +6,7 @@ use Rattle.document_model.specs.declared.Doc.{Doc}
 use Rattle.host_core.specs.Folders.{File, Files, FolderView, HasFiles, MaybeMarked, without}
 use Rattle.host_core.specs.HostView.{State, HostView}
 use Rattle.host_core.specs.Stops.{Steps, IsLawful}
-use Rattle.engine_model.specs.Merge.{merge}
+use Rattle.merge_model.specs.MergedNet.{merge}
 use Rattle.document_model.specs.Entries.{is_document}
 use Rattle.checkpoint_cell.specs.Settled.{standing}
 use Rattle.engine_model.specs.Machine.{apply}

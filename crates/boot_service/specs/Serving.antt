@@ -8,7 +8,7 @@ use Rattle.host_core.specs.HostView.{State, HostView}
 use Rattle.host_core.specs.Stops.{Steps, Stays}
 use Rattle.checkpoint_cell.specs.Settled.{standing, restored_to}
 use Rattle.plan_model.specs.Undisturbed.{IsUndisturbed}
-use Rattle.engine_model.specs.Merge.{merge}
+use Rattle.merge_model.specs.MergedNet.{merge}
 use Rattle.engine_model.specs.Machine.{Asked, asked, apply, recover}
 use Rattle.engine_model.specs.Sound.{Sound}
 use Rattle.engine_model.specs.Stations.{Only, Settled, Either, Kept, at, entry_of, left_by}

@@ -10,7 +10,7 @@ use Rattle.host_core.specs.Folders.{File, Files, FolderView, HasFiles, MaybeMark
 use Rattle.host_core.specs.HostView.{State, HostView}
 use Rattle.host_core.specs.Stops.{After}
 use Rattle.checkpoint_cell.specs.Settled.{standing, restored_to, settled}
-use Rattle.engine_model.specs.Merge.{merge}
+use Rattle.merge_model.specs.MergedNet.{merge}
 use Rattle.engine_model.specs.Sound.{Sound}
 use Rattle.boot_service.specs.Fold.{Taking, IsStage}
 use Rattle.boot_service.specs.declared.fault.ServeFault.{ServeFault}

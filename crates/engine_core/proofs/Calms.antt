@@ -11,7 +11,7 @@ use Rattle.host_core.proofs.lemmas.Moments.{follow, weaken}
 use Rattle.checkpoint_cell.specs.Cell.{cell_of, applying}
 use Rattle.checkpoint_cell.specs.Settled.{standing, settled, restored_to}
 use Rattle.host_core.specs.Faults.{Rose}
-use Rattle.engine_model.specs.Merge.{merge}
+use Rattle.merge_model.specs.MergedNet.{merge}
 use Rattle.engine_model.specs.Machine.{Asked, asked, apply, deadline_of}
 use Rattle.engine_model.specs.Sound.{Fit, Sound}
 use Rattle.engine_model.specs.Faults.{ApplyAnswers, ApplySays}

@@ -7,7 +7,7 @@ use Rattle.host_core.specs.Faults.{Rose}
 use Rattle.host_core.specs.HostView.{State, HostView, HasNet}
 use Rattle.checkpoint_cell.specs.Cell.{Checkpoint, cell_of}
 use Rattle.checkpoint_cell.specs.Settled.{Standing, standing, restored_to}
-use Rattle.engine_model.specs.Merge.{merge}
+use Rattle.merge_model.specs.MergedNet.{merge}
 use Rattle.engine_model.specs.Machine.{Asked, Outcome, apply, apply_step, apply_settled, apply_fault, change, changed, merged_as, deadline_of, recover, saved_on, stays}
 use Rattle.engine_model.specs.Stations.{Ends}
 use Rattle.engine_model.specs.Answers.{IsTaken, IsBefore, Finds}

@@ -6,5 +6,4 @@ mod Says
 mod Applies
 mod Exacts
 mod Tries
-mod Wanted
 mod Calms

@@ -10,7 +10,7 @@ use Rattle.host_core.specs.Stops.{Steps, Stays, IsLawful}
 use Rattle.checkpoint_cell.specs.Cell.{cell_of, saved_net}
 use Rattle.checkpoint_cell.specs.Settled.{standing, taken_back}
 use Rattle.checkpoint_cell.specs.declared.Phase.{Phase}
-use Rattle.engine_model.specs.Merge.{merge}
+use Rattle.merge_model.specs.MergedNet.{merge}
 use Rattle.engine_model.specs.Machine.{Asked, asked, apply, apply_step, apply_fault, Outcome, stays}
 use Rattle.engine_model.specs.Stations.{Any, Waits}
 use Rattle.engine_model.specs.Answers.{IsBefore}

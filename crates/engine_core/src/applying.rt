@@ -13,7 +13,7 @@ ghost use Rattle.plan_model.specs.Plans.{IsPlan};
 ghost use Rattle.checkpoint_cell.specs.Cell.{Checkpoint, applying, cell_of, saved_net};
 ghost use Rattle.checkpoint_cell.specs.Steps.{Holds};
 ghost use Rattle.checkpoint_cell.specs.Settled.{standing, Standing, restored_to};
-ghost use Rattle.engine_model.specs.Merge.{merge};
+ghost use Rattle.merge_model.specs.MergedNet.{merge};
 ghost use Rattle.engine_model.specs.Machine.{asked, apply, change, apply_fault, recover};
 ghost use Rattle.engine_model.specs.Undone.{stand, undone};
 ghost use Rattle.engine_model.specs.Sound.{Sound};
@@ -33,7 +33,6 @@ use engine_model::{Applied, ApplyFault, ApplyOpts, BackFault, Left, Recovered};
 use engine_restore::{go_back, take_back};
 use host_core::{DumpFault, Failed, Host};
 use merge_core::merge;
-use merge_laws::merge_laws;
 use merge_model::MergeFault;
 use net_model::{Call, Net, OutOfMemory};
 use plan_core::plan;
@@ -204,18 +203,6 @@ fn carry_out<H: Host>(
     }
 }
 
-// The network that a document makes of another.
-fn wanted(alloc: Global, from: &Net, doc: &Doc) -> Result<Net, MergeFault>
-    requires { is_document doc.now ≡ true }
-    ensures merged { IfOk result (λ to. merge from.now doc.now ≡ Ok to) }
-    ensures hardware { IfOk result (λ to. hardware from.now.links ≡ hardware to.links) }
-    ensures refused { (r : Refused) → IsErrOf result (MergeFault.Refused r) → merge from.now doc.now ≡ Err r }
-{
-    from.laws();
-    merge_laws();
-    merge(alloc, from, doc)
-}
-
 // Merges, plans and makes the change, where no checkpoint stands.
 fn change<H: Host>(
     host: &mut H,
@@ -258,7 +245,7 @@ fn change<H: Host>(
         Err(DumpFault::Damaged) => return Err(ApplyFault::Damaged(0)),
         Err(DumpFault::OutOfMemory) => return Err(ApplyFault::OutOfMemory),
     };
-    let to = match wanted(alloc, &from, doc) {
+    let to = match merge(alloc, &from, doc) {
         Ok(to) => to,
         Err(MergeFault::Refused(r)) => return Err(ApplyFault::MergeRefused(r)),
         Err(MergeFault::OutOfMemory) => return Err(ApplyFault::OutOfMemory),

@@ -10,7 +10,7 @@ ghost use Rattle.plan_model.specs.Plans.{IsPlan};
 ghost use Rattle.checkpoint_cell.specs.Cell.{Checkpoint, applying, cell_of, saved_net};
 ghost use Rattle.checkpoint_cell.specs.Steps.{Holds};
 ghost use Rattle.checkpoint_cell.specs.Settled.{restored_to};
-ghost use Rattle.engine_model.specs.Merge.{merge};
+ghost use Rattle.merge_model.specs.MergedNet.{merge};
 ghost use Rattle.engine_model.specs.Undone.{stand};
 ghost use Rattle.engine_model.specs.Sound.{Sound};
 ghost use Rattle.engine_model.specs.Stations.{Only, Kept, Ends, AllNear};

@@ -7,7 +7,7 @@ ghost use Rattle.host_core.specs.HostView.{State, SameKernel};
 ghost use Rattle.host_core.specs.Stops.{Steps, Stays};
 ghost use Rattle.checkpoint_cell.specs.Settled.{standing, restored_to};
 ghost use Rattle.plan_model.specs.Undisturbed.{IsUndisturbed};
-ghost use Rattle.engine_model.specs.Merge.{merge};
+ghost use Rattle.merge_model.specs.MergedNet.{merge};
 ghost use Rattle.engine_model.specs.Machine.{asked, apply, commit, recover};
 ghost use Rattle.engine_model.specs.Sound.{Sound};
 ghost use Rattle.engine_model.specs.Stations.{Only, Settled, Either, Kept, at, entry_of, left_by};

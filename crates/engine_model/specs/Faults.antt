@@ -4,7 +4,7 @@ use Rattle.std.specs.Prelude.{◌≡◌, ◌≢◌, ◌⊎◌, ⊤, ℕ, Bool, t
 use Rattle.net_model.specs.NetData.{NetData}
 use Rattle.host_core.specs.Faults.{Rose, RoseTwice}
 use Rattle.host_core.specs.HostView.{State, HostView, HasNet, WasRefused, NoneRefused}
-use Rattle.engine_model.specs.Merge.{merge}
+use Rattle.merge_model.specs.MergedNet.{merge}
 use Rattle.checkpoint_cell.specs.Cell.{Checkpoint, saved_net}
 use Rattle.checkpoint_cell.specs.Loaded.{IsBad}
 use Rattle.checkpoint_cell.specs.Settled.{standing, taken_back}

@@ -4,7 +4,7 @@ use Rattle.std.specs.Prelude.{ℕ, ◌+◌, ◌-◌, ◌^◌, min, ⊤, List, []
 use Rattle.net_model.specs.NetData.{NetData}
 use Rattle.document_model.specs.declared.Refused.{Refused}
 use Rattle.document_model.specs.declared.Doc.{Doc}
-use Rattle.engine_model.specs.Merge.{merge}
+use Rattle.merge_model.specs.MergedNet.{merge}
 use Rattle.checkpoint_cell.specs.Cell.{Checkpoint, is_due}
 use Rattle.checkpoint_cell.specs.Settled.{Standing, restored_to, taken_back}
 use Rattle.engine_model.specs.Differing.{differing}

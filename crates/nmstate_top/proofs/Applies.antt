@@ -6,7 +6,7 @@ use Rattle.document_model.specs.declared.Doc.{Doc}
 use Rattle.host_core.specs.HostView.{State}
 use Rattle.plan_model.specs.Undisturbed.{IsUndisturbed}
 use Rattle.checkpoint_cell.specs.Settled.{Standing, standing, restored_to}
-use Rattle.engine_model.specs.Merge.{merge}
+use Rattle.merge_model.specs.MergedNet.{merge}
 use Rattle.engine_model.specs.Machine.{Asked, asked, apply, recover}
 use Rattle.engine_model.specs.Sound.{Sound}
 use Rattle.engine_model.specs.Stations.{Stands, Entry, Only, Settled, Either, Kept, at}

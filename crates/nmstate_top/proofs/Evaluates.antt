@@ -20,7 +20,7 @@ use Rattle.policy_model.specs.declared.PolicyFault.TheVariants as policy_fault
 use Rattle.policy_lang.specs.Answers.{GivesTree}
 use Rattle.host_core.specs.HostView.{HostView, IsLawfulHost}
 use Rattle.host_core.specs.Streams.{SinkView}
-use Rattle.engine_model.specs.Merge.{merge}
+use Rattle.merge_model.specs.MergedNet.{merge}
 use Rattle.engine_model.specs.declared.Left.TheVariants as left
 use Rattle.engine_model.proofs.lemmas.Leading.{kept_stays}
 use Rattle.order_reading.specs.Faults.{policy_cause}

@@ -14,7 +14,6 @@ mod Evaluates
 mod Simulates
 mod Hardware
 mod Makes
-mod Merging
 mod Generates
 mod Checks
 mod Takes

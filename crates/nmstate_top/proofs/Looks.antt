@@ -8,7 +8,7 @@ use Rattle.document_model.specs.declared.Refused.{Refused}
 use Rattle.host_core.specs.HostView.{HostView, IsLawfulHost}
 use Rattle.host_core.proofs.lemmas.Moments.{stays as stays_there}
 use Rattle.checkpoint_cell.specs.Settled.{standing}
-use Rattle.engine_model.specs.Merge.{merge}
+use Rattle.merge_model.specs.MergedNet.{merge}
 use Rattle.engine_model.specs.Machine.{Outcome, stays}
 use Rattle.engine_model.specs.Stations.{Within, Only, Before, at}
 use Rattle.engine_model.specs.Faults.{IsOutcome, HadDamaged}

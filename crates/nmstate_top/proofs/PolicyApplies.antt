@@ -10,7 +10,7 @@ use Rattle.host_core.specs.HostView.{State, Kernel, HostView, NoneRefused, dumpe
 use Rattle.host_core.specs.Stops.{Steps, Stays}
 use Rattle.checkpoint_cell.specs.Cell.{cell_of}
 use Rattle.checkpoint_cell.specs.Settled.{Standing, standing, restored_to}
-use Rattle.engine_model.specs.Merge.{merge}
+use Rattle.merge_model.specs.MergedNet.{merge}
 use Rattle.engine_model.specs.Machine.{Asked, Outcome, asked, apply, recover}
 use Rattle.engine_model.specs.Sound.{Fit, Sound}
 use Rattle.engine_model.specs.Answers.{IsClear}

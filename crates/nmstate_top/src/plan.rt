@@ -1,9 +1,9 @@
 //! The command that prints the calls of a change.
-ghost use Rattle.std.specs.Prelude.{◌≡◌, ℕ, true, Ok, Err, IfOk, IsErrOf};
+ghost use Rattle.std.specs.Prelude.{◌≡◌, ℕ, true, Ok, Err, IfOk};
 ghost use Rattle.document_model.specs.Entries.{is_document};
 ghost use Rattle.document_model.specs.declared.Refused.{Refused};
 ghost use Rattle.net_model.specs.Hardware.{hardware};
-ghost use Rattle.engine_model.specs.Merge.{merge};
+ghost use Rattle.merge_model.specs.MergedNet.{merge};
 ghost use Rattle.top_model.specs.Machine.{plan_to, said_plan};
 ghost use Rattle.top_model.specs.Said.{Says, batched, planned};
 ghost use Rattle.top_model.specs.Orders.{planning};
@@ -17,24 +17,11 @@ use document_model::Doc;
 use host_core::{Host, Sink, Source};
 use ip_batch::write_batch;
 use merge_core::merge;
-use merge_laws::merge_laws;
 use merge_model::MergeFault;
 use net_model::Net;
 use plan_core::plan;
 use std::alloc::Global;
 use top_model::{Cause, Report};
-
-// The network that a document makes of another, of the same devices.
-fn wanted(alloc: Global, from: &Net, doc: &Doc) -> Result<Net, MergeFault>
-    requires { is_document doc.now ≡ true }
-    ensures merged { IfOk result (λ to. merge from.now doc.now ≡ Ok to) }
-    ensures devices { IfOk result (λ to. hardware from.now.links ≡ hardware to.links) }
-    ensures refused { (r : Refused) → IsErrOf result (MergeFault.Refused r) → merge from.now doc.now ≡ Err r }
-{
-    from.laws();
-    merge_laws();
-    merge(alloc, from, doc)
-}
 
 // The call lines of a plan.
 fn plan_text(alloc: Global, from: &Net, to: &Net) -> Result<Vec<u8>, OutOfMemory>
@@ -88,7 +75,7 @@ pub(crate) fn planned_of(
     requires { is_document doc.now ≡ true }
     ensures { TextOf (λ net. plan_to batch net (merge net doc.now)) from.now result }
 {
-    match wanted(alloc, from, doc) {
+    match merge(alloc, from, doc) {
         Ok(to) => lines_to(alloc, from, &to, batch),
         Err(MergeFault::Refused(refused)) => Err(Cause::MergeRefused(refused)),
         Err(MergeFault::OutOfMemory) => Err(Cause::OutOfMemory),

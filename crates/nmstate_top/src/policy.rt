@@ -3,7 +3,7 @@ ghost use Rattle.std.specs.Prelude.{◌≡◌, ◌≤◌, ◌&&◌, ℕ, true, I
 ghost use Rattle.doc_tree.specs.Shape.{shape, is_distinct, has_short_lists, levels};
 ghost use Rattle.doc_tree.specs.declared.limits.TheConstants.{MAX_LEVELS};
 ghost use Rattle.document_model.specs.Entries.{is_document, has_short_doc};
-ghost use Rattle.engine_model.specs.Merge.{merge};
+ghost use Rattle.merge_model.specs.MergedNet.{merge};
 ghost use Rattle.policy_lang.specs.Held.{data_of};
 ghost use Rattle.order_reading.specs.Reading.{Answers, itself};
 ghost use Rattle.top_model.specs.Machine.{say_value, plan_to, plan_read};

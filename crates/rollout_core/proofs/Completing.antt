@@ -10,7 +10,7 @@ use Rattle.host_core.specs.Faults.{Rose}
 use Rattle.host_core.specs.declared.Host.{Ghosts as HostGhosts}
 use Rattle.checkpoint_cell.specs.Settled.{Standing, standing, restored_to}
 use Rattle.engine_model.specs.Machine.{deadline_of}
-use Rattle.engine_model.specs.Merge.{merge}
+use Rattle.merge_model.specs.MergedNet.{merge}
 use Rattle.rollout_model.specs.Rollout.{Rollout, begun}
 use Rattle.rollout_model.specs.Steps.{node_of, accepted}
 use Rattle.rollout_model.specs.Rolls.{OneOf, IsFinished}

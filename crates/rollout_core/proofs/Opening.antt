@@ -7,7 +7,7 @@ use Rattle.host_core.specs.Faults.{Rose}
 use Rattle.host_core.specs.HostView.{HostView}
 use Rattle.checkpoint_cell.specs.Cell.{Checkpoint}
 use Rattle.checkpoint_cell.specs.Settled.{Standing, standing, settled, restored_to, Alike}
-use Rattle.engine_model.specs.Merge.{merge}
+use Rattle.merge_model.specs.MergedNet.{merge}
 use Rattle.engine_model.specs.Machine.{Asked, Outcome, stays, recover_cell, apply_step, apply, change as change_of, changed, merged_as, deadline_of}
 use Rattle.engine_model.specs.Stations.{Stands, Near, Within, Only, Either, Before, Settled, Kept, Entry, entry_of, left_by, at}
 use Rattle.engine_model.specs.Exit.{OnWay, Marked}

@@ -7,7 +7,7 @@ use Rattle.host_core.specs.Faults.{Rose}
 use Rattle.host_core.specs.HostView.{HostView}
 use Rattle.checkpoint_cell.specs.Cell.{is_due}
 use Rattle.checkpoint_cell.specs.Settled.{Standing, standing, restored_to}
-use Rattle.engine_model.specs.Merge.{merge}
+use Rattle.merge_model.specs.MergedNet.{merge}
 use Rattle.engine_model.specs.Machine.{deadline_of}
 use Rattle.rollout_model.specs.declared.node.Event.{Event}
 use Rattle.rollout_model.specs.declared.node.Event.TheVariants.{Refused, Unclear, Good, Bad, Closed, Late}

@@ -5,7 +5,7 @@ use Rattle.document_model.specs.declared.Doc.{Doc}
 use Rattle.host_core.specs.HostView.{State, HostView}
 use Rattle.checkpoint_cell.specs.Cell.{cell_of}
 use Rattle.checkpoint_cell.specs.Settled.{Standing, standing, restored_to}
-use Rattle.engine_model.specs.Merge.{merge}
+use Rattle.merge_model.specs.MergedNet.{merge}
 use Rattle.engine_model.specs.Machine.{waiting}
 use Rattle.engine_model.specs.Sound.{Fit, Sound}
 use Rattle.engine_model.specs.Stations.{Stands, Near, Within, Only, Either, left_by}

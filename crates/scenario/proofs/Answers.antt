@@ -27,7 +27,7 @@ use Rattle.host_core.specs.declared.DumpFault.TheVariants as du
 use Rattle.checkpoint_cell.specs.Cell.{Checkpoint, cell_of}
 use Rattle.checkpoint_cell.specs.Settled.{Standing, standing, restored_to}
 use Rattle.checkpoint_cell.proofs.lemmas.Cells.{gate_shut}
-use Rattle.engine_model.specs.Merge.{merge}
+use Rattle.merge_model.specs.MergedNet.{merge}
 use Rattle.engine_model.specs.Differing.{differing}
 use Rattle.engine_model.specs.Machine.{Outcome, Asked, asked, waiting, apply, merged_as, changed, rollback, restored_as, unless_differing, saved_on}
 use Rattle.engine_model.specs.Undone.{stand}

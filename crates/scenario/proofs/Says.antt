@@ -13,7 +13,7 @@ use Rattle.host_core.specs.declared.MakeFault.{MakeFault}
 use Rattle.host_core.specs.declared.MakeFault.TheVariants as ma
 use Rattle.host_core.specs.declared.DumpFault.{DumpFault}
 use Rattle.host_core.specs.declared.DumpFault.TheVariants as du
-use Rattle.engine_model.specs.Merge.{merge}
+use Rattle.merge_model.specs.MergedNet.{merge}
 use Rattle.engine_model.specs.Machine.{Asked}
 use Rattle.engine_model.specs.Faults.{ApplySays, BackSays, LeftSays}
 use Rattle.engine_model.specs.declared.Left.{Left}

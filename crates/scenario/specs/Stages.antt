@@ -7,7 +7,7 @@ use Rattle.merge_model.specs.declared.fault.MergeFault.TheVariants as me
 use Rattle.plan_model.specs.Plans.{IsPlan}
 use Rattle.host_core.specs.HostView.{HostView}
 use Rattle.checkpoint_cell.specs.Settled.{Standing, standing}
-use Rattle.engine_model.specs.Merge.{merge}
+use Rattle.merge_model.specs.MergedNet.{merge}
 use Rattle.engine_model.specs.Sound.{Sound}
 use Rattle.scenario_model.specs.Saying.{MakeSays}
 use Rattle.scenario_model.specs.declared.WorkFault.{WorkFault}

@@ -6,7 +6,7 @@ ghost use Rattle.document_model.specs.declared.Refused.{Refused};
 ghost use Rattle.document_model.specs.Entries.{is_document};
 ghost use Rattle.checkpoint_cell.specs.Cell.{Checkpoint};
 ghost use Rattle.checkpoint_cell.specs.Settled.{restored_to};
-ghost use Rattle.engine_model.specs.Merge.{merge};
+ghost use Rattle.merge_model.specs.MergedNet.{merge};
 ghost use Rattle.engine_model.specs.Machine.{asked, changed};
 ghost use Rattle.engine_model.specs.Undone.{stand};
 ghost use Rattle.scenario_model.specs.Asking.{options, IsChange};

@@ -1,12 +1,12 @@
 //! The number of calls of a plan.
-ghost use Rattle.std.specs.Prelude.{◌≡◌, ◌≤◌, true, Some, Ok, Err, IfOk, IfErr, IsErrOf};
+ghost use Rattle.std.specs.Prelude.{◌≡◌, ◌≤◌, true, Some, Ok, Err, IfOk, IfErr};
 ghost use Rattle.net_model.specs.NetData.{NetData};
 ghost use Rattle.net_model.specs.Hardware.{hardware};
 ghost use Rattle.document_model.specs.declared.Doc.{Doc};
 ghost use Rattle.document_model.specs.declared.Refused.{Refused};
 ghost use Rattle.document_model.specs.Entries.{is_document};
 ghost use Rattle.host_core.specs.Stops.{Steps, Stays};
-ghost use Rattle.engine_model.specs.Merge.{merge};
+ghost use Rattle.merge_model.specs.MergedNet.{merge};
 ghost use Rattle.scenario_model.specs.Counts.{IsPlanned, HasPlan};
 ghost use Rattle.scenario_model.specs.Saying.{StepSays, IsPast, past_of};
 ghost use Rattle.scenario_model.specs.Answering.{StepAnswers};
@@ -16,24 +16,11 @@ use base_model::OutOfMemory;
 use document_model::Doc;
 use host_core::Host;
 use merge_core::merge;
-use merge_laws::merge_laws;
 use merge_model::MergeFault;
 use net_model::Net;
 use plan_core::plan;
 use scenario_model::WorkFault;
 use std::alloc::Global;
-
-// The network that a document makes of another, of the same devices.
-fn wanted(alloc: Global, from: &Net, doc: &Doc) -> Result<Net, MergeFault>
-    requires { is_document doc.now ≡ true }
-    ensures merged { IfOk result (λ to. merge from.now doc.now ≡ Ok to) }
-    ensures devices { IfOk result (λ to. hardware from.now.links ≡ hardware to.links) }
-    ensures refused { (r : Refused) → IsErrOf result (MergeFault.Refused r) → merge from.now doc.now ≡ Err r }
-{
-    from.laws();
-    merge_laws();
-    merge(alloc, from, doc)
-}
 
 // How many calls a plan from one network to the other has.
 fn calls_between(alloc: Global, from: &Net, to: &Net) -> Result<u32, OutOfMemory>
@@ -52,7 +39,7 @@ fn calls_from(alloc: Global, from: &Net, doc: &Doc) -> Result<u32, WorkFault>
     ensures counts { IfOk result (λ count. (to : NetData) × IsPlanned doc.now from.now to count) }
     ensures fails { IfErr result (λ fault. NoPlan doc.now from.now fault) }
 {
-    let to = match wanted(alloc, from, doc) {
+    let to = match merge(alloc, from, doc) {
         Ok(to) => to,
         Err(fault) => return Err(WorkFault::Merge(fault)),
     };

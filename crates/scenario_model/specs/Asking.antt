@@ -7,7 +7,7 @@ use Rattle.net_model.specs.Valid.{least_broken}
 use Rattle.net_model.specs.declared.Link.{Link}
 use Rattle.document_model.specs.declared.Doc.{Doc}
 use Rattle.document_model.specs.declared.Refused.{Refused}
-use Rattle.engine_model.specs.Merge.{merge}
+use Rattle.merge_model.specs.MergedNet.{merge}
 use Rattle.engine_model.specs.Machine.{Asked, asked}
 use Rattle.engine_model.specs.declared.answers.ApplyOpts.{ApplyOpts}
 use Rattle.scenario_model.specs.declared.work.TheConstants.{TIMEOUT, FIRST_AT, SECOND_AT}

@@ -9,7 +9,7 @@ use Rattle.net_model.specs.declared.Call.{Call}
 use Rattle.document_model.specs.declared.Doc.{Doc}
 use Rattle.merge_model.specs.Kinds.{id_of}
 use Rattle.plan_model.specs.Plans.{IsPlan}
-use Rattle.engine_model.specs.Merge.{merge}
+use Rattle.merge_model.specs.MergedNet.{merge}
 use Rattle.scenario_model.specs.declared.work.Summary.{Summary}
 
 -- the name has two parts with a dot between them, of which the second is `v`

@@ -12,7 +12,7 @@ use Rattle.host_core.specs.declared.MakeFault.TheVariants as ma
 use Rattle.host_core.specs.declared.DumpFault.{DumpFault}
 use Rattle.host_core.specs.declared.DumpFault.TheVariants as du
 use Rattle.checkpoint_cell.specs.Settled.{standing}
-use Rattle.engine_model.specs.Merge.{merge}
+use Rattle.merge_model.specs.MergedNet.{merge}
 use Rattle.engine_model.specs.Machine.{Asked, rollback}
 use Rattle.engine_model.specs.Faults.{ApplySays, BackSays}
 use Rattle.engine_model.specs.declared.answers.ApplyFault.{ApplyFault}

@@ -8,7 +8,7 @@ use Rattle.host_core.specs.Faults.{Rose, RoseTwice}
 use Rattle.host_core.specs.Folders.{File, FolderView}
 use Rattle.host_core.specs.HostView.{HostView}
 use Rattle.checkpoint_cell.specs.Settled.{Standing, standing, restored_to, settled}
-use Rattle.engine_model.specs.Merge.{merge}
+use Rattle.merge_model.specs.MergedNet.{merge}
 use Rattle.engine_model.specs.Machine.{Asked, Outcome, apply, merged_as}
 use Rattle.engine_model.specs.Stations.{Within, Settled, entry_of, left_by}
 use Rattle.engine_model.specs.Exit.{ApplyExit}

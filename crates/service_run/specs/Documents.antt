@@ -4,7 +4,7 @@ use Rattle.net_model.specs.NetData.{NetData}
 use Rattle.document_model.specs.declared.Doc.{Doc}
 use Rattle.document_model.specs.declared.Refused.{Refused}
 use Rattle.host_core.specs.Folders.{File}
-use Rattle.engine_model.specs.Merge.{merge}
+use Rattle.merge_model.specs.MergedNet.{merge}
 use Rattle.boot_service.specs.Fold.{Taking}
 use Rattle.boot_service.specs.Stops.{merged_or}
 use Rattle.boot_service.specs.declared.fault.ServeFault.{ServeFault}

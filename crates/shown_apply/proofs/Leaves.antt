@@ -5,7 +5,7 @@ use Rattle.checkpoint_cell.specs.Settled.{restored_to}
 use Rattle.document_model.specs.declared.Doc.{Doc}
 use Rattle.document_model.specs.declared.Refused.{Refused}
 use Rattle.engine_model.specs.Machine.{Outcome, Asked, asked, deadline_of, waiting, merged_as}
-use Rattle.engine_model.specs.Merge.{merge}
+use Rattle.merge_model.specs.MergedNet.{merge}
 use Rattle.engine_model.specs.declared.Applied.{Applied}
 use Rattle.engine_model.specs.declared.ApplyFault.{ApplyFault}
 use Rattle.net_model.specs.NetData.{NetData}

@@ -14,7 +14,7 @@ use Rattle.yaml_read.specs.Standing.{StandsFor}
 use Rattle.yaml_text.specs.Layout.{is_filled_map, yaml_text_of}
 use Rattle.yaml_text.specs.Scalars.{is_plain, is_control, in_double_quotes, in_single_quotes, printed}
 use Rattle.show_core.specs.Network.{whole_tree}
-use Rattle.engine_model.specs.Merge.{unless_refused, merge}
+use Rattle.merge_model.specs.MergedNet.{unless_refused, merge}
 use Rattle.top_model.specs.Orders.{begins_json, tree_of, document, document_of_tree, and_then, with_fault}
 use Rattle.top_model.specs.declared.report.Cause.{Cause}
 use Rattle.top_model.specs.declared.report.DocFault.TheVariants.{Schema}

@@ -5,7 +5,7 @@ use Rattle.net_model.specs.NetData.{NetData, IsNet}
 use Rattle.net_search.specs.Ranges.{Ranges}
 use Rattle.doc_tree.specs.declared.limits.TheConstants.{MAX_BYTES}
 use Rattle.checkpoint_cell.specs.Settled.{restored_to}
-use Rattle.engine_model.specs.Merge.{merge}
+use Rattle.merge_model.specs.MergedNet.{merge}
 use Rattle.engine_model.specs.declared.ApplyOpts.{ApplyOpts}
 use Rattle.top_model.specs.Machine.{machine, said_plan}
 use Rattle.top_model.specs.Orders.{planning, applying, document}

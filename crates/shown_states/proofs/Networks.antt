@@ -20,7 +20,7 @@ use Rattle.merge_model.specs.Members.{Member}
 use Rattle.merge_model.specs.Lifted.{members}
 use Rattle.merge_model.specs.Merge.{merged, least_refusal}
 use Rattle.merge_laws.specs.Laws.{IsMergeable, target}
-use Rattle.engine_model.specs.Merge.{merge, unless_refused}
+use Rattle.merge_model.specs.MergedNet.{merge, unless_refused}
 use Rattle.link_schema.specs.Hardware.{built_in}
 use Rattle.scenario_model.specs.Asking.{first_net}
 use Rattle.shown_model.specs.Printable.{IsPrintable}

@@ -5,7 +5,7 @@ ghost use Rattle.net_model.specs.declared.Link.{Link};
 ghost use Rattle.document_model.specs.declared.Doc.{Doc};
 ghost use Rattle.document_model.specs.Entries.{is_document};
 ghost use Rattle.merge_laws.specs.Laws.{target};
-ghost use Rattle.engine_model.specs.Merge.{merge};
+ghost use Rattle.merge_model.specs.MergedNet.{merge};
 ghost use Rattle.engine_model.specs.Stations.{at};
 ghost use Rattle.checkpoint_cell.specs.Settled.{Standing};
 ghost use Rattle.shown_model.specs.Printable.{IsPrintable};

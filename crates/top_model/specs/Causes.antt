@@ -7,7 +7,7 @@ use Rattle.policy_model.specs.Values.{PolicyData}
 use Rattle.policy_model.specs.declared.fault.PolicyFault.TheVariants as policy
 use Rattle.document_model.specs.declared.Refused.{Refused}
 use Rattle.host_core.specs.HostView.{HasNet, IsMade, WasRefused, NoneRefused}
-use Rattle.engine_model.specs.Merge.{merge}
+use Rattle.merge_model.specs.MergedNet.{merge}
 use Rattle.document_model.specs.declared.Doc.{Doc}
 use Rattle.checkpoint_cell.specs.Cell.{saved_net}
 use Rattle.checkpoint_cell.specs.Settled.{settled}

@@ -10,7 +10,7 @@ use Rattle.host_core.specs.HostView.{State, HasNet}
 use Rattle.checkpoint_cell.specs.declared.Phase.TheVariants.{Waiting}
 use Rattle.checkpoint_cell.specs.Cell.{Checkpoint, is_due}
 use Rattle.checkpoint_cell.specs.Settled.{Standing, standing, settled, restored_to}
-use Rattle.engine_model.specs.Merge.{merge}
+use Rattle.merge_model.specs.MergedNet.{merge}
 use Rattle.engine_model.specs.Machine.{asked, changed, committed, deadline_of}
 use Rattle.engine_model.specs.Sound.{Sound}
 use Rattle.engine_model.specs.Stations.{Near, Within, Only, Before, Either}

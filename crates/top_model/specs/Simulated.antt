@@ -2,7 +2,7 @@
 use Rattle.std.specs.Prelude.{◌≡◌, ◌≤◌, ◌⊎◌, length, false, None, Some, Result, Ok, Err}
 use Rattle.net_model.specs.NetData.{NetData}
 use Rattle.document_model.specs.declared.Doc.{Doc}
-use Rattle.engine_model.specs.Merge.{merge}
+use Rattle.merge_model.specs.MergedNet.{merge}
 use Rattle.ip_batch.specs.declared.fault.TheConstants.{MAX_BATCH_BYTES}
 use Rattle.top_model.specs.Said.{Says, batched, printed}
 use Rattle.top_model.specs.Orders.{Text, Order, and_then, calls_of, simulating}

@@ -5,7 +5,7 @@ use Rattle.document_model.specs.declared.Doc.{Doc}
 use Rattle.host_core.specs.HostView.{State, HostView}
 use Rattle.plan_model.specs.Undisturbed.{IsUndisturbed}
 use Rattle.checkpoint_cell.specs.Settled.{restored_to}
-use Rattle.engine_model.specs.Merge.{merge}
+use Rattle.merge_model.specs.MergedNet.{merge}
 use Rattle.engine_model.specs.declared.ApplyOpts.{ApplyOpts}
 use Rattle.top_model.specs.Orders.{Order, document_on, applying, applying_policy}
 use Rattle.top_model.specs.Runs.{Run, Alone, AsksApply, Quiet, HostRose, SinkRose, reads}

@@ -10,7 +10,7 @@ use Rattle.host_core.specs.declared.Host.{Ghosts as HostGhosts}
 use Rattle.checkpoint_cell.specs.Cell.{Checkpoint}
 use Rattle.checkpoint_cell.specs.Settled.{Standing, standing, restored_to}
 use Rattle.checkpoint_cell.specs.declared.Phase.TheVariants.{Waiting}
-use Rattle.engine_model.specs.Merge.{merge}
+use Rattle.merge_model.specs.MergedNet.{merge}
 use Rattle.engine_model.specs.Machine.{Asked, asked, apply, commit, rollback, recover, changed}
 use Rattle.engine_model.specs.Sound.{Sound}
 use Rattle.engine_model.specs.Stations.{Stands, Near, Only, Settled, Either, at, left_by}

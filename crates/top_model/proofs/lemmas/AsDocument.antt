@@ -8,7 +8,7 @@ use Rattle.host_core.specs.HostView.{State}
 use Rattle.policy_model.specs.Values.{PolicyData}
 use Rattle.checkpoint_cell.specs.Cell.{Checkpoint}
 use Rattle.checkpoint_cell.specs.Settled.{Standing, standing, restored_to, taken_back, settled_from, settled}
-use Rattle.engine_model.specs.Merge.{merge}
+use Rattle.merge_model.specs.MergedNet.{merge}
 use Rattle.engine_model.specs.Machine.{Asked, Outcome, stays, asked, deadline_of, waiting, merged_as, recover_cell, recover, restore, apply}
 use Rattle.engine_model.specs.Sound.{IsWhole, Fit}
 use Rattle.engine_model.specs.declared.ApplyOpts.{ApplyOpts}

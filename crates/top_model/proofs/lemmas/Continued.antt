@@ -9,7 +9,7 @@ use Rattle.host_core.specs.HostView.{State, Kernel, HostView, WasRefused, NoneRe
 use Rattle.host_core.specs.Stops.{Steps, Stays, IsLawful}
 use Rattle.checkpoint_cell.specs.Cell.{Checkpoint, cell_of, applying}
 use Rattle.checkpoint_cell.specs.Settled.{Standing, standing, settled, settled_from, restored_to}
-use Rattle.engine_model.specs.Merge.{merge}
+use Rattle.merge_model.specs.MergedNet.{merge}
 use Rattle.engine_model.specs.Machine.{Outcome, Asked, apply, apply_step, apply_settled, change, merged_as, deadline_of, waiting, recover, recover_cell}
 use Rattle.engine_model.specs.Sound.{Fit, Sound}
 use Rattle.engine_model.specs.Answers.{IsClear}

@@ -7,7 +7,7 @@ use Rattle.host_core.specs.HostView.{State}
 use Rattle.policy_model.specs.Values.{PolicyData, policy_value}
 use Rattle.checkpoint_cell.specs.Cell.{Checkpoint}
 use Rattle.checkpoint_cell.specs.Settled.{Standing, standing, restored_to, taken_back, settled_from, settled, Alike}
-use Rattle.engine_model.specs.Merge.{merge}
+use Rattle.merge_model.specs.MergedNet.{merge}
 use Rattle.engine_model.specs.Machine.{Outcome, stays, asked, merged_as, recover_cell, restore, apply}
 use Rattle.engine_model.specs.Sound.{IsWhole, Fit}
 use Rattle.engine_model.specs.declared.ApplyOpts.{ApplyOpts}

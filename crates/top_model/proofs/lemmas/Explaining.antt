@@ -12,7 +12,7 @@ use Rattle.checkpoint_cell.specs.Cell.{Checkpoint, is_due}
 use Rattle.checkpoint_cell.specs.Settled.{Standing, standing, restored_to, settled, taken_back, Alike}
 use Rattle.checkpoint_cell.specs.declared.Phase.{Phase}
 use Rattle.checkpoint_cell.specs.declared.Phase.TheVariants.{Applying, Waiting}
-use Rattle.engine_model.specs.Merge.{merge}
+use Rattle.merge_model.specs.MergedNet.{merge}
 use Rattle.engine_model.specs.Machine.{Asked, asked, Outcome, stays, restore, unless_differing, saved_on, rollback_cell, rollback, recover_cell, recover, committed as committed_to, commit_phase, commit_cell, commit, merged_as, apply}
 use Rattle.engine_model.specs.Differing.{differing}
 use Rattle.engine_model.specs.Checks.{found, unless_other, check_net, check_saved, check_cell}

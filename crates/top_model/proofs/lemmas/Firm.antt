@@ -10,7 +10,7 @@ use Rattle.checkpoint_cell.specs.Cell.{Checkpoint, is_due, applying as applying_
 use Rattle.checkpoint_cell.specs.Settled.{Standing, standing, restored_to, taken_back, settled_from, settled, Alike}
 use Rattle.checkpoint_cell.specs.declared.Phase.{Phase}
 use Rattle.checkpoint_cell.specs.declared.Phase.TheVariants.{Applying, Waiting}
-use Rattle.engine_model.specs.Merge.{merge}
+use Rattle.merge_model.specs.MergedNet.{merge}
 use Rattle.engine_model.specs.Machine.{Asked, asked, Outcome, stays, unless_differing, saved_on, restored_as, restore, rollback_cell, rollback, recover_cell, recover, committed, commit_phase, commit_cell, commit, changed, waiting, deadline_of, change, merged_as, apply_step, apply}
 use Rattle.engine_model.specs.Sound.{Fit, Sound}
 use Rattle.engine_model.specs.declared.Recovered.{Recovered}

@@ -10,7 +10,7 @@ use Rattle.checkpoint_cell.specs.Cell.{Checkpoint, is_due}
 use Rattle.checkpoint_cell.specs.Settled.{Standing, restored_to, taken_back, settled, Alike}
 use Rattle.checkpoint_cell.specs.declared.Phase.{Phase}
 use Rattle.checkpoint_cell.specs.declared.Phase.TheVariants.{Applying, Waiting}
-use Rattle.engine_model.specs.Merge.{merge}
+use Rattle.merge_model.specs.MergedNet.{merge}
 use Rattle.engine_model.specs.Machine.{Asked, asked, Outcome, stays, restored_as, saved_on, rollback_cell, rollback, recover_cell, recover, committed, commit_phase, commit_cell, commit, change, merged_as, apply_step, apply, restore}
 use Rattle.engine_model.specs.Stations.{at}
 use Rattle.engine_model.specs.declared.ApplyOpts.{ApplyOpts}

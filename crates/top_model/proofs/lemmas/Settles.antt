@@ -5,7 +5,7 @@ use Rattle.net_model.specs.NetData.{NetData}
 use Rattle.host_core.specs.HostView.{State}
 use Rattle.checkpoint_cell.specs.Cell.{Checkpoint}
 use Rattle.checkpoint_cell.specs.Settled.{Standing, standing, restored_to, taken_back, settled_from, settled}
-use Rattle.engine_model.specs.Merge.{merge}
+use Rattle.merge_model.specs.MergedNet.{merge}
 use Rattle.engine_model.specs.Machine.{Asked, Outcome, stays, unless_differing, saved_on, restored_as, restore, rollback_cell, rollback, recover_cell, recover, change, merged_as, apply_step, apply}
 use Rattle.engine_model.specs.Sound.{IsWhole, Fit}
 use Rattle.engine_model.specs.declared.Recovered.{Recovered}

@@ -3,7 +3,7 @@ use Rattle.std.specs.Prelude.{if◌then◌else◌, IfOk}
 use Rattle.net_model.specs.NetData.{NetData}
 use Rattle.net_model.specs.declared.Call.{Call}
 use Rattle.kernel_model.specs.Runs.{Runs}
-use Rattle.engine_model.specs.Merge.{merge}
+use Rattle.merge_model.specs.MergedNet.{merge}
 use Rattle.host_core.specs.HostView.{State}
 use Rattle.checkpoint_cell.specs.Settled.{Standing, standing}
 use Rattle.engine_model.specs.Sound.{Sound}
@@ -36,8 +36,8 @@ record Begun (g : _) (c : After-carry_out g) : Type 0 where
   ends : Ends (restored_to c.in-Ok.found) (g.H.Host.told c.dump.new.self)
   sound : Sound (g.H.Host.told c.dump.new.self)
   net : (g.H.Host.told c.dump.new.self).state.net ≡ Some c.in-Ok.found
-  runs : Runs c.deref.result.now c.in-Ok.found c.in-Ok-wanted.to
-  merges : merge c.in-Ok.found c.args.doc.now ≡ Ok c.in-Ok-wanted.to
+  runs : Runs c.deref.result.now c.in-Ok.found c.in-Ok-merge.to
+  merges : merge c.in-Ok.found c.args.doc.now ≡ Ok c.in-Ok-merge.to
   deadline : c.saturating_add-deadline.result ≡ (asked_of c.args.doc.now c.args.opts.now c.args.now).deadline
 
 begun : (g : _) (c : After-carry_out g) → g.H.Host.honest → Sound (g.H.Host.told c.args.host.now) → Ends (standing (g.H.Host.told c.args.host.now).state) (g.H.Host.told c.args.host.now) → Begun g c
@@ -51,8 +51,8 @@ begun g c honest sound ends =
       ends = subst (λ (x : Standing). Ends x mid) stood (ends_stays (standing old.state) old mid ends c.dump.ensures.stops);
       sound = sound_stays old mid sound c.dump.ensures.stops;
       net = ap (λ (s : State). s.net) (c.dump.ensures.state tells) ∙ c.in-Ok.ensures.net honest;
-      runs = subst (λ (l : List Call). Runs l c.in-Ok.found c.in-Ok-wanted.to) (sym c.deref.ensures.value) c.in-Ok-plan.ensures.run;
-      merges = c.in-Ok-wanted.ensures.merged;
+      runs = subst (λ (l : List Call). Runs l c.in-Ok.found c.in-Ok-merge.to) (sym c.deref.ensures.value) c.in-Ok-plan.ensures.run;
+      merges = c.in-Ok-merge.ensures.merged;
       deadline = omega (arith, c.saturating_add-deadline.ensures);
     }
 
@@ -73,9 +73,9 @@ kept g c honest sound ends =
     let old = g.H.Host.told c.args.host.now in
     let mid = g.H.Host.told c.dump.new.self in
     let new = g.H.Host.told c.carry_out.new.host in
-    let change : Change asked (standing old.state) = record { from = c.in-Ok.found; to = c.in-Ok-wanted.to; stood = b.stood; merges = b.merges } in
+    let change : Change asked (standing old.state) = record { from = c.in-Ok.found; to = c.in-Ok-merge.to; stood = b.stood; merges = b.merges } in
     kept_on (IsStation asked (standing old.state)) old mid new (kept_stays (IsStation asked (standing old.state)) old mid sound c.dump.ensures.stops)
-    (kept_wider (IsEither c.args.opts.now.no_commit c.args.now c.saturating_add-deadline.result c.in-Ok.found c.in-Ok-wanted.to) (IsStation asked (standing old.state))
+    (kept_wider (IsEither c.args.opts.now.no_commit c.args.now c.saturating_add-deadline.result c.in-Ok.found c.in-Ok-merge.to) (IsStation asked (standing old.state))
     (λ a is. either_station asked (standing old.state) change c.saturating_add-deadline.result b.deadline a is) mid new
     (c.carry_out.ensures.kept honest b.sound b.ends b.net b.runs))
 
@@ -91,8 +91,8 @@ stays g c sound = kept_stays (IsStation (asked_of c.args.doc.now c.args.opts.now
 pub returns-in-Err-Refused-clause-kept : goal.returns-in-Err-Refused-clause-kept
 returns-in-Err-Refused-clause-kept g c = λ honest sound ends. stays g (goal.at.returns-in-Err-Refused-clause-kept g c).After-dump sound
 
-pub returns-in-Err-OutOfMemory-wanted-clause-kept : goal.returns-in-Err-OutOfMemory-wanted-clause-kept
-returns-in-Err-OutOfMemory-wanted-clause-kept g c = λ honest sound ends. stays g (goal.at.returns-in-Err-OutOfMemory-wanted-clause-kept g c).After-dump sound
+pub returns-in-Err-OutOfMemory-merge-clause-kept : goal.returns-in-Err-OutOfMemory-merge-clause-kept
+returns-in-Err-OutOfMemory-merge-clause-kept g c = λ honest sound ends. stays g (goal.at.returns-in-Err-OutOfMemory-merge-clause-kept g c).After-dump sound
 
 pub returns-in-Err-clause-kept : goal.returns-in-Err-clause-kept
 returns-in-Err-clause-kept g c = λ honest sound ends. stays g (goal.at.returns-in-Err-clause-kept g c).After-dump sound
@@ -138,7 +138,7 @@ returns-clause-says g c = λ start follows was.
     let mid = g.H.Host.told c.dump.new.self in
     c.carry_out.ensures.says c.args.doc.now start
     (follows_on start old mid follows c.dump.ensures.cause.later c.dump.ensures.stops.later (quiet_dumped old.kernel mid.kernel c.in-Ok.ensures.calls))
-    (ap (λ (k : Kernel). k.calls) c.in-Ok.ensures.calls) c.in-Ok-wanted.ensures.merged
+    (ap (λ (k : Kernel). k.calls) c.in-Ok.ensures.calls) c.in-Ok-merge.ensures.merged
 
 pub returns-clause-unbegun : goal.returns-clause-unbegun
 returns-clause-unbegun g c = λ is. absurd (c.carry_out.ensures.begun is)
@@ -152,9 +152,9 @@ returns-clause-calm g c = λ honest t le from to is merges calm.
     let mid = g.H.Host.told c.dump.new.self in
     let new = g.H.Host.told c.carry_out.new.host in
     let found = c.in-Ok.found in
-    let aim = c.in-Ok-wanted.to in
+    let aim = c.in-Ok-merge.to in
     let one : found ≡ from = one_net found from old.state.net (c.in-Ok.ensures.net honest) is in
-    let two : aim ≡ to = one_merged aim to (merge from c.args.doc.now) (subst (λ (n : NetData). merge n c.args.doc.now ≡ Ok aim) one c.in-Ok-wanted.ensures.merged) merges in
+    let two : aim ≡ to = one_merged aim to (merge from c.args.doc.now) (subst (λ (n : NetData). merge n c.args.doc.now ≡ Ok aim) one c.in-Ok-merge.ensures.merged) merges in
     let here : mid.state.net ≡ Some found = ap (λ (s : State). s.net) (c.dump.ensures.state tells) ∙ c.in-Ok.ensures.net honest in
     let plan : IsPlan found aim c.deref.result.now = subst (λ (l : List Call). IsPlan found aim l) (sym c.deref.ensures.value) c.in-Ok-plan.ensures in
     let begun = calm_as from to found aim t mid one two (calm_stays from to t old mid (g.met.H.Host.lawful c.args.host.now).stops le calm c.dump.ensures.stops) in
@@ -191,12 +191,12 @@ returns-clause-exact g c = λ honest.
     let mid = g.H.Host.told c.dump.new.self in
     let new = g.H.Host.told c.carry_out.new.host in
     let found = c.in-Ok.found in
-    let aim = c.in-Ok-wanted.to in
+    let aim = c.in-Ok-merge.to in
     let opts = c.args.opts.now in
     let net : mid.state.net ≡ Some found = ap (λ (s : State). s.net) (c.dump.ensures.state tells) ∙ c.in-Ok.ensures.net honest in
     let runs : Runs c.deref.result.now found aim = subst (λ (l : List Call). Runs l found aim) (sym c.deref.ensures.value) c.in-Ok-plan.ensures.run in
     let deadline : c.saturating_add-deadline.result ≡ (asked_of c.args.doc.now opts c.args.now).deadline = omega (arith, c.saturating_add-deadline.ensures) in
-    made_exact (asked c.args.doc.now opts c.args.now) (standing old.state) found aim mid new old.faults c.carry_out.result (c.in-Ok.ensures.net honest) c.in-Ok-wanted.ensures.merged ((g.met.H.Host.lawful c.carry_out.new.host).reads tells)
+    made_exact (asked c.args.doc.now opts c.args.now) (standing old.state) found aim mid new old.faults c.carry_out.result (c.in-Ok.ensures.net honest) c.in-Ok-merge.ensures.merged ((g.met.H.Host.lawful c.carry_out.new.host).reads tells)
     c.dump.ensures.cause.later
     (subst (λ (d : ℕ). IfOk c.carry_out.result (λ applied. applied.deadline ≡ (if opts.no_commit then Some d else None))) deadline c.carry_out.ensures.value)
     (subst (λ (d : ℕ). OnOk c.carry_out.result (Ends (done opts.no_commit c.args.now d found aim) new)) deadline (c.carry_out.ensures.ends honest net runs))
@@ -213,7 +213,7 @@ returns-clause-tries g c = λ start follows.
     let mid = g.H.Host.told c.dump.new.self in
     c.carry_out.ensures.tries c.args.doc.now start
     (follows_on start old mid follows c.dump.ensures.cause.later c.dump.ensures.stops.later (quiet_dumped old.kernel mid.kernel c.in-Ok.ensures.calls))
-    (ap (λ (k : Kernel). k.calls) c.in-Ok.ensures.calls) c.in-Ok-wanted.ensures.merged
+    (ap (λ (k : Kernel). k.calls) c.in-Ok.ensures.calls) c.in-Ok-merge.ensures.merged
 
 pub returns-clause-dumps : goal.returns-clause-dumps
 returns-clause-dumps g c = c.carry_out.ensures.dumps c.in-Ok.ensures.fresh

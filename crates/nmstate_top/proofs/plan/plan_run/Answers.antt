@@ -1,7 +1,7 @@
 use Rattle.std.proofs.Common.{◌≡◌, ◌∙◌, inl, refl, ap, List, []}
 use Rattle.std.specs.Prelude.{Ok, Err}
 use Rattle.base_model.specs.declared.Path.{Path}
-use Rattle.engine_model.specs.Merge.{merge}
+use Rattle.merge_model.specs.MergedNet.{merge}
 use Rattle.top_model.specs.Machine.{plan_to}
 use Rattle.top_model.specs.Orders.{planning}
 use Rattle.top_model.specs.Texts.{note_lines}

@@ -1,4 +1,4 @@
-use Rattle.engine_model.specs.Merge.{merge}
+use Rattle.merge_model.specs.MergedNet.{merge}
 use Rattle.top_model.specs.Machine.{plan_to}
 use Rattle.nmstate_top.proofs.Looks.{looks_fault, looks_text}
 use Rattle.nmstate_top.proofs.plan.planned.Goals as goal

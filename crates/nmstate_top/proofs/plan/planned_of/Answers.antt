@@ -1,6 +1,6 @@
 use Rattle.std.proofs.Common.{ap}
 use Rattle.std.specs.Prelude.{Ok}
-use Rattle.engine_model.specs.Merge.{merge}
+use Rattle.merge_model.specs.MergedNet.{merge}
 use Rattle.top_model.specs.Machine.{plan_to, said_plan}
 use Rattle.nmstate_top.proofs.Looks.{text_as}
 use Rattle.nmstate_top.proofs.plan.planned_of.Goals as goal

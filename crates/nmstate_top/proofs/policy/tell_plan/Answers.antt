@@ -1,6 +1,6 @@
 use Rattle.std.proofs.Common.{◌∙◌, ap, refl, subst, sym, ℕ, List, [], ◌++◌}
 use Rattle.std.specs.Prelude.{Ok, Err}
-use Rattle.engine_model.specs.Merge.{merge}
+use Rattle.merge_model.specs.MergedNet.{merge}
 use Rattle.top_model.specs.Machine.{plan_to}
 use Rattle.top_model.specs.Said.{Says}
 use Rattle.top_model.specs.Texts.{error_line}

@@ -2,7 +2,7 @@ use Rattle.std.proofs.Common.{ap, subst, Err}
 use Rattle.std.specs.Prelude.{IfOk, IfErr}
 use Rattle.std.proofs.lemmas.Result.{IfOk-weaker, IfErr-weaker}
 use Rattle.net_model.specs.NetData.{NetData}
-use Rattle.engine_model.specs.Merge.{merge}
+use Rattle.merge_model.specs.MergedNet.{merge}
 use Rattle.scenario_model.specs.Counts.{IsPlanned, HasPlan}
 use Rattle.scenario_model.specs.Saying.{StepSays, past_of}
 use Rattle.scenario_model.specs.Answering.{StepAnswers}

@@ -1,4 +1,4 @@
--- What the answer of the merge says in the engine's words.
+-- What the answer of the merge says: the merged network, of the same devices, or the rule that is broken.
 use Rattle.std.proofs.Common.{◌≡◌, true, ap, sym, subst, ◌∙◌, Some, None, Result, Ok, Err}
 use Rattle.std.specs.Prelude.{IfOk}
 use Rattle.net_model.specs.NetData.{NetData, IsNet, ordered}
@@ -11,7 +11,7 @@ use Rattle.merge_model.specs.Merge.{least_refusal, merged}
 use Rattle.merge_model.specs.declared.fault.MergeFault.{MergeFault}
 use Rattle.merge_model.specs.declared.fault.MergeFault.TheVariants as fault
 use Rattle.merge_laws.specs.Laws.{IsMergeable, target}
-use Rattle.engine_model.specs.Merge.{merge, unless_refused}
+use Rattle.merge_model.specs.MergedNet.{merge, unless_refused}
 
 abbrev merged_with : NetData → Result NetData Refused
 merged_with to = Ok to
