@@ -6,9 +6,7 @@ ghost use Rattle.top_model.specs.Texts.{left_words, rule_name, which_words, plac
 use crate::line::{Line, ROOM, push_number};
 use document_model::{Place, Refused};
 use engine_model::Left;
-
-/// The number by which an answer names the kernel area.
-const KERNEL_AREA: u8 = 0;
+use host_core::Area;
 
 pub(crate) fn left_words(left: Left) -> &'static [u8]
     ensures text { result.now ≡ left_words left }
@@ -25,7 +23,7 @@ pub(crate) fn area_words(area: u8) -> &'static [u8]
     ensures text { result.now ≡ area_words area }
     ensures short { length result.now ≤ 20 }
 {
-    if area == KERNEL_AREA {
+    if area == Area::Kernel.number() {
         b"kernel area damaged"
     } else {
         b"checkpoint damaged"

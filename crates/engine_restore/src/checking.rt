@@ -14,15 +14,9 @@ use crate::devices::differing;
 use base_model::{Items, OutOfMemory};
 use checkpoint_cell::{CellFault, Pending, Seen, barrier, load};
 use engine_model::{CheckFault, Checked};
-use host_core::{DumpFault, Failed, Host};
+use host_core::{Area, DumpFault, Failed, Host};
 use net_model::{Name, Net};
 use std::alloc::Global;
-
-/// The number by which an answer names the kernel area.
-const KERNEL_AREA: u8 = 0;
-
-/// The number by which an answer names the checkpoint area.
-const CHECKPOINT_AREA: u8 = 1;
 
 // How many links there are.
 fn link_count(net: &Net) -> u32
@@ -100,13 +94,13 @@ pub fn check<H: Host>(host: &mut H, alloc: Global) -> Result<Checked, CheckFault
     let pending = match load(host, alloc) {
         Ok(pending) => pending,
         Err(CellFault::Failed) => return Err(CheckFault::HostFault),
-        Err(CellFault::Damaged) => return Err(CheckFault::Damaged(CHECKPOINT_AREA)),
+        Err(CellFault::Damaged) => return Err(CheckFault::Damaged(Area::Checkpoint.number())),
         Err(CellFault::OutOfMemory) => return Err(CheckFault::OutOfMemory),
     };
     let found = match host.dump(alloc) {
         Ok(found) => found,
         Err(DumpFault::Failed) => return Err(CheckFault::HostFault),
-        Err(DumpFault::Damaged) => return Err(CheckFault::Damaged(KERNEL_AREA)),
+        Err(DumpFault::Damaged) => return Err(CheckFault::Damaged(Area::Kernel.number())),
         Err(DumpFault::OutOfMemory) => return Err(CheckFault::OutOfMemory),
     };
     found.laws();

@@ -4,7 +4,7 @@ ghost use Rattle.std.specs.Prelude.{◌≤◌};
 use crate::fault::FileFault;
 use crate::raw::RawDisk;
 use crate::whole::WholeDisk;
-use host_core::Disk;
+use host_core::{Area, Disk};
 use std::fs::{File, OpenOptions};
 use std::os::unix::fs::FileExt;
 use std::path::Path;
@@ -86,7 +86,11 @@ impl WholeDisk<Folder> {
 impl Opened {
     // The file of an area.
     fn file(&self, area: u8) -> &File {
-        if area == 0 { &self.kernel } else { &self.cell }
+        if area == Area::Kernel.number() {
+            &self.kernel
+        } else {
+            &self.cell
+        }
     }
 
     // Locks the folder, at the first call alone: a lock that was refused once isn't tried again, so that no command begins

@@ -2,6 +2,8 @@
 //! output, folders of documents and a clock.
 #![tactic(auto)]
 
+// The two areas of a disk.
+mod area;
 // The clock.
 mod clock;
 // The disk.
@@ -15,6 +17,7 @@ mod host;
 // Sources of input and sinks for output.
 mod stream;
 
+pub use area::Area;
 pub use clock::Clock;
 pub use disk::Disk;
 pub use faults::{Failed, raised};

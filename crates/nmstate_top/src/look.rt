@@ -2,13 +2,10 @@
 ghost use Rattle.nmstate_top.specs.Looked.{Finds, ChangesNothing};
 
 use engine_model::Left;
-use host_core::{DumpFault, Host};
+use host_core::{Area, DumpFault, Host};
 use net_model::Net;
 use std::alloc::Global;
 use top_model::Cause;
-
-/// The number by which an answer names the kernel area.
-pub(crate) const KERNEL_AREA: u8 = 0;
 
 // The network as the host gives it, or why it gives none. Nothing is changed.
 pub(crate) fn look<H: Host>(alloc: Global, host: &mut H) -> Result<Net, Cause>
@@ -18,7 +15,7 @@ pub(crate) fn look<H: Host>(alloc: Global, host: &mut H) -> Result<Net, Cause>
     match host.dump(alloc) {
         Ok(net) => Ok(net),
         Err(DumpFault::Failed) => Err(Cause::HostFault(Left::NotBegun)),
-        Err(DumpFault::Damaged) => Err(Cause::Damaged(KERNEL_AREA)),
+        Err(DumpFault::Damaged) => Err(Cause::Damaged(Area::Kernel.number())),
         Err(DumpFault::OutOfMemory) => Err(Cause::OutOfMemory),
     }
 }

@@ -12,28 +12,24 @@ ghost use Rattle.nmstate_top.specs.Begun.{Recovers, Begun, Seen, Wants, look_cau
 ghost use Rattle.nmstate_top.specs.Carried.{Carried};
 
 use crate::apply::apply_cause;
-use crate::look::KERNEL_AREA;
 use crate::policy::document_on;
 use answer_text::{applied_line, note_text, tell_done, tell_refused};
 use base_model::OutOfMemory;
 use document_model::Doc;
 use engine_core::{apply, recover};
 use engine_model::{ApplyFault, ApplyOpts, BackFault, Left, Recovered};
-use host_core::{DumpFault, Host, Sink, Source};
+use host_core::{Area, DumpFault, Host, Sink, Source};
 use net_model::Net;
 use policy_lang::Policy;
 use std::alloc::Global;
 use top_model::{Cause, Report};
-
-/// The number by which an answer names the checkpoint area.
-const CHECKPOINT_AREA: u8 = 1;
 
 // Why what is due wasn't taken back.
 fn settling_cause(fault: BackFault) -> Cause
     ensures { result ≡ apply_cause (apply_fault fault) }
 {
     match fault {
-        BackFault::NoCheckpoint => Cause::Damaged(CHECKPOINT_AREA),
+        BackFault::NoCheckpoint => Cause::Damaged(Area::Checkpoint.number()),
         BackFault::HostFault(left) => Cause::HostFault(left),
         BackFault::KernelRefused(number, call, left) => Cause::KernelRefused(number, call, left),
         BackFault::Damaged(area) => Cause::Damaged(area),
@@ -58,7 +54,7 @@ fn look_cause(done: Recovered, fault: DumpFault) -> Cause
 {
     match fault {
         DumpFault::Failed => Cause::HostFault(side_of(done)),
-        DumpFault::Damaged => Cause::Damaged(KERNEL_AREA),
+        DumpFault::Damaged => Cause::Damaged(Area::Kernel.number()),
         DumpFault::OutOfMemory => Cause::OutOfMemory,
     }
 }

@@ -4,7 +4,7 @@ use crate::files::no_files;
 use crate::program::{Seen, run_on};
 use boot_service::MemoryFolder;
 use disk_host::DiskHost;
-use host_core::Host;
+use host_core::{Area, Host};
 use host_memory::{MemoryDisk, MemoryHost};
 use net_model::Net;
 use std::alloc::Global;
@@ -48,8 +48,8 @@ fn copied_memory(alloc: Global, host: &MemoryHost) -> Option<MemoryHost> {
 }
 
 fn copied_disk(alloc: Global, disk: &MemoryDisk) -> Option<MemoryDisk> {
-    let kernel = disk.area(0).clone().ok()?;
-    let cell = disk.area(1).clone().ok()?;
+    let kernel = disk.area(Area::Kernel.number()).clone().ok()?;
+    let cell = disk.area(Area::Checkpoint.number()).clone().ok()?;
     Some(MemoryDisk::new(alloc, kernel, cell, Vec::new(alloc)))
 }
 

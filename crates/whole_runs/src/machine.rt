@@ -5,7 +5,7 @@ use crate::stored::cut;
 use anyhow::{Result, anyhow};
 use base_model::OutOfMemory;
 use disk_host::DiskHost;
-use host_core::{DumpFault, Host};
+use host_core::{Area, DumpFault, Host};
 use host_memory::{Fuse, LyingHost, MemoryDisk, MemoryHost, RefusingHost};
 use net_model::Net;
 use std::alloc::Global;
@@ -22,13 +22,6 @@ pub enum Kind {
 pub enum Machine {
     Memory(MemoryHost),
     Disk(MemoryDisk),
-}
-
-/// The two areas of what is stored.
-#[derive(Clone, Copy, Debug, PartialEq, Eq)]
-pub enum Area {
-    Kernel,
-    Checkpoint,
 }
 
 fn in_memory<T: Drop>(given: Result<T, OutOfMemory>) -> Result<T> {
@@ -76,8 +69,13 @@ fn memory(alloc: Global, host: &MemoryHost, fuses: Vec<Fuse>) -> Result<MemoryHo
 }
 
 fn disk(alloc: Global, disk: &MemoryDisk, fuses: Vec<Fuse>) -> Result<MemoryDisk> {
-    let kernel = disk.area(0).clone()?;
-    Ok(MemoryDisk::new(alloc, kernel, disk.area(1).clone()?, fuses))
+    let kernel = disk.area(Area::Kernel.number()).clone()?;
+    Ok(MemoryDisk::new(
+        alloc,
+        kernel,
+        disk.area(Area::Checkpoint.number()).clone()?,
+        fuses,
+    ))
 }
 
 fn disk_with(
@@ -89,11 +87,11 @@ fn disk_with(
 ) -> Result<MemoryDisk> {
     match area {
         Area::Kernel => {
-            let cell = disk.area(1).clone()?;
+            let cell = disk.area(Area::Checkpoint.number()).clone()?;
             Ok(MemoryDisk::new(alloc, bytes, cell, fuses))
         }
         Area::Checkpoint => {
-            let kernel = disk.area(0).clone()?;
+            let kernel = disk.area(Area::Kernel.number()).clone()?;
             Ok(MemoryDisk::new(alloc, kernel, bytes, fuses))
         }
     }
@@ -264,8 +262,8 @@ impl Machine {
                 Area::Checkpoint => Ok(host.cell()),
             },
             Machine::Disk(disk) => Ok(match area {
-                Area::Kernel => disk.area(0),
-                Area::Checkpoint => disk.area(1),
+                Area::Kernel => disk.area(Area::Kernel.number()),
+                Area::Checkpoint => disk.area(Area::Checkpoint.number()),
             }),
         }
     }

@@ -1,7 +1,7 @@
 //! Stored bytes that are damaged.
 
-use crate::machine::Area;
 use anyhow::{Result, anyhow};
+use host_core::Area;
 use std::alloc::Global;
 
 /// The area of a word.
