@@ -1,5 +1,4 @@
 pub mod lemmas
-mod InOrder
 mod Merging
 mod Landing
 mod Serving

@@ -2,6 +2,7 @@
 use Rattle.std.proofs.Common.{◌≡◌, ◌∙◌, refl, ap, subst, true, Option, Some, None, Ok}
 use Rattle.net_model.specs.NetData.{NetData, IsNet}
 use Rattle.net_model.specs.Valid.{least_broken}
+use Rattle.net_model.proofs.lemmas.Arranged.{ordered_net}
 use Rattle.document_model.specs.declared.Doc.{Doc}
 use Rattle.document_model.specs.declared.Refused.{Refused}
 use Rattle.document_model.specs.Entries.{is_document}
@@ -11,7 +12,6 @@ use Rattle.merge_model.specs.MergedNet.{merge, unless_refused}
 use Rattle.host_core.specs.Folders.{File}
 use Rattle.boot_service.specs.Fold.{Taking, IsTaken}
 use Rattle.boot_service.specs.Stops.{IsTakenAs, merged_or}
-use Rattle.boot_service.proofs.InOrder.{ordered_net}
 
 -- the laws that are used
 pub record Laws : Type 0 where

@@ -1,11 +1,11 @@
 -- Lists that are put in order: what is left of them, and what is found in them.
 use Rattle.std.proofs.Common.{◌≡◌, ℕ, Bool, true, false, cond, if◌then◌else◌, List, [], ◌∷◌, filter, Some, Ordering, Equal, refl, sym, ap, ◌∙◌, IsPermutation}
 use Rattle.std.specs.List.{list_any, list_all}
-use Rattle.std.specs.Ordering.{is_lt, is_eq}
+use Rattle.std.specs.Ordering.{is_lt}
 use Rattle.std.specs.Cmp.{IsTotalOrder, IsStrictWeakOrder}
 use Rattle.std.proofs.lemmas.List.Sorted.{ranks_by, IsPermutation-refl, IsPermutation-trans, IsPermutation-sym, list_any-IsPermutation}
 use Rattle.net_model.specs.Name.{same_bytes}
-use Rattle.net_model.specs.Words.{apart, rises, put, sorted}
+use Rattle.net_model.specs.Words.{rises, put, sorted}
 use Rattle.net_model.specs.Order.{link_cmp}
 use Rattle.net_model.specs.Links.{is_named, find_link, same_name}
 use Rattle.net_model.specs.Valid.{names_differ}
@@ -13,10 +13,8 @@ use Rattle.net_model.specs.declared.Link.{Link}
 use Rattle.net_model.proofs.lemmas.Truth.{and_left, and_right, and_both, or_left_false, or_right_false}
 use Rattle.net_model.proofs.lemmas.Found.{one_name, itself}
 use Rattle.net_model.proofs.lemmas.Orders.{link_cmp_total}
-use Rattle.net_model.proofs.lemmas.Permute.{apart-IsPermutation}
-use Rattle.net_model.proofs.lemmas.ValidMoved.{tied_both}
-use Rattle.net_model.proofs.lemmas.Rises.{NoneBefore, Climbs, Climbs-sorted, sorted-rises, apart-sorted}
-use Rattle.net_model.proofs.lemmas.Sorting.{sorted_moves, sorted_climbs, rising_sorted, exact_sorted}
+use Rattle.net_model.proofs.lemmas.Rises.{NoneBefore, Climbs}
+use Rattle.net_model.proofs.lemmas.Sorting.{sorted_moves, sorted_climbs, exact_sorted}
 use Rattle.merge_laws.proofs.Each.{Each}
 use Rattle.merge_laws.proofs.Searches.{all_filtered, apart_head, apart_tail}
 
@@ -73,10 +71,6 @@ module _ {X : Type 0} (R : X → X → Ordering) (total : IsTotalOrder R) where
     | false ↦ λ e. put_left_out p x (sorted R xs) e ∙ filter_sorted p xs
   ] refl
 
-  -- a list that rises is in order already
-  pub sorted_itself : (xs : List X) → rises R xs ≡ true → sorted R xs ≡ xs
-  sorted_itself xs up = sym (rising_sorted R total xs xs (IsPermutation-refl xs) up (Climbs-sorted R total xs (sorted-rises R total xs up)))
-
   -- where what ties is one, the order in which members are given makes no difference
   pub sorted_moved : ((x y : X) → R x y ≡ Equal → x ≡ y) → (xs ys : List X) → IsPermutation xs ys → sorted R xs ≡ sorted R ys
   sorted_moved exact xs ys moved =
@@ -85,18 +79,6 @@ module _ {X : Type 0} (R : X → X → Ordering) (total : IsTotalOrder R) where
   -- so putting in order twice is doing it once
   pub sorted_twice : ((x y : X) → R x y ≡ Equal → x ≡ y) → (xs : List X) → sorted R (sorted R xs) ≡ sorted R xs
   sorted_twice exact xs = sym (exact_sorted R total exact (sorted R xs) (sorted R xs) (IsPermutation-refl (sorted R xs)) (sorted_climbs R total xs))
-
--- what is put in order rises, where members differ
-pub sorted_rises : {X : Type 0} (E : X → X → Bool) (R : X → X → Ordering) → IsTotalOrder R → ((x y : X) → E x y ≡ is_eq (R x y)) → (xs : List X) → apart E xs ≡ true → rises R (sorted R xs) ≡ true
-sorted_rises E R total tie xs differ =
-    sym (apart-sorted E R total tie (sorted R xs) (sorted_climbs R total xs))
-    ∙ sym (apart-IsPermutation E (tied_both E R total tie) xs (sorted R xs) (sorted_moves R total xs))
-    ∙ differ
-
--- and then the order in which they are given makes no difference
-pub same_sorted : {X : Type 0} (E : X → X → Bool) (R : X → X → Ordering) → IsTotalOrder R → ((x y : X) → E x y ≡ is_eq (R x y)) → (xs ys : List X) → IsPermutation xs ys → apart E xs ≡ true → sorted R xs ≡ sorted R ys
-same_sorted E R total tie xs ys moved differ =
-    rising_sorted R total ys (sorted R xs) (IsPermutation-trans ys xs (sorted R xs) (IsPermutation-sym xs ys moved) (sorted_moves R total xs)) (sorted_rises E R total tie xs differ) (sorted_climbs R total xs)
 
 pub rises_filter : {X : Type 0} (R : X → X → Ordering) (p : X → Bool) (xs : List X) → rises R xs ≡ true → rises R (filter p xs) ≡ true
 rises_filter R p [] h = refl

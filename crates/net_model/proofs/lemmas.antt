@@ -24,4 +24,5 @@ pub mod Search
 pub mod Same
 pub mod SameLists
 pub mod InOrder
+pub mod Arranged
 pub mod Cycles

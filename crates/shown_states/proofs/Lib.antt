@@ -1,5 +1,4 @@
 pub mod Tests
-pub mod InOrder
 pub mod Members
 pub mod Links
 pub mod Networks

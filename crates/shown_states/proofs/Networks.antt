@@ -9,6 +9,7 @@ use Rattle.net_model.specs.Hardware.{device_of}
 use Rattle.net_model.specs.NetData.{NetData, net_of, no_dns, arranged, ordered}
 use Rattle.net_model.specs.Valid.{least_broken}
 use Rattle.net_model.specs.declared.Link.{Link}
+use Rattle.net_model.proofs.lemmas.Arranged.{ordered_net}
 use Rattle.net_model.proofs.lemmas.Orders.{link_cmp_total}
 use Rattle.net_model.proofs.lemmas.Permute.{list_all-IsPermutation}
 use Rattle.net_model.proofs.lemmas.Sorting.{sorted_moves}
@@ -26,7 +27,6 @@ use Rattle.scenario_model.specs.Asking.{first_net}
 use Rattle.shown_model.specs.Printable.{IsPrintable}
 use Rattle.shown_states.specs.States.{HasStations, IsHardwareList, StaysPrintable}
 use Rattle.shown_states.proofs.Tests.{is_clear, has_station, is_shown, all_weaker, all_mapped, three, three_hold, stations_pass, pass_stations, printable_pass, pass_printable}
-use Rattle.shown_states.proofs.InOrder.{ordered_net}
 use Rattle.shown_states.proofs.Members.{is_known, members_known}
 use Rattle.shown_states.proofs.Links.{sorted_clear, links_shown, links_devices}
 

@@ -26,17 +26,20 @@ use Rattle.net_model.proofs.lemmas.AllParts.{all_parts}
 use Rattle.net_model.proofs.lemmas.ValidMoved.{tied_both, apart_map}
 
 module _ {X : Type 0} (E : X → X → Bool) (R : X → X → Ordering) (total : IsTotalOrder R) (tie : (x y : X) → E x y ≡ is_eq (R x y)) where
-  sorted_rises : (xs : List X) → apart E xs ≡ true → rises R (sorted R xs) ≡ true
+  -- what is put in order rises, where members differ
+  pub sorted_rises : (xs : List X) → apart E xs ≡ true → rises R (sorted R xs) ≡ true
   sorted_rises xs differ =
       sym (apart-sorted E R total tie (sorted R xs) (sorted_climbs R total xs))
       ∙ sym (apart-IsPermutation E (tied_both E R total tie) xs (sorted R xs) (sorted_moves R total xs))
       ∙ differ
 
-  same_sorted : (xs ys : List X) → IsPermutation xs ys → apart E xs ≡ true → sorted R xs ≡ sorted R ys
+  -- and then the order in which they are given makes no difference
+  pub same_sorted : (xs ys : List X) → IsPermutation xs ys → apart E xs ≡ true → sorted R xs ≡ sorted R ys
   same_sorted xs ys moved differ =
       rising_sorted R total ys (sorted R xs) (IsPermutation-trans ys xs (sorted R xs) (IsPermutation-sym xs ys moved) (sorted_moves R total xs)) (sorted_rises xs differ) (sorted_climbs R total xs)
 
-sorted_itself : {X : Type 0} (R : X → X → Ordering) → IsTotalOrder R → (xs : List X) → rises R xs ≡ true → sorted R xs ≡ xs
+-- a list that rises is in order already
+pub sorted_itself : {X : Type 0} (R : X → X → Ordering) → IsTotalOrder R → (xs : List X) → rises R xs ≡ true → sorted R xs ≡ xs
 sorted_itself R total xs up = sym (rising_sorted R total xs xs (IsPermutation-refl xs) up (Climbs-sorted R total xs (sorted-rises R total xs up)))
 
 abbrev net_from : List Link → List Route → List RuleParts → Dns → NetData

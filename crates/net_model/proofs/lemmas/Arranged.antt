@@ -1,8 +1,6 @@
 -- Valid lists that are put in order are a network.
-use Rattle.std.proofs.Common.{◌≡◌, Bool, true, false, not, ◌&&◌, ◌||◌, List, [], ◌∷◌, map, None, Ordering, refl, sym, ◌∙◌}
+use Rattle.std.proofs.Common.{◌≡◌, Bool, true, false, not, ◌&&◌, ◌||◌, List, [], ◌∷◌, map, None, refl, sym, ◌∙◌}
 use Rattle.std.specs.List.{list_any, list_all}
-use Rattle.std.specs.Ordering.{is_eq}
-use Rattle.std.specs.Cmp.{IsTotalOrder}
 use Rattle.net_model.specs.Words.{apart, rises, sorted}
 use Rattle.net_model.specs.Address.{Block}
 use Rattle.net_model.specs.Order.{block_cmp, link_cmp, route_cmp, rule_cmp}
@@ -13,21 +11,14 @@ use Rattle.net_model.specs.NetData.{NetData, IsNet, IsInOrder, IsSorting, arrang
 use Rattle.net_model.specs.declared.Link.{Link}
 use Rattle.net_model.proofs.lemmas.Truth.{and_left, and_right, and_both, not_true, not_false, or_left_false, or_right_false}
 use Rattle.net_model.proofs.lemmas.Orders.{link_cmp_total, route_cmp_total}
-use Rattle.net_model.proofs.lemmas.Rises.{apart-sorted}
-use Rattle.net_model.proofs.lemmas.Permute.{list_all-IsPermutation, apart-IsPermutation}
-use Rattle.net_model.proofs.lemmas.Sorting.{sorted_moves, sorted_climbs}
+use Rattle.net_model.proofs.lemmas.Permute.{list_all-IsPermutation}
+use Rattle.net_model.proofs.lemmas.Sorting.{sorted_moves}
 use Rattle.net_model.proofs.lemmas.Found.{names_tie}
 use Rattle.net_model.proofs.lemmas.Ties.{blocks_tie, keys_tie, rules_tie}
 use Rattle.net_model.proofs.lemmas.AllParts.{all_parts}
 use Rattle.net_model.proofs.lemmas.InOrder.{sorted_in_order}
-use Rattle.net_model.proofs.lemmas.ValidMoved.{least_broken-sorting, tied_both, apart_map}
-
--- members that differ rise once they are sorted
-sorted_rises : {X : Type 0} (E : X → X → Bool) (R : X → X → Ordering) (total : IsTotalOrder R) → ((x y : X) → E x y ≡ is_eq (R x y)) → (xs : List X) → apart E xs ≡ true → rises R (sorted R xs) ≡ true
-sorted_rises E R total tie xs differ =
-    sym (apart-sorted E R total tie (sorted R xs) (sorted_climbs R total xs))
-    ∙ sym (apart-IsPermutation E (tied_both E R total tie) xs (sorted R xs) (sorted_moves R total xs))
-    ∙ differ
+use Rattle.net_model.proofs.lemmas.Ordered.{sorted_rises}
+use Rattle.net_model.proofs.lemmas.ValidMoved.{least_broken-sorting, apart_map}
 
 no_and : (b c : Bool) → b ≡ false → (b && c) ≡ false
 no_and b c h = rw h refl
@@ -58,6 +49,7 @@ each_rises (x ∷ xs) h =
     (blocks_differ x.addrs (and_right (x.up || all_v4 x.addrs) (addresses_differ x.addrs) (and_left ((x.up || all_v4 x.addrs) && addresses_differ x.addrs) (addresses_fit xs) h))))
     (each_rises xs (and_right ((x.up || all_v4 x.addrs) && addresses_differ x.addrs) (addresses_fit xs) h))
 
+-- a network's lists, put in order, are a network where they break no part of validity
 pub ordered_net : (net : NetData) → least_broken net ≡ None → IsNet (ordered net)
 ordered_net net none =
     let p = all_parts net none in
