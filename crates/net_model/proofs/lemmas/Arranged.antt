@@ -8,7 +8,7 @@ use Rattle.net_model.specs.OrderLaws.{block_cmp_total, rule_cmp_total}
 use Rattle.net_model.specs.Links.{same_name}
 use Rattle.net_model.specs.Valid.{all_v4, same_address, same_block, addresses_differ, addresses_fit, route_stands, keys_differ, same_key, same_rule, least_broken}
 use Rattle.net_model.specs.NetData.{NetData, IsNet, IsInOrder, IsSorting, arranged, ordered}
-use Rattle.net_model.specs.declared.Link.{Link}
+use Rattle.net_model.specs.declared.link.Link.{Link}
 use Rattle.net_model.proofs.lemmas.Truth.{and_left, and_right, and_both, not_true, not_false, or_left_false, or_right_false}
 use Rattle.net_model.proofs.lemmas.Orders.{link_cmp_total, route_cmp_total}
 use Rattle.net_model.proofs.lemmas.Permute.{list_all-IsPermutation}
