@@ -110,7 +110,9 @@ fn is_bridge_port(links: &[Link], link: &Link) -> bool
 
 fn has_unused_defaults(links: &[Link], link: &Link) -> bool
     requires { rises link_cmp links.now ≡ true }
-    ensures { result ≡ ((is_bond link.now.kind || is_default_bond link.now.bond) && (is_bridge link.now.kind || is_default_bridge link.now.bridge) && (is_bridge_port links.now link.now || is_default_port link.now.port)) }
+    ensures { result ≡ ((is_bond link.now.kind || is_default_bond link.now.bond)
+        && (is_bridge link.now.kind || is_default_bridge link.now.bridge)
+        && (is_bridge_port links.now link.now || is_default_port link.now.port)) }
 {
     (is_bond(&link.kind) || is_default_bond(&link.bond))
         && (is_bridge(&link.kind) || is_default_bridge(&link.bridge))

@@ -27,5 +27,6 @@ pub fn reading_laws()
     // .. and within the limit what stands so is read.
     ensures text_complete { (bytes : List ℕ) (t : Shape) → length bytes ≤ MAX_BYTES → IsUtf8 bytes → StandsFor bytes t → reading bytes ≡ Ok t }
     // A fault of such a text names the first of its lines that can't continue a valid document.
-    ensures text_first_line { (bytes : List ℕ) (f : YamlFault) → length bytes ≤ MAX_BYTES → IsUtf8 bytes → reading bytes ≡ Err f → StopsAt (lines bytes) (line_of f) }
+    ensures text_first_line { (bytes : List ℕ) (f : YamlFault) → length bytes ≤ MAX_BYTES → IsUtf8 bytes
+        → reading bytes ≡ Err f → StopsAt (lines bytes) (line_of f) }
 {}
