@@ -11,7 +11,7 @@ use Rattle.document_model.specs.declared.LinkEntry.{LinkEntry}
 use Rattle.document_model.specs.declared.PortEntry.{PortEntry}
 use Rattle.merge_model.specs.Controllers.{ports_by}
 use Rattle.merge_model.specs.LinkOptions.{port_entry}
-use Rattle.link_slots.proofs.lemmas.Placed.{unplaced, same_place}
+use Rattle.link_order.proofs.lemmas.Placed.{unplaced, same_place}
 
 -- what stands at the place of a name is found by the name
 pub at_name_place : {X Y : Type 0} (f : X → Y) (q : Y → Bool) (xs : List X) → option_and_then (slice_get xs) (position q (map f xs)) ≡ find (λ x. q (f x)) xs

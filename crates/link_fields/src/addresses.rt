@@ -9,15 +9,15 @@ ghost use Rattle.merge_model.specs.Addresses.{is_bound, own_addrs, addrs_over, v
 use crate::options::controller_member;
 use document_model::IpEntry;
 use link_members::Members;
-use link_slots::{Slot, is_absent, is_off, is_stated_down};
+use link_order::{Member, is_absent, is_off, is_stated_down};
 use net_model::{Items, Link, Prefix, is_bond_or_bridge};
 use std::alloc::{AllocError, Global};
 
 // Whether the link is a port of a bond or bridge.
-fn is_bound(members: &Members, slot: &Slot) -> bool
-    ensures { result ≡ is_bound members.now slot.now }
+fn is_bound(members: &Members, member: &Member) -> bool
+    ensures { result ≡ is_bound members.now member.now }
 {
-    match controller_member(members, slot) {
+    match controller_member(members, member) {
         Some(controller) => is_bond_or_bridge(&controller.kind()),
         None => false,
     }
@@ -42,25 +42,25 @@ fn current_addrs(alloc: Global, old: Option<&Link>, v6: bool) -> Result<Vec<Pref
     }
 }
 
-fn loses_addrs(members: &Members, slot: &Slot) -> bool
-    ensures { result ≡ (is_bound members.now slot.now || is_stated_down slot.now.wish) }
+fn loses_addrs(members: &Members, member: &Member) -> bool
+    ensures { result ≡ (is_bound members.now member.now || is_stated_down member.now.wish) }
 {
-    is_bound(members, slot) || is_stated_down(slot.wish())
+    is_bound(members, member) || is_stated_down(member.wish())
 }
 
 // The addresses of the family that stay where none is stated.
 fn own_addrs(
     alloc: Global,
     members: &Members,
-    slot: &Slot,
+    member: &Member,
     v6: bool,
 ) -> Result<Vec<Prefix>, AllocError>
-    ensures { IfOk result (λ own. own.items ≡ own_addrs members.now slot.now v6) }
+    ensures { IfOk result (λ own. own.items ≡ own_addrs members.now member.now v6) }
 {
-    if loses_addrs(members, slot) {
+    if loses_addrs(members, member) {
         Ok(Vec::new(alloc))
     } else {
-        current_addrs(alloc, slot.old(), v6)
+        current_addrs(alloc, member.old(), v6)
     }
 }
 
@@ -103,21 +103,21 @@ fn addrs_over(
     }
 }
 
-fn v4_of(alloc: Global, members: &Members, slot: &Slot) -> Result<Vec<Prefix>, AllocError>
-    ensures { IfOk result (λ addrs. addrs.items ≡ v4_of members.now slot.now) }
+fn v4_of(alloc: Global, members: &Members, member: &Member) -> Result<Vec<Prefix>, AllocError>
+    ensures { IfOk result (λ addrs. addrs.items ≡ v4_of members.now member.now) }
 {
-    let own = own_addrs(alloc, members, slot, false)?;
-    match slot.entry() {
+    let own = own_addrs(alloc, members, member, false)?;
+    match member.entry() {
         Some(entry) => addrs_over(alloc, own, &entry.v4),
         None => Ok(own),
     }
 }
 
-fn v6_of(alloc: Global, members: &Members, slot: &Slot) -> Result<Vec<Prefix>, AllocError>
-    ensures { IfOk result (λ addrs. addrs.items ≡ v6_of members.now slot.now) }
+fn v6_of(alloc: Global, members: &Members, member: &Member) -> Result<Vec<Prefix>, AllocError>
+    ensures { IfOk result (λ addrs. addrs.items ≡ v6_of members.now member.now) }
 {
-    let own = own_addrs(alloc, members, slot, true)?;
-    match slot.entry() {
+    let own = own_addrs(alloc, members, member, true)?;
+    match member.entry() {
         Some(entry) => addrs_over(alloc, own, &entry.v6),
         None => Ok(own),
     }
@@ -126,23 +126,28 @@ fn v6_of(alloc: Global, members: &Members, slot: &Slot) -> Result<Vec<Prefix>, A
 fn v6_if_up(
     alloc: Global,
     members: &Members,
-    slot: &Slot,
+    member: &Member,
     up: bool,
 ) -> Result<Vec<Prefix>, AllocError>
-    ensures { IfOk result (λ addrs. addrs.items ≡ (if up then v6_of members.now slot.now else [])) }
+    ensures { IfOk result (λ addrs. addrs.items ≡ (if up then v6_of members.now member.now else [])) }
 {
     if up {
-        v6_of(alloc, members, slot)
+        v6_of(alloc, members, member)
     } else {
         Ok(Vec::new(alloc))
     }
 }
 
-fn both(alloc: Global, members: &Members, slot: &Slot, up: bool) -> Result<Vec<Prefix>, AllocError>
-    ensures { IfOk result (λ addrs. addrs.items ≡ v4_of members.now slot.now ++ (if up then v6_of members.now slot.now else [])) }
+fn both(
+    alloc: Global,
+    members: &Members,
+    member: &Member,
+    up: bool,
+) -> Result<Vec<Prefix>, AllocError>
+    ensures { IfOk result (λ addrs. addrs.items ≡ v4_of members.now member.now ++ (if up then v6_of members.now member.now else [])) }
 {
-    let mut addrs = v4_of(alloc, members, slot)?;
-    let more = v6_if_up(alloc, members, slot, up)?;
+    let mut addrs = v4_of(alloc, members, member)?;
+    let more = v6_if_up(alloc, members, member, up)?;
     addrs.extend_from_slice(&more)?;
     Ok(addrs)
 }
@@ -165,13 +170,13 @@ fn sorted_addresses(mut addrs: Vec<Prefix>) -> Result<Items<Prefix>, AllocError>
 pub(crate) fn addrs_of(
     alloc: Global,
     members: &Members,
-    slot: &Slot,
+    member: &Member,
     up: bool,
 ) -> Result<Items<Prefix>, AllocError>
-    ensures { IfOk result (λ addrs. addrs ≡ addrs_of members.now slot.now up) }
+    ensures { IfOk result (λ addrs. addrs ≡ addrs_of members.now member.now up) }
 {
-    if is_absent(slot.wish()) {
+    if is_absent(member.wish()) {
         return Ok(Items::of(Vec::new(alloc)));
     }
-    sorted_addresses(both(alloc, members, slot, up)?)
+    sorted_addresses(both(alloc, members, member, up)?)
 }

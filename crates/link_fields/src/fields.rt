@@ -6,58 +6,58 @@ ghost use Rattle.merge_model.specs.Merged.{base_member, up_over, down_bases, by_
 use crate::addresses::addrs_of;
 use crate::options::{bond_of, bridge_of, port_of};
 use link_members::Members;
-use link_slots::{Slot, base_of, is_absent, is_stated_up, permanent_of};
+use link_order::{Member, base_of, is_absent, is_stated_up, permanent_of};
 use net_model::{DEFAULT_MTU, Link, Mac};
 use std::alloc::{AllocError, Global};
 
-fn base_member<'a, 'b>(members: &'b Members<'a>, slot: &Slot<'a>) -> Option<&'b Slot<'a>>
-    ensures { option_copied result ≡ base_member members.now slot.now }
+fn base_member<'a, 'b>(members: &'b Members<'a>, member: &Member<'a>) -> Option<&'b Member<'a>>
+    ensures { option_copied result ≡ base_member members.now member.now }
 {
-    match base_of(&slot.kind()) {
+    match base_of(&member.kind()) {
         Some(base) => members.find(&base),
         None => None,
     }
 }
 
 // Up where it is stated up or lifted, or unstated and up before and, if it is a VLAN, over a base that is up.
-fn up_over(slot: &Slot, below: Option<bool>) -> bool
-    ensures { result ≡ up_over slot.now below }
+fn up_over(member: &Member, below: Option<bool>) -> bool
+    ensures { result ≡ up_over member.now below }
 {
-    is_stated_up(slot.wish())
-        || slot.is_lifted()
-        || (slot.is_unstated() && slot.was_up() && below.unwrap_or(true))
+    is_stated_up(member.wish())
+        || member.is_lifted()
+        || (member.is_unstated() && member.was_up() && below.unwrap_or(true))
 }
 
 // Whether the link is up, looking so many bases down.
-fn up_within<'a>(members: &Members<'a>, steps: usize, slot: &Slot<'a>) -> bool
-    ensures { result ≡ down_bases up_over members.now steps slot.now }
+fn up_within<'a>(members: &Members<'a>, steps: usize, member: &Member<'a>) -> bool
+    ensures { result ≡ down_bases up_over members.now steps member.now }
 {
     if steps == 0 {
-        return up_over(slot, None);
+        return up_over(member, None);
     }
-    let below = match base_member(members, slot) {
+    let below = match base_member(members, member) {
         Some(base) => Some(up_within(members, steps - 1, base)),
         None => None,
     };
-    up_over(slot, below)
+    up_over(member, below)
 }
 
-fn stated_mtu(slot: &Slot) -> Option<u32>
-    ensures { result ≡ stated_mtu slot.now }
+fn stated_mtu(member: &Member) -> Option<u32>
+    ensures { result ≡ stated_mtu member.now }
 {
-    if is_absent(slot.wish()) {
+    if is_absent(member.wish()) {
         return Some(DEFAULT_MTU);
     }
-    match slot.entry() {
+    match member.entry() {
         Some(entry) => entry.mtu,
         None => None,
     }
 }
 
-fn current_mtu(slot: &Slot) -> Option<u32>
-    ensures { result ≡ option_map (λ l. l.mtu) slot.now.old }
+fn current_mtu(member: &Member) -> Option<u32>
+    ensures { result ≡ option_map (λ l. l.mtu) member.now.old }
 {
-    match slot.old() {
+    match member.old() {
         Some(link) => Some(link.mtu),
         None => None,
     }
@@ -76,100 +76,100 @@ fn unstated_mtu(now: Option<u32>, below: Option<u32>) -> u32
     }
 }
 
-fn mtu_over(slot: &Slot, below: Option<u32>) -> u32
-    ensures { result ≡ mtu_over slot.now below }
+fn mtu_over(member: &Member, below: Option<u32>) -> u32
+    ensures { result ≡ mtu_over member.now below }
 {
-    match stated_mtu(slot) {
+    match stated_mtu(member) {
         Some(mtu) => mtu,
-        None => unstated_mtu(current_mtu(slot), below),
+        None => unstated_mtu(current_mtu(member), below),
     }
 }
 
 // The MTU, looking so many bases down.
-fn mtu_within<'a>(members: &Members<'a>, steps: usize, slot: &Slot<'a>) -> u32
-    ensures { result ≡ down_bases mtu_over members.now steps slot.now }
+fn mtu_within<'a>(members: &Members<'a>, steps: usize, member: &Member<'a>) -> u32
+    ensures { result ≡ down_bases mtu_over members.now steps member.now }
 {
     if steps == 0 {
-        return mtu_over(slot, None);
+        return mtu_over(member, None);
     }
-    let below = match base_member(members, slot) {
+    let below = match base_member(members, member) {
         Some(base) => Some(mtu_within(members, steps - 1, base)),
         None => None,
     };
-    mtu_over(slot, below)
+    mtu_over(member, below)
 }
 
-fn stated_mac(slot: &Slot) -> Option<Mac>
-    ensures { result ≡ stated_mac slot.now }
+fn stated_mac(member: &Member) -> Option<Mac>
+    ensures { result ≡ stated_mac member.now }
 {
-    if is_absent(slot.wish()) {
-        return permanent_of(&slot.kind());
+    if is_absent(member.wish()) {
+        return permanent_of(&member.kind());
     }
-    match slot.entry() {
+    match member.entry() {
         Some(entry) => entry.mac,
         None => None,
     }
 }
 
-fn current_mac(slot: &Slot) -> Option<Mac>
-    ensures { result ≡ option_map (λ l. l.mac) slot.now.old }
+fn current_mac(member: &Member) -> Option<Mac>
+    ensures { result ≡ option_map (λ l. l.mac) member.now.old }
 {
-    match slot.old() {
+    match member.old() {
         Some(link) => Some(link.mac),
         None => None,
     }
 }
 
 // The stated one, else the current one, else for a new VLAN its base's, else the one made from the name.
-fn mac_over(slot: &Slot, below: Option<Mac>) -> Mac
-    ensures { result ≡ mac_over slot.now below }
+fn mac_over(member: &Member, below: Option<Mac>) -> Mac
+    ensures { result ≡ mac_over member.now below }
 {
-    match stated_mac(slot) {
+    match stated_mac(member) {
         Some(mac) => mac,
-        None => match current_mac(slot) {
+        None => match current_mac(member) {
             Some(mac) => mac,
             None => match below {
                 Some(mac) => mac,
-                None => Mac::of_virtual(&slot.name()),
+                None => Mac::of_virtual(&member.name()),
             },
         },
     }
 }
 
 // The MAC, looking so many bases down.
-fn mac_within<'a>(members: &Members<'a>, steps: usize, slot: &Slot<'a>) -> Mac
-    ensures { result ≡ down_bases mac_over members.now steps slot.now }
+fn mac_within<'a>(members: &Members<'a>, steps: usize, member: &Member<'a>) -> Mac
+    ensures { result ≡ down_bases mac_over members.now steps member.now }
 {
     if steps == 0 {
-        return mac_over(slot, None);
+        return mac_over(member, None);
     }
-    let below = match base_member(members, slot) {
+    let below = match base_member(members, member) {
         Some(base) => Some(mac_within(members, steps - 1, base)),
         None => None,
     };
-    mac_over(slot, below)
+    mac_over(member, below)
 }
 
 fn merged_link<'a>(
     alloc: Global,
     members: &Members<'a>,
-    slot: &Slot<'a>,
+    member: &Member<'a>,
 ) -> Result<Link, AllocError>
-    ensures { IfOk result (λ link. link ≡ merged_link members.now slot.now) }
+    ensures { IfOk result (λ link. link ≡ merged_link members.now member.now) }
 {
-    let steps = members.slots().len();
-    let up = up_within(members, steps, slot);
-    let addrs = addrs_of(alloc, members, slot, up)?;
+    let steps = members.list().len();
+    let up = up_within(members, steps, member);
+    let addrs = addrs_of(alloc, members, member, up)?;
     Ok(Link {
-        name: slot.name(),
-        kind: slot.kind(),
+        name: member.name(),
+        kind: member.kind(),
         up,
-        mtu: mtu_within(members, steps, slot),
-        mac: mac_within(members, steps, slot),
-        controller: slot.controller(),
-        bond: bond_of(alloc, members, slot),
-        bridge: bridge_of(slot),
-        port: port_of(members, slot),
+        mtu: mtu_within(members, steps, member),
+        mac: mac_within(members, steps, member),
+        controller: member.controller(),
+        bond: bond_of(alloc, members, member),
+        bridge: bridge_of(member),
+        port: port_of(members, member),
         addrs,
     })
 }
@@ -179,8 +179,8 @@ pub fn merged_links(alloc: Global, members: &Members) -> Result<Vec<Link>, Alloc
     ensures { IfOk result (λ links. links.items ≡ merged_links members.now) }
 {
     let mut links = Vec::new(alloc);
-    for slot in members.slots() {
-        links.push(merged_link(alloc, members, slot)?)?;
+    for member in members.list() {
+        links.push(merged_link(alloc, members, member)?)?;
     }
     Ok(links)
 }

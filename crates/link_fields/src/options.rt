@@ -10,7 +10,7 @@ ghost use Rattle.link_members.specs.Listers.{port_place};
 
 use document_model::{BondEntry, BridgeEntry, LinkEntry, PortEntry};
 use link_members::Members;
-use link_slots::{Slot, same_mode};
+use link_order::{Member, same_mode};
 use net_model::{BondOpts, BridgeOpts, Items, Kind, Link, Name, PortOpts, is_bridge, is_port_of};
 use option_rules::{merge_bond, merge_bridge, merge_port};
 use std::alloc::Global;
@@ -101,14 +101,19 @@ fn bond_by(
 }
 
 /// The options of a bond, the defaults for another kind. It allocates nothing.
-pub(crate) fn bond_of(alloc: Global, members: &Members, slot: &Slot) -> BondOpts
-    ensures { result ≡ bond_of members.now slot.now slot.now.kind }
+pub(crate) fn bond_of(alloc: Global, members: &Members, member: &Member) -> BondOpts
+    ensures { result ≡ bond_of members.now member.now member.now.kind }
 {
-    let kind = slot.kind();
+    let kind = member.kind();
     match kind {
         Kind::Bond { .. } => {
-            let ports = members.ports_of(&slot.name());
-            bond_by(alloc, current_bond(slot.old(), &kind), slot.entry(), ports)
+            let ports = members.ports_of(&member.name());
+            bond_by(
+                alloc,
+                current_bond(member.old(), &kind),
+                member.entry(),
+                ports,
+            )
         }
         _ => BondOpts::defaults(),
     }
@@ -124,11 +129,11 @@ fn bridge_by(current: Option<&BridgeOpts>, entry: Option<&LinkEntry>) -> BridgeO
 }
 
 /// The options of a bridge, the defaults for another kind.
-pub(crate) fn bridge_of(slot: &Slot) -> BridgeOpts
-    ensures { result ≡ bridge_of slot.now slot.now.kind }
+pub(crate) fn bridge_of(member: &Member) -> BridgeOpts
+    ensures { result ≡ bridge_of member.now member.now.kind }
 {
-    match slot.kind() {
-        Kind::Bridge => bridge_by(current_bridge(slot.old()), slot.entry()),
+    match member.kind() {
+        Kind::Bridge => bridge_by(current_bridge(member.old()), member.entry()),
         _ => BridgeOpts::defaults(),
     }
 }
@@ -136,33 +141,33 @@ pub(crate) fn bridge_of(slot: &Slot) -> BridgeOpts
 /// The link that is the controller.
 pub(crate) fn controller_member<'a, 'b>(
     members: &'b Members<'a>,
-    slot: &Slot<'a>,
-) -> Option<&'b Slot<'a>>
-    ensures { option_copied result ≡ controller_member members.now slot.now }
+    member: &Member<'a>,
+) -> Option<&'b Member<'a>>
+    ensures { option_copied result ≡ controller_member members.now member.now }
 {
-    match slot.controller() {
+    match member.controller() {
         Some(name) => members.find(&name),
         None => None,
     }
 }
 
-fn was_bridge(slot: &Slot) -> bool
-    ensures { result ≡ option_map_or (λ b. is_bridge b.kind) slot.now.old false }
+fn was_bridge(member: &Member) -> bool
+    ensures { result ≡ option_map_or (λ b. is_bridge b.kind) member.now.old false }
 {
-    match slot.old() {
+    match member.old() {
         Some(link) => is_bridge(&link.kind),
         None => false,
     }
 }
 
-fn was_port_of_bridge(controller: &Slot, link: &Link) -> bool
+fn was_port_of_bridge(controller: &Member, link: &Link) -> bool
     ensures { result ≡ (is_port_of controller.now.name link.now && option_map_or (λ b. is_bridge b.kind) controller.now.old false) }
 {
     is_port_of(link, &controller.name()) && was_bridge(controller)
 }
 
 // The current options count for a port of the same bridge.
-fn current_port<'a>(controller: &Slot, old: Option<&'a Link>) -> Option<&'a PortOpts>
+fn current_port<'a>(controller: &Member, old: Option<&'a Link>) -> Option<&'a PortOpts>
     ensures { option_copied result ≡ option_and_then (if_same_bridge controller.now) (option_copied old.entry) }
 {
     match old {
@@ -209,13 +214,13 @@ fn port_entry<'a>(entry: Option<&'a LinkEntry>, place: Option<usize>) -> Option<
 }
 
 // The options under the controller in whose stated list the port has this place.
-fn port_under(slot: &Slot, controller: &Slot, place: Option<usize>) -> PortOpts
-    requires { place ≡ port_place slot.now.name controller.now }
-    ensures { result ≡ port_under slot.now controller.now }
+fn port_under(member: &Member, controller: &Member, place: Option<usize>) -> PortOpts
+    requires { place ≡ port_place member.now.name controller.now }
+    ensures { result ≡ port_under member.now controller.now }
 {
     if is_bridge(&controller.kind()) {
         merge_port(
-            current_port(controller, slot.old()),
+            current_port(controller, member.old()),
             port_entry(controller.entry(), place),
         )
     } else {
@@ -223,22 +228,22 @@ fn port_under(slot: &Slot, controller: &Slot, place: Option<usize>) -> PortOpts
     }
 }
 
-fn port_under_named(members: &Members, slot: &Slot, controller: &Name) -> PortOpts
-    ensures { result ≡ option_map_or (port_under slot.now) (find_member controller.now members.now) default_port }
+fn port_under_named(members: &Members, member: &Member, controller: &Name) -> PortOpts
+    ensures { result ≡ option_map_or (port_under member.now) (find_member controller.now members.now) default_port }
 {
-    let place = members.port_place(controller, &slot.name());
+    let place = members.port_place(controller, &member.name());
     match members.find(controller) {
-        Some(controller) => port_under(slot, controller, place),
+        Some(controller) => port_under(member, controller, place),
         None => PortOpts::defaults(),
     }
 }
 
 /// The options of a bridge's port, the defaults under another controller.
-pub(crate) fn port_of(members: &Members, slot: &Slot) -> PortOpts
-    ensures { result ≡ port_of members.now slot.now }
+pub(crate) fn port_of(members: &Members, member: &Member) -> PortOpts
+    ensures { result ≡ port_of members.now member.now }
 {
-    match slot.controller() {
-        Some(controller) => port_under_named(members, slot, &controller),
+    match member.controller() {
+        Some(controller) => port_under_named(members, member, &controller),
         None => PortOpts::defaults(),
     }
 }

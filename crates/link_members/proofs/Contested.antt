@@ -15,7 +15,7 @@ use Rattle.merge_model.specs.Controllers.{stated_ports, lists}
 use Rattle.merge_model.specs.BrokenPorts.{same_claim}
 use Rattle.link_members.specs.Listers.{is_rival, rivals}
 use Rattle.link_members.proofs.Firsts.{listed}
-use Rattle.link_slots.proofs.lemmas.More.{take_one, any_more}
+use Rattle.link_order.proofs.lemmas.More.{take_one, any_more}
 
 -- before any name
 pub no_contest : (o : Bool) → o ≡ (o || false)

@@ -9,9 +9,9 @@ use Rattle.net_model.specs.Name.{same_bytes}
 use Rattle.net_model.specs.Words.{is_among}
 use Rattle.merge_model.specs.Members.{Member}
 use Rattle.merge_model.specs.Controllers.{stated_ports, lists}
-use Rattle.link_slots.proofs.lemmas.More.{take_one, any_more}
-use Rattle.link_slots.proofs.lemmas.Placed.{find_first, past}
-use Rattle.link_slots.proofs.lemmas.Positions.{position_more}
+use Rattle.link_order.proofs.lemmas.More.{take_one, any_more}
+use Rattle.link_order.proofs.lemmas.Placed.{find_first, past}
+use Rattle.link_order.proofs.lemmas.Positions.{position_more}
 
 -- before any name is noted
 pub none_noted : (o : Option ℕ) → o ≡ option_or o None

@@ -18,7 +18,7 @@ use Rattle.merge_model.specs.Controllers.{ports_by, stated_ports, lists}
 use Rattle.merge_model.specs.LinkOptions.{port_entry}
 use Rattle.link_members.specs.Listers.{port_names, port_place}
 use Rattle.link_members.proofs.Firsts.{listed}
-use Rattle.link_slots.proofs.lemmas.Placed.{placed, unplaced, same_place}
+use Rattle.link_order.proofs.lemmas.Placed.{placed, unplaced, same_place}
 
 none_within : nat_lt 0 0 ≡ false
 none_within = grind (arith, nat_tests)

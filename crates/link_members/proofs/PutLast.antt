@@ -6,7 +6,7 @@ use Rattle.std.proofs.lemmas.List.{append-nil}
 use Rattle.net_model.specs.Name.{same_bytes}
 use Rattle.net_model.specs.Order.{name_cmp}
 use Rattle.net_model.proofs.lemmas.Found.{one_name}
-use Rattle.link_slots.proofs.lemmas.Positions.{same_as}
+use Rattle.link_order.proofs.lemmas.Positions.{same_as}
 
 -- names under a key that are taken out and put back with one more
 pub put_last : (old taken new : List ℕ → Option (List (List ℕ))) (key name : List ℕ) (names : List (List ℕ)) → names ≡ unwrap_or (old key) [] ++ name ∷ [] → ((q : List ℕ) → taken q ≡ cond (is_eq (name_cmp key q)) None (old q)) → ((q : List ℕ) → new q ≡ cond (is_eq (name_cmp key q)) (Some names) (taken q)) → (q : List ℕ) → unwrap_or (new q) [] ≡ unwrap_or (old q) [] ++ (if same_bytes key q then name ∷ [] else [])

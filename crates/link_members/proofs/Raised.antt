@@ -25,8 +25,8 @@ use Rattle.merge_model.specs.Lifted.{is_unstated, lifts, starts, is_lifted}
 use Rattle.link_members.specs.Lifts.{held_names, if_unstated, unstated_place, unstated_places}
 use Rattle.link_members.proofs.Firsts.{listed}
 use Rattle.link_members.proofs.Listed.{has_place}
-use Rattle.link_slots.proofs.lemmas.Marked.{marks_reached}
-use Rattle.link_slots.proofs.lemmas.More.{take_one}
+use Rattle.link_order.proofs.lemmas.Marked.{marks_reached}
+use Rattle.link_order.proofs.lemmas.More.{take_one}
 
 -- one name more
 pub one_place_more : (h : List ℕ → Option ℕ) (names : List (List ℕ)) (i : ℕ) (name : List ℕ) → i < length names → name ≡ get_or names i name → filter_map h (take (i + 1) names) ≡ filter_map h (take i names) ++ option_to_list (h name)

@@ -6,7 +6,7 @@ ghost use Rattle.net_model.specs.Name.{same_bytes};
 ghost use Rattle.net_model.specs.Order.{name_cmp};
 ghost use Rattle.link_members.specs.Controlled.{HasPorts};
 
-use link_slots::Slot;
+use link_order::Member;
 use net_model::{Items, Name};
 use std::alloc::{AllocError, Global};
 use std::collections::BTreeMap;
@@ -38,17 +38,17 @@ fn put_port(
 }
 
 // Puts the link last among the ports of its controller, where it has one.
-fn put_slot(
+fn put_member(
     alloc: Global,
     ports: &mut BTreeMap<Name, Items<Name>>,
-    slot: &Slot,
+    member: &Member,
 ) -> Result<(), AllocError>
     ensures { OnOk result ((q : List ℕ) → unwrap_or (get name_cmp ports.new q) [] ≡
         unwrap_or (get name_cmp ports.old q) []
-        ++ (if option_map_or (λ c. same_bytes c q) slot.now.controller false then slot.now.name ∷ [] else [])) }
+        ++ (if option_map_or (λ c. same_bytes c q) member.now.controller false then member.now.name ∷ [] else [])) }
 {
-    match slot.controller() {
-        Some(controller) => put_port(alloc, ports, controller, slot.name()),
+    match member.controller() {
+        Some(controller) => put_port(alloc, ports, controller, member.name()),
         None => Ok(()),
     }
 }
@@ -56,13 +56,13 @@ fn put_slot(
 /// The names of the merged ports of each controller, in one pass over the links.
 pub(crate) fn ports_by_controller(
     alloc: Global,
-    slots: &[Slot],
+    members: &[Member],
 ) -> Result<BTreeMap<Name, Items<Name>>, AllocError>
-    ensures { IfOk result (λ ports. HasPorts slots.now ports) }
+    ensures { IfOk result (λ ports. HasPorts members.now ports) }
 {
     let mut ports = BTreeMap::new(alloc);
-    for slot in slots {
-        put_slot(alloc, &mut ports, slot)?;
+    for member in members {
+        put_member(alloc, &mut ports, member)?;
     }
     Ok(ports)
 }

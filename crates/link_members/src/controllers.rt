@@ -8,7 +8,7 @@ ghost use Rattle.merge_model.specs.Controllers.{ports_by, stated_ports, lists, o
 
 use crate::members::Members;
 use document_model::{Claim, LinkEntry};
-use link_slots::{Slot, is_absent, same_type};
+use link_order::{Member, is_absent, same_type};
 use net_model::{Kind, Link, Name};
 use std::alloc::{AllocError, Global};
 
@@ -24,21 +24,21 @@ fn entry_lacks_list(kind: &Kind, entry: &LinkEntry) -> bool
 }
 
 /// Whether no list of ports is stated.
-pub fn lacks_list(slot: &Slot) -> bool
-    ensures { result ≡ is_none (stated_ports slot.now) }
+pub fn lacks_list(member: &Member) -> bool
+    ensures { result ≡ is_none (stated_ports member.now) }
 {
-    let kind = slot.kind();
-    match slot.entry() {
+    let kind = member.kind();
+    match member.entry() {
         Some(entry) => entry_lacks_list(&kind, entry),
         None => true,
     }
 }
 
 /// The controller that the link's own entry states.
-pub fn own_claim(slot: &Slot) -> Option<Claim>
-    ensures { result ≡ own_claim slot.now }
+pub fn own_claim(member: &Member) -> Option<Claim>
+    ensures { result ≡ own_claim member.now }
 {
-    match slot.entry() {
+    match member.entry() {
         Some(entry) => entry.controller,
         None => None,
     }
@@ -53,28 +53,28 @@ fn claimed(claim: Claim) -> Option<Name>
     }
 }
 
-fn had_type(slot: &Slot) -> bool
-    ensures { result ≡ option_map_or (λ l. same_type l.kind slot.now.kind) slot.now.old false }
+fn had_type(member: &Member) -> bool
+    ensures { result ≡ option_map_or (λ l. same_type l.kind member.now.kind) member.now.old false }
 {
-    let kind = slot.kind();
-    match slot.old() {
+    let kind = member.kind();
+    match member.old() {
         Some(link) => same_type(&link.kind, &kind),
         None => false,
     }
 }
 
 // Whether a controller is of the type that it was, and no list is stated for it.
-fn keeps_ports(slot: &Slot) -> bool
-    ensures { result ≡ keeps_ports slot.now }
+fn keeps_ports(member: &Member) -> bool
+    ensures { result ≡ keeps_ports member.now }
 {
-    had_type(slot) && lacks_list(slot)
+    had_type(member) && lacks_list(member)
 }
 
 fn named_keeps_ports(members: &Members, name: &Name) -> bool
     ensures { result ≡ option_map_or keeps_ports (find_member name.now members.now) false }
 {
     match members.find(name) {
-        Some(slot) => keeps_ports(slot),
+        Some(member) => keeps_ports(member),
         None => false,
     }
 }
@@ -99,70 +99,70 @@ fn current_controller(old: Option<&Link>) -> Option<Name>
 }
 
 // The current controller, where that keeps its ports.
-fn kept_controller(members: &Members, slot: &Slot) -> Option<Name>
-    ensures { result ≡ kept_controller members.now slot.now }
+fn kept_controller(members: &Members, member: &Member) -> Option<Name>
+    ensures { result ≡ kept_controller members.now member.now }
 {
-    match current_controller(slot.old()) {
+    match current_controller(member.old()) {
         Some(name) => kept_by(members, name),
         None => None,
     }
 }
 
-fn name_of(found: Option<&Slot>) -> Option<Name>
+fn name_of(found: Option<&Member>) -> Option<Name>
     ensures { result ≡ option_map (λ c. c.name) (option_copied found.entry) }
 {
     match found {
-        Some(slot) => Some(slot.name()),
+        Some(member) => Some(member.name()),
         None => None,
     }
 }
 
 // The first link whose list names the link, else the current controller.
-fn listed_controller(members: &Members, slot: &Slot) -> Option<Name>
-    ensures { result ≡ option_map_or (λ c. Some c.name) (find (λ c. lists c slot.now.name) members.now) (kept_controller members.now slot.now) }
+fn listed_controller(members: &Members, member: &Member) -> Option<Name>
+    ensures { result ≡ option_map_or (λ c. Some c.name) (find (λ c. lists c member.now.name) members.now) (kept_controller members.now member.now) }
 {
-    match name_of(members.first_lister(&slot.name())) {
+    match name_of(members.first_lister(&member.name())) {
         Some(name) => Some(name),
-        None => kept_controller(members, slot),
+        None => kept_controller(members, member),
     }
 }
 
 #[tactic(auto, using(crate::proofs::Claims::decided_by_list, crate::proofs::Claims::decided_by_own))]
-fn live_controller(members: &Members, slot: &Slot) -> Option<Name>
-    ensures { result ≡ decided (claims members.now slot.now) (kept_controller members.now slot.now) }
+fn live_controller(members: &Members, member: &Member) -> Option<Name>
+    ensures { result ≡ decided (claims members.now member.now) (kept_controller members.now member.now) }
 {
-    match own_claim(slot) {
+    match own_claim(member) {
         Some(claim) => claimed(claim),
-        None => listed_controller(members, slot),
+        None => listed_controller(members, member),
     }
 }
 
 // The claim decides, else the current controller stays where it keeps its ports.
-fn merged_controller(members: &Members, slot: &Slot) -> Option<Name>
-    ensures { result ≡ merged_controller members.now slot.now }
+fn merged_controller(members: &Members, member: &Member) -> Option<Name>
+    ensures { result ≡ merged_controller members.now member.now }
 {
-    if is_absent(slot.wish()) {
+    if is_absent(member.wish()) {
         return None;
     }
-    live_controller(members, slot)
+    live_controller(members, member)
 }
 
-fn with_controller<'a>(members: &Members<'a>, slot: &Slot<'a>) -> Slot<'a>
-    ensures { result ≡ with_controller members.now slot.now }
+fn with_controller<'a>(members: &Members<'a>, member: &Member<'a>) -> Member<'a>
+    ensures { result ≡ with_controller members.now member.now }
 {
-    slot.under(merged_controller(members, slot))
+    member.under(merged_controller(members, member))
 }
 
 /// The links with their controllers.
 pub fn with_controllers<'a>(
     alloc: Global,
     members: &Members<'a>,
-) -> Result<Vec<Slot<'a>>, AllocError>
-    ensures { IfOk result (λ slots. slots.items ≡ with_controllers members.now) }
+) -> Result<Vec<Member<'a>>, AllocError>
+    ensures { IfOk result (λ list. list.items ≡ with_controllers members.now) }
 {
-    let mut slots = Vec::new(alloc);
-    for slot in members.slots() {
-        slots.push(with_controller(members, slot))?;
+    let mut list = Vec::new(alloc);
+    for member in members.list() {
+        list.push(with_controller(members, member))?;
     }
-    Ok(slots)
+    Ok(list)
 }

@@ -10,30 +10,30 @@ ghost use Rattle.link_members.specs.Lifts.{held_names, if_unstated, unstated_pla
 
 use crate::members::names;
 use crate::port_lists::stated_ports;
-use link_slots::{Index, Slot, base_of, closure, is_stated_up};
+use link_order::{Index, Member, base_of, closure, is_stated_up};
 use net_model::{Items, Name};
 use std::alloc::{AllocError, Global};
 
-fn lacks_base(slot: &Slot) -> bool
-    ensures { result ≡ is_none (base_of slot.now.kind) }
+fn lacks_base(member: &Member) -> bool
+    ensures { result ≡ is_none (base_of member.now.kind) }
 {
-    base_of(&slot.kind()).is_none()
+    base_of(&member.kind()).is_none()
 }
 
 // Whether the link is up without being lifted, and may lift others.
-fn starts(slot: &Slot) -> bool
-    ensures { result ≡ starts slot.now }
+fn starts(member: &Member) -> bool
+    ensures { result ≡ starts member.now }
 {
-    is_stated_up(slot.wish()) || (slot.is_unstated() && slot.was_up() && lacks_base(slot))
+    is_stated_up(member.wish()) || (member.is_unstated() && member.was_up() && lacks_base(member))
 }
 
 // A VLAN's base, another link's ports by its stated list.
-fn held_names(alloc: Global, slot: &Slot) -> Result<Vec<Name>, AllocError>
-    ensures { IfOk result (λ names. names.items ≡ held_names slot.now) }
+fn held_names(alloc: Global, member: &Member) -> Result<Vec<Name>, AllocError>
+    ensures { IfOk result (λ names. names.items ≡ held_names member.now) }
 {
-    match base_of(&slot.kind()) {
+    match base_of(&member.kind()) {
         Some(base) => one_name(alloc, base),
-        None => stated_ports(alloc, slot),
+        None => stated_ports(alloc, member),
     }
 }
 
@@ -45,19 +45,19 @@ fn one_name(alloc: Global, name: Name) -> Result<Vec<Name>, AllocError>
     Ok(names)
 }
 
-fn is_unstated_at(slots: &[Slot], at: usize) -> bool
-    ensures { result ≡ option_map_or is_unstated (slice_get slots.now at) false }
+fn is_unstated_at(members: &[Member], at: usize) -> bool
+    ensures { result ≡ option_map_or is_unstated (slice_get members.now at) false }
 {
-    match slots.get(at) {
-        Some(slot) => slot.is_unstated(),
+    match members.get(at) {
+        Some(member) => member.is_unstated(),
         None => false,
     }
 }
 
-fn if_unstated(slots: &[Slot], at: usize) -> Option<usize>
-    ensures { result ≡ if_unstated slots.now at }
+fn if_unstated(members: &[Member], at: usize) -> Option<usize>
+    ensures { result ≡ if_unstated members.now at }
 {
-    if is_unstated_at(slots, at) {
+    if is_unstated_at(members, at) {
         Some(at)
     } else {
         None
@@ -65,12 +65,12 @@ fn if_unstated(slots: &[Slot], at: usize) -> Option<usize>
 }
 
 // The place of the link of this name, where nothing is stated of its state.
-fn unstated_place(slots: &[Slot], index: &Index, name: &Name) -> Option<usize>
-    requires { index.now ≡ map (λ (m : Member). m.name) slots.now }
-    ensures { result ≡ unstated_place slots.now name.now }
+fn unstated_place(members: &[Member], index: &Index, name: &Name) -> Option<usize>
+    requires { index.now ≡ map (λ (m : Member). m.name) members.now }
+    ensures { result ≡ unstated_place members.now name.now }
 {
     match index.place(name) {
-        Some(at) => if_unstated(slots, at),
+        Some(at) => if_unstated(members, at),
         None => None,
     }
 }
@@ -89,16 +89,16 @@ fn add(places: &mut Vec<usize>, place: Option<usize>) -> Result<(), AllocError>
 
 fn unstated_places(
     alloc: Global,
-    slots: &[Slot],
+    members: &[Member],
     index: &Index,
     names: &[Name],
 ) -> Result<Vec<usize>, AllocError>
-    requires { index.now ≡ map (λ (m : Member). m.name) slots.now }
-    ensures { IfOk result (λ places. places.items ≡ unstated_places slots.now names.now) }
+    requires { index.now ≡ map (λ (m : Member). m.name) members.now }
+    ensures { IfOk result (λ places. places.items ≡ unstated_places members.now names.now) }
 {
     let mut places = Vec::new(alloc);
     for name in names {
-        let place = unstated_place(slots, index, name);
+        let place = unstated_place(members, index, name);
         add(&mut places, place)?;
     }
     Ok(places)
@@ -108,56 +108,56 @@ fn unstated_places(
 // is stated of the state of these.
 fn raises(
     alloc: Global,
-    slots: &[Slot],
+    members: &[Member],
     index: &Index,
-    slot: &Slot,
+    member: &Member,
 ) -> Result<Vec<usize>, AllocError>
-    requires { index.now ≡ map (λ (m : Member). m.name) slots.now }
-    ensures { IfOk result (λ places. places.items ≡ unstated_places slots.now (held_names slot.now)) }
+    requires { index.now ≡ map (λ (m : Member). m.name) members.now }
+    ensures { IfOk result (λ places. places.items ≡ unstated_places members.now (held_names member.now)) }
 {
-    let names = held_names(alloc, slot)?;
-    unstated_places(alloc, slots, index, &names)
+    let names = held_names(alloc, member)?;
+    unstated_places(alloc, members, index, &names)
 }
 
 // For each link, the places of those that it raises.
-fn arrows(alloc: Global, slots: &[Slot]) -> Result<Vec<Items<usize>>, AllocError>
-    ensures { IfOk result (λ arrows. arrows.items ≡ map (λ m. unstated_places slots.now (held_names m)) slots.now) }
+fn arrows(alloc: Global, members: &[Member]) -> Result<Vec<Items<usize>>, AllocError>
+    ensures { IfOk result (λ arrows. arrows.items ≡ map (λ m. unstated_places members.now (held_names m)) members.now) }
 {
-    let index = Index::of(alloc, names(alloc, slots)?)?;
+    let index = Index::of(alloc, names(alloc, members)?)?;
     let mut arrows = Vec::new(alloc);
-    for slot in slots {
-        let places = raises(alloc, slots, &index, slot)?;
+    for member in members {
+        let places = raises(alloc, members, &index, member)?;
         arrows.push(Items::of(places))?;
     }
     Ok(arrows)
 }
 
-fn starting(alloc: Global, slots: &[Slot]) -> Result<Vec<bool>, AllocError>
-    ensures { IfOk result (λ marks. marks.items ≡ map starts slots.now) }
+fn starting(alloc: Global, members: &[Member]) -> Result<Vec<bool>, AllocError>
+    ensures { IfOk result (λ marks. marks.items ≡ map starts members.now) }
 {
-    slots.iter().map(|slot| starts(slot)).collect(alloc)
+    members.iter().map(|member| starts(member)).collect(alloc)
 }
 
 // Whether each link is lifted.
-fn lifted(alloc: Global, slots: &[Slot]) -> Result<Vec<bool>, AllocError>
-    requires { apart same_bytes (map (λ (m : Member). m.name) slots.now) ≡ true }
-    ensures { IfOk result (λ marks. marks.items ≡ map (is_lifted slots.now) slots.now) }
+fn lifted(alloc: Global, members: &[Member]) -> Result<Vec<bool>, AllocError>
+    requires { apart same_bytes (map (λ (m : Member). m.name) members.now) ≡ true }
+    ensures { IfOk result (λ marks. marks.items ≡ map (is_lifted members.now) members.now) }
 {
-    let arrows = arrows(alloc, slots)?;
-    let starts = starting(alloc, slots)?;
+    let arrows = arrows(alloc, members)?;
+    let starts = starting(alloc, members)?;
     let marks = closure(alloc, &arrows, &starts)?;
     Ok(marks)
 }
 
 /// The links with whether they are lifted.
-pub fn with_lifted<'a>(alloc: Global, slots: &[Slot<'a>]) -> Result<Vec<Slot<'a>>, AllocError>
-    requires { apart same_bytes (map (λ (m : Member). m.name) slots.now) ≡ true }
-    ensures { IfOk result (λ raised. raised.items ≡ with_lifted slots.now) }
+pub fn with_lifted<'a>(alloc: Global, members: &[Member<'a>]) -> Result<Vec<Member<'a>>, AllocError>
+    requires { apart same_bytes (map (λ (m : Member). m.name) members.now) ≡ true }
+    ensures { IfOk result (λ raised. raised.items ≡ with_lifted members.now) }
 {
-    let marks = lifted(alloc, slots)?;
+    let marks = lifted(alloc, members)?;
     let mut raised = Vec::new(alloc);
-    for at in 0..slots.len() {
-        raised.push(slots[at].raised(marks[at]))?;
+    for at in 0..members.len() {
+        raised.push(members[at].raised(marks[at]))?;
     }
     Ok(raised)
 }

@@ -10,7 +10,7 @@ ghost use Rattle.merge_model.specs.Controllers.{lists};
 ghost use Rattle.link_members.specs.Listers.{is_rival, HasFirsts, HasContested};
 
 use crate::port_lists::stated_ports;
-use link_slots::{Slot, first_place, note};
+use link_order::{Member, first_place, note};
 use net_model::Name;
 use std::alloc::{AllocError, Global};
 use std::collections::{BTreeMap, BTreeSet};
@@ -28,13 +28,13 @@ fn note_all(firsts: &mut BTreeMap<Name, usize>, names: &[Name], at: usize) -> Re
 /// For each name in a stated list of ports, the place of the first link whose list it is in.
 pub(crate) fn first_listers(
     alloc: Global,
-    slots: &[Slot],
+    members: &[Member],
 ) -> Result<BTreeMap<Name, usize>, AllocError>
-    ensures { IfOk result (λ firsts. HasFirsts slots.now firsts) }
+    ensures { IfOk result (λ firsts. HasFirsts members.now firsts) }
 {
     let mut firsts = BTreeMap::new(alloc);
-    for at in 0..slots.len() {
-        let ports = stated_ports(alloc, &slots[at])?;
+    for at in 0..members.len() {
+        let ports = stated_ports(alloc, &members[at])?;
         note_all(&mut firsts, &ports, at)?;
     }
     Ok(firsts)
@@ -42,26 +42,26 @@ pub(crate) fn first_listers(
 
 /// The first link whose stated list names the link.
 pub(crate) fn first_lister<'a, 'b>(
-    slots: &'b [Slot<'a>],
+    members: &'b [Member<'a>],
     firsts: &BTreeMap<Name, usize>,
     name: &Name,
-) -> Option<&'b Slot<'a>>
-    requires { HasFirsts slots.now firsts.now }
-    ensures { option_copied result ≡ find (λ m. lists m name.now) slots.now }
+) -> Option<&'b Member<'a>>
+    requires { HasFirsts members.now firsts.now }
+    ensures { option_copied result ≡ find (λ m. lists m name.now) members.now }
 {
     match first_place(firsts, name) {
-        Some(at) => Some(&slots[at]),
+        Some(at) => Some(&members[at]),
         None => None,
     }
 }
 
 // Whether the first link whose list names the link has another name than this one.
-fn is_rival(slots: &[Slot], firsts: &BTreeMap<Name, usize>, name: &Name, lister: &Name) -> bool
-    requires { HasFirsts slots.now firsts.now }
-    ensures { result ≡ is_rival slots.now name.now lister.now }
+fn is_rival(members: &[Member], firsts: &BTreeMap<Name, usize>, name: &Name, lister: &Name) -> bool
+    requires { HasFirsts members.now firsts.now }
+    ensures { result ≡ is_rival members.now name.now lister.now }
 {
-    match first_lister(slots, firsts, name) {
-        Some(slot) => slot.name() != *lister,
+    match first_lister(members, firsts, name) {
+        Some(member) => member.name() != *lister,
         None => false,
     }
 }
@@ -79,17 +79,17 @@ fn contest(contested: &mut BTreeSet<Name>, name: Name, rival: bool) -> Result<()
 // Puts those of the names into the set of which the lister is a rival.
 fn contest_all(
     contested: &mut BTreeSet<Name>,
-    slots: &[Slot],
+    members: &[Member],
     firsts: &BTreeMap<Name, usize>,
     names: &[Name],
     lister: &Name,
 ) -> Result<(), AllocError>
-    requires { HasFirsts slots.now firsts.now }
+    requires { HasFirsts members.now firsts.now }
     ensures { OnOk result ((q : List ℕ) → contains name_cmp contested.new q
-        ≡ (contains name_cmp contested.old q || (is_among names.now q && is_rival slots.now q lister.now))) }
+        ≡ (contains name_cmp contested.old q || (is_among names.now q && is_rival members.now q lister.now))) }
 {
     for name in names {
-        let rival = is_rival(slots, firsts, name, lister);
+        let rival = is_rival(members, firsts, name, lister);
         contest(contested, *name, rival)?;
     }
     Ok(())
@@ -98,17 +98,17 @@ fn contest_all(
 /// The names that the lists of two links of different names have.
 pub(crate) fn contested_names(
     alloc: Global,
-    slots: &[Slot],
+    members: &[Member],
     firsts: &BTreeMap<Name, usize>,
 ) -> Result<BTreeSet<Name>, AllocError>
-    requires { HasFirsts slots.now firsts.now }
-    ensures { IfOk result (λ contested. HasContested slots.now contested) }
+    requires { HasFirsts members.now firsts.now }
+    ensures { IfOk result (λ contested. HasContested members.now contested) }
 {
     let mut contested = BTreeSet::new(alloc);
-    for at in 0..slots.len() {
-        let slot = &slots[at];
-        let ports = stated_ports(alloc, slot)?;
-        contest_all(&mut contested, slots, firsts, &ports, &slot.name())?;
+    for at in 0..members.len() {
+        let member = &members[at];
+        let ports = stated_ports(alloc, member)?;
+        contest_all(&mut contested, members, firsts, &ports, &member.name())?;
     }
     Ok(contested)
 }

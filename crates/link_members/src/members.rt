@@ -10,7 +10,7 @@ ghost use Rattle.link_members.specs.Listers.{rivals, port_place};
 use crate::controlled::ports_by_controller;
 use crate::listers::{contested_names, first_lister, first_listers};
 use crate::port_lists::port_indexes;
-use link_slots::{Index, Slot};
+use link_order::{Index, Member};
 use net_model::{Items, Name};
 use std::alloc::{AllocError, Global};
 use std::collections::{BTreeMap, BTreeSet};
@@ -20,7 +20,7 @@ use std::marker::Model;
 /// names in all of these lists, and the merged ports of each controller.
 #[derive(Drop)]
 pub struct Members<'a> {
-    slots: Vec<Slot<'a>>,
+    list: Vec<Member<'a>>,
     index: Index,
     ports: Vec<Index>,
     firsts: BTreeMap<Name, usize>,
@@ -36,33 +36,33 @@ impl<'a> Model for Members<'a> {
 
     ghost Value = { List Member };
 
-    ghost view = { λ ms. ms.slots.items };
+    ghost view = { λ ms. ms.list.items };
 
-    ghost invariant = { λ ms. (ms.index ≡ map (λ (m : Member). m.name) ms.slots.items)
-        × HasFirsts ms.slots.items ms.firsts × HasContested ms.slots.items ms.contested
-        × (ms.ports.items ≡ map port_names ms.slots.items) × HasPorts ms.slots.items ms.controlled };
+    ghost invariant = { λ ms. (ms.index ≡ map (λ (m : Member). m.name) ms.list.items)
+        × HasFirsts ms.list.items ms.firsts × HasContested ms.list.items ms.contested
+        × (ms.ports.items ≡ map port_names ms.list.items) × HasPorts ms.list.items ms.controlled };
 }
 
 /// The names of the links.
-pub(crate) fn names(alloc: Global, slots: &[Slot]) -> Result<Vec<Name>, AllocError>
-    ensures { IfOk result (λ names. names.items ≡ map (λ (m : Member). m.name) slots.now) }
+pub(crate) fn names(alloc: Global, members: &[Member]) -> Result<Vec<Name>, AllocError>
+    ensures { IfOk result (λ names. names.items ≡ map (λ (m : Member). m.name) members.now) }
 {
-    slots.iter().map(|slot| slot.name()).collect(alloc)
+    members.iter().map(|member| member.name()).collect(alloc)
 }
 
 impl<'a> Members<'a> {
     /// The links with their indexes. The error is that memory is out.
-    pub fn of(alloc: Global, slots: Vec<Slot<'a>>) -> Result<Members<'a>, AllocError>
-        ensures { IfOk result (λ ms. ms ≡ slots.entry.items) }
+    pub fn of(alloc: Global, list: Vec<Member<'a>>) -> Result<Members<'a>, AllocError>
+        ensures { IfOk result (λ ms. ms ≡ list.entry.items) }
     {
-        let names = names(alloc, &slots)?;
+        let names = names(alloc, &list)?;
         let index = Index::of(alloc, names)?;
-        let ports = port_indexes(alloc, &slots)?;
-        let firsts = first_listers(alloc, &slots)?;
-        let contested = contested_names(alloc, &slots, &firsts)?;
-        let controlled = ports_by_controller(alloc, &slots)?;
+        let ports = port_indexes(alloc, &list)?;
+        let firsts = first_listers(alloc, &list)?;
+        let contested = contested_names(alloc, &list, &firsts)?;
+        let controlled = ports_by_controller(alloc, &list)?;
         Ok(Members {
-            slots,
+            list,
             index,
             ports,
             firsts,
@@ -72,18 +72,18 @@ impl<'a> Members<'a> {
     }
 
     /// The links, by rank.
-    pub fn slots<'b>(&'b self) -> &'b Vec<Slot<'a>>
+    pub fn list<'b>(&'b self) -> &'b Vec<Member<'a>>
         ensures { result.now.items ≡ self.now }
     {
-        &self.slots
+        &self.list
     }
 
     /// The link of this name.
-    pub fn find<'b>(&'b self, name: &Name) -> Option<&'b Slot<'a>>
+    pub fn find<'b>(&'b self, name: &Name) -> Option<&'b Member<'a>>
         ensures { option_copied result ≡ find_member name.now self.now }
     {
         match self.index.place(name) {
-            Some(at) => Some(&self.slots[at]),
+            Some(at) => Some(&self.list[at]),
             None => None,
         }
     }
@@ -113,10 +113,10 @@ impl<'a> Members<'a> {
     }
 
     /// The first link whose stated list names the link.
-    pub fn first_lister<'b>(&'b self, name: &Name) -> Option<&'b Slot<'a>>
+    pub fn first_lister<'b>(&'b self, name: &Name) -> Option<&'b Member<'a>>
         ensures { option_copied result ≡ find (λ c. lists c name.now) self.now }
     {
-        first_lister(&self.slots, &self.firsts, name)
+        first_lister(&self.list, &self.firsts, name)
     }
 
     /// Whether the lists of two links of different names name the link.

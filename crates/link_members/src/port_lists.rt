@@ -6,7 +6,7 @@ ghost use Rattle.merge_model.specs.Controllers.{ports_by, stated_ports};
 ghost use Rattle.link_members.specs.Listers.{port_names};
 
 use document_model::{LinkEntry, PortEntry};
-use link_slots::{Index, Slot};
+use link_order::{Index, Member};
 use net_model::{Items, Kind, Name};
 use std::alloc::{AllocError, Global};
 
@@ -46,23 +46,23 @@ fn list_by(alloc: Global, kind: &Kind, entry: &LinkEntry) -> Result<Vec<Name>, A
 }
 
 /// The stated list of ports, empty where none is stated.
-pub fn stated_ports(alloc: Global, slot: &Slot) -> Result<Vec<Name>, AllocError>
-    ensures { IfOk result (λ list. list.items ≡ unwrap_or (stated_ports slot.now) []) }
+pub fn stated_ports(alloc: Global, member: &Member) -> Result<Vec<Name>, AllocError>
+    ensures { IfOk result (λ list. list.items ≡ unwrap_or (stated_ports member.now) []) }
 {
-    let kind = slot.kind();
-    match slot.entry() {
+    let kind = member.kind();
+    match member.entry() {
         Some(entry) => list_by(alloc, &kind, entry),
         None => Ok(Vec::new(alloc)),
     }
 }
 
 /// The stated lists of ports, each with an index of its names.
-pub(crate) fn port_indexes(alloc: Global, slots: &[Slot]) -> Result<Vec<Index>, AllocError>
-    ensures { IfOk result (λ indexes. indexes.items ≡ map port_names slots.now) }
+pub(crate) fn port_indexes(alloc: Global, members: &[Member]) -> Result<Vec<Index>, AllocError>
+    ensures { IfOk result (λ indexes. indexes.items ≡ map port_names members.now) }
 {
     let mut indexes = Vec::new(alloc);
-    for slot in slots {
-        let ports = stated_ports(alloc, slot)?;
+    for member in members {
+        let ports = stated_ports(alloc, member)?;
         let index = Index::of(alloc, ports)?;
         indexes.push(index)?;
     }

@@ -3,7 +3,7 @@ ghost use Rattle.std.specs.Prelude.{◌≡◌, true, None, map, IfOk};
 ghost use Rattle.net_model.specs.Name.{same_bytes};
 ghost use Rattle.net_model.specs.Words.{apart};
 ghost use Rattle.net_model.specs.Valid.{names_differ};
-ghost use Rattle.merge_model.specs.Members.{Member, seats};
+ghost use Rattle.merge_model.specs.Members.{Member, members_by_rank};
 ghost use Rattle.merge_model.specs.Controllers.{with_controllers};
 ghost use Rattle.merge_model.specs.Lifted.{members};
 ghost use Rattle.merge_model.specs.Merged.{merged_links};
@@ -16,18 +16,18 @@ ghost use Rattle.link_rules.specs.Rules.{entry_rules, port_rules, merged_rules};
 use document_model::Doc;
 use link_fields::merged_links;
 use link_members::{Members, with_controllers, with_lifted};
+use link_order::{Entries, Member, members_by_rank};
 use link_rules::{Merged, entries_broken, merged_broken, ports_broken};
-use link_slots::{Entries, Slot, seats};
 use merge_laws::merge_laws;
 use merge_model::MergeFault;
 use net_model::{Link, Net};
 use std::alloc::{AllocError, Global};
 
 // The names of the links with their controllers differ, where the entries break no rule.
-fn slots_differ_laws(net: &Net, entries: &Entries, slots: &[Slot])
+fn members_differ_laws(net: &Net, entries: &Entries, list: &[Member])
     requires rules { first_of at_rule (entry_rules net.now.links entries.now) ≡ None }
-    requires slots { slots.now ≡ with_controllers (seats net.now.links entries.now) }
-    ensures { apart same_bytes (map (λ (m : Member). m.name) slots.now) ≡ true }
+    requires list { list.now ≡ with_controllers (members_by_rank net.now.links entries.now) }
+    ensures { apart same_bytes (map (λ (m : Member). m.name) list.now) ≡ true }
 {
     net.laws();
     merge_laws();
@@ -42,10 +42,10 @@ fn members<'a>(
     requires { first_of at_rule (entry_rules net.now.links entries.now) ≡ None }
     ensures { IfOk result (λ ms. ms ≡ members net.now.links entries.now) }
 {
-    let seats = Members::of(alloc, seats(alloc, net, entries)?)?;
-    let slots = with_controllers(alloc, &seats)?;
-    let list = slots.as_slice();
-    slots_differ_laws(net, entries, list);
+    let ranked = Members::of(alloc, members_by_rank(alloc, net, entries)?)?;
+    let controlled = with_controllers(alloc, &ranked)?;
+    let list = controlled.as_slice();
+    members_differ_laws(net, entries, list);
     let raised = with_lifted(alloc, list)?;
     Members::of(alloc, raised)
 }

@@ -6,7 +6,7 @@ use Rattle.std.specs.Cmp.Lexicographic.{texts_ties}
 use Rattle.net_model.specs.Name.{same_bytes}
 use Rattle.net_model.specs.Words.{apart, is_among}
 use Rattle.net_model.specs.Order.{name_cmp}
-use Rattle.link_slots.proofs.lemmas.More.{take_one, any_more}
+use Rattle.link_order.proofs.lemmas.More.{take_one, any_more}
 
 apart_more : {X : Type 0} (R : X → X → Bool) (xs : List X) (x : X) → apart R (xs ++ x ∷ []) ≡ (apart R xs && not (list_any (λ y. R y x) xs))
 apart_more R [] x = refl

@@ -15,7 +15,7 @@ use Rattle.net_model.specs.declared.Proto.{Proto}
 use Rattle.net_model.specs.declared.Proto.TheVariants.{Dot1q, Dot1ad}
 use Rattle.net_model.specs.declared.Link.{Link}
 use Rattle.link_rules.specs.Twins.{is_dot1ad, vlan_key, vlan_cmp, has_key, HasVlans}
-use Rattle.link_slots.proofs.lemmas.More.{any_more}
+use Rattle.link_order.proofs.lemmas.More.{any_more}
 
 protos_tie : (p q : Proto) → proto_eq p q ≡ is_eq (bool_cmp (is_dot1ad p) (is_dot1ad q))
 protos_tie Dot1q Dot1q = refl

@@ -14,7 +14,7 @@ use crate::twice::address_twice;
 use crate::twins::vlan_twin;
 use document_model::{Place, Refused};
 use link_members::Members;
-use link_slots::Entries;
+use link_order::Entries;
 use net_model::Net;
 use std::alloc::{AllocError, Global};
 

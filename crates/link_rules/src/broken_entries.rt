@@ -9,7 +9,7 @@ ghost use Rattle.merge_model.specs.Places.{at_entry, first_second};
 ghost use Rattle.merge_model.specs.BrokenEntries.{duplicate_name, is_new, no_type, is_ethernet_word, no_device, changes_device, physical_kind, missing_detail};
 
 use document_model::{KindWord, LinkEntry, Place};
-use link_slots::{Entries, is_absent, kind_of, merged_kind};
+use link_order::{Entries, is_absent, kind_of, merged_kind};
 use net_model::{Link, Net, is_ethernet};
 
 fn at_entry(found: Option<&LinkEntry>) -> Option<Place>

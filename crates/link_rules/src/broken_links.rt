@@ -12,7 +12,7 @@ ghost use Rattle.merge_model.specs.BrokenLinks.{port_kind, bad_base, base_down, 
 use crate::merged::Merged;
 use document_model::{IpEntry, LinkEntry, Place};
 use link_members::Members;
-use link_slots::is_off;
+use link_order::is_off;
 use net_model::{Items, Kind, Link, Name, Prefix, can_be_base, is_bond_or_bridge, takes};
 
 /// The place at a link.
@@ -206,7 +206,7 @@ fn has_stated_address(members: &Members, name: &Name) -> bool
     ensures { result ≡ has_stated_address members.now name.now }
 {
     match members.find(name) {
-        Some(slot) => stated_for(slot.entry()),
+        Some(member) => stated_for(member.entry()),
         None => false,
     }
 }

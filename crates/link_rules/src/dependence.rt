@@ -11,7 +11,7 @@ ghost use Rattle.merge_model.specs.BrokenLinks.{cycle};
 ghost use Rattle.link_rules.specs.Rules.{least_of};
 
 use document_model::Place;
-use link_slots::{closure, has_cycle};
+use link_order::{closure, has_cycle};
 use net_model::{Items, Link, Name, has_base, is_port_of};
 use std::alloc::{AllocError, Global};
 

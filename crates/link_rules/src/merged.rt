@@ -4,7 +4,7 @@ ghost use Rattle.net_model.specs.Links.{find_link};
 ghost use Rattle.net_model.specs.Valid.{names_differ};
 ghost use Rattle.net_model.specs.declared.Link.{Link};
 
-use link_slots::Index;
+use link_order::Index;
 use net_model::{Link, Name};
 use std::alloc::{AllocError, Global};
 use std::marker::Model;

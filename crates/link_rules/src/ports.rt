@@ -11,16 +11,16 @@ ghost use Rattle.merge_model.specs.BrokenPorts.{is_missing, claims_missing, port
 
 use document_model::{Claim, Place};
 use link_members::{Members, lacks_list, own_claim, stated_ports};
-use link_slots::Slot;
+use link_order::Member;
 use net_model::Name;
 use std::alloc::{AllocError, Global};
 use std::collections::BTreeSet;
 
-fn at_member(found: Option<&Slot>) -> Option<Place>
+fn at_member(found: Option<&Member>) -> Option<Place>
     ensures { result ≡ at_member (option_copied found.entry) }
 {
     match found {
-        Some(slot) => Some(Place::Link(slot.name())),
+        Some(member) => Some(Place::Link(member.name())),
         None => None,
     }
 }
@@ -56,23 +56,23 @@ fn claims_missing(members: &Members, claim: Option<Claim>) -> bool
 }
 
 // Whether the list names a link that isn't there, or the link claims one.
-fn names_missing(alloc: Global, members: &Members, slot: &Slot) -> Result<bool, AllocError>
+fn names_missing(alloc: Global, members: &Members, member: &Member) -> Result<bool, AllocError>
     ensures { IfOk result (λ missing. missing
-        ≡ (list_any (is_missing members.now) (unwrap_or (stated_ports slot.now) []) ||
-        option_map_or (claims_missing members.now) (own_claim slot.now) false)) }
+        ≡ (list_any (is_missing members.now) (unwrap_or (stated_ports member.now) []) ||
+        option_map_or (claims_missing members.now) (own_claim member.now) false)) }
 {
-    let ports = stated_ports(alloc, slot)?;
-    Ok(has_missing(members, &ports) || claims_missing(members, own_claim(slot)))
+    let ports = stated_ports(alloc, member)?;
+    Ok(has_missing(members, &ports) || claims_missing(members, own_claim(member)))
 }
 
 /// The place of rule 6: a stated list names a link, or a stated controller is one, that isn't in the merged state.
 pub(crate) fn port_missing(alloc: Global, members: &Members) -> Result<Option<Place>, AllocError>
     ensures { IfOk result (λ place. place ≡ port_missing members.now) }
 {
-    let slots = members.slots().as_slice();
-    for at in 0..slots.len() {
-        if names_missing(alloc, members, &slots[at])? {
-            return Ok(Some(Place::Link(slots[at].name())));
+    let list = members.list().as_slice();
+    for at in 0..list.len() {
+        if names_missing(alloc, members, &list[at])? {
+            return Ok(Some(Place::Link(list[at].name())));
         }
     }
     Ok(None)
@@ -93,10 +93,10 @@ fn differ(alloc: Global, names: &[Name]) -> Result<bool, AllocError>
 }
 
 // Whether the stated list names a link twice.
-fn lists_twice(alloc: Global, slot: &Slot) -> Result<bool, AllocError>
-    ensures { IfOk result (λ twice. twice ≡ not (apart same_bytes (unwrap_or (stated_ports slot.now) []))) }
+fn lists_twice(alloc: Global, member: &Member) -> Result<bool, AllocError>
+    ensures { IfOk result (λ twice. twice ≡ not (apart same_bytes (unwrap_or (stated_ports member.now) []))) }
 {
-    let ports = stated_ports(alloc, slot)?;
+    let ports = stated_ports(alloc, member)?;
     let differ = differ(alloc, &ports)?;
     Ok(!differ)
 }
@@ -105,10 +105,10 @@ fn lists_twice(alloc: Global, slot: &Slot) -> Result<bool, AllocError>
 pub(crate) fn port_twice(alloc: Global, members: &Members) -> Result<Option<Place>, AllocError>
     ensures { IfOk result (λ place. place ≡ port_twice members.now) }
 {
-    let slots = members.slots().as_slice();
-    for at in 0..slots.len() {
-        if lists_twice(alloc, &slots[at])? {
-            return Ok(Some(Place::Link(slots[at].name())));
+    let list = members.list().as_slice();
+    for at in 0..list.len() {
+        if lists_twice(alloc, &list[at])? {
+            return Ok(Some(Place::Link(list[at].name())));
         }
     }
     Ok(None)
@@ -148,27 +148,27 @@ fn listed_claim(members: &Members, name: &Name) -> Option<Claim>
 }
 
 // The claim that decides.
-fn first_claim(members: &Members, slot: &Slot) -> Option<Claim>
-    ensures { result ≡ option_or (own_claim slot.now) (option_map (λ c. Claim.To c.name) (find (λ c. lists c slot.now.name) members.now)) }
+fn first_claim(members: &Members, member: &Member) -> Option<Claim>
+    ensures { result ≡ option_or (own_claim member.now) (option_map (λ c. Claim.To c.name) (find (λ c. lists c member.now.name) members.now)) }
 {
-    match own_claim(slot) {
+    match own_claim(member) {
         Some(claim) => Some(claim),
-        None => listed_claim(members, &slot.name()),
+        None => listed_claim(members, &member.name()),
     }
 }
 
 #[tactic(auto, using(crate::proofs::Claims::differ_from_first))]
-fn claims_differ(members: &Members, slot: &Slot) -> bool
-    ensures { result ≡ claims_differ (claims members.now slot.now) }
+fn claims_differ(members: &Members, member: &Member) -> bool
+    ensures { result ≡ claims_differ (claims members.now member.now) }
 {
-    first_contradicted(members, slot, first_claim(members, slot))
+    first_contradicted(members, member, first_claim(members, member))
 }
 
-fn first_contradicted(members: &Members, slot: &Slot, claim: Option<Claim>) -> bool
-    ensures { result ≡ option_map_or (λ claim. list_any (λ c. lists c slot.now.name && not (same_claim claim (Claim.To c.name))) members.now) claim false }
+fn first_contradicted(members: &Members, member: &Member, claim: Option<Claim>) -> bool
+    ensures { result ≡ option_map_or (λ claim. list_any (λ c. lists c member.now.name && not (same_claim claim (Claim.To c.name))) members.now) claim false }
 {
     match claim {
-        Some(claim) => is_contradicted(members, &slot.name(), claim),
+        Some(claim) => is_contradicted(members, &member.name(), claim),
         None => false,
     }
 }
@@ -178,7 +178,7 @@ fn named_leaves_out(members: &Members, port: &Name, controller: &Name) -> bool
     ensures { result ≡ option_map_or (leaves_out port.now) (find_member controller.now members.now) false }
 {
     match members.find(controller) {
-        Some(slot) => !lacks_list(slot) && !members.lists(controller, port),
+        Some(member) => !lacks_list(member) && !members.lists(controller, port),
         None => false,
     }
 }
@@ -192,30 +192,30 @@ fn is_left_out(members: &Members, port: &Name, claim: Claim) -> bool
     }
 }
 
-fn own_left_out(members: &Members, slot: &Slot) -> bool
-    ensures { result ≡ option_map_or (is_left_out members.now slot.now.name) (own_claim slot.now) false }
+fn own_left_out(members: &Members, member: &Member) -> bool
+    ensures { result ≡ option_map_or (is_left_out members.now member.now.name) (own_claim member.now) false }
 {
-    match own_claim(slot) {
-        Some(claim) => is_left_out(members, &slot.name(), claim),
+    match own_claim(member) {
+        Some(claim) => is_left_out(members, &member.name(), claim),
         None => false,
     }
 }
 
-fn is_in_conflict(members: &Members, slot: &Slot) -> bool
-    ensures { result ≡ (claims_differ (claims members.now slot.now) || option_map_or (is_left_out members.now slot.now.name) (own_claim slot.now) false) }
+fn is_in_conflict(members: &Members, member: &Member) -> bool
+    ensures { result ≡ (claims_differ (claims members.now member.now) || option_map_or (is_left_out members.now member.now.name) (own_claim member.now) false) }
 {
-    claims_differ(members, slot) || own_left_out(members, slot)
+    claims_differ(members, member) || own_left_out(members, member)
 }
 
-fn first_in_conflict<'a, 'b>(members: &'b Members<'a>) -> Option<&'b Slot<'a>>
+fn first_in_conflict<'a, 'b>(members: &'b Members<'a>) -> Option<&'b Member<'a>>
     ensures { option_copied result ≡ find
         (λ m. claims_differ (claims members.now m) || option_map_or (is_left_out members.now m.name) (own_claim m)
         false) members.now }
 {
     members
-        .slots()
+        .list()
         .iter()
-        .find(|slot| is_in_conflict(members, slot))
+        .find(|member| is_in_conflict(members, member))
 }
 
 /// The place of rule 8: two claims on a link differ, or a link claims a controller whose stated list lacks it.

@@ -12,7 +12,7 @@ use Rattle.net_model.proofs.lemmas.Found.{one_name, itself}
 use Rattle.merge_model.specs.Members.{Member, find_member}
 use Rattle.merge_laws.proofs.Searches.{any_map, apart_head, apart_tail}
 use Rattle.merge_laws.proofs.Each.{Each}
-use Rattle.merge_laws.proofs.Seats.{same_member}
+use Rattle.merge_laws.proofs.Members.{same_member}
 
 or_none : (b : Bool) → (b || false) ≡ b
 or_none true = refl

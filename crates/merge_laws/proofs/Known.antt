@@ -14,7 +14,7 @@ use Rattle.document_model.specs.Entries.{passes, is_ip_entry, is_bridge_entry, i
 use Rattle.merge_model.specs.Members.{Member}
 use Rattle.merge_model.specs.Lifted.{members}
 use Rattle.merge_laws.proofs.Searches.{all_weaker}
-use Rattle.merge_laws.proofs.Seats.{olds_known, entries_known}
+use Rattle.merge_laws.proofs.Members.{olds_known, entries_known}
 
 abbrev pub entry_passes : (LinkEntry → Bool) → Member → Bool
 entry_passes p m = option_map_or p m.entry true

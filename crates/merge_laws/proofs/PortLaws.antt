@@ -22,7 +22,7 @@ use Rattle.merge_model.specs.Merged.{merged_link, merged_links, is_up}
 use Rattle.merge_model.specs.BrokenLinks.{port_address, has_stated_address, entry_states_address, states_address}
 use Rattle.merge_laws.proofs.Searches.{none_fails}
 use Rattle.merge_laws.proofs.Each.{Each}
-use Rattle.merge_laws.proofs.Seats.{same_member}
+use Rattle.merge_laws.proofs.Members.{same_member}
 use Rattle.merge_laws.proofs.Found.{named_found, each_found}
 use Rattle.merge_laws.proofs.Parts.{none_at}
 

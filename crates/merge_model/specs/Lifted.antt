@@ -8,7 +8,7 @@ use Rattle.net_model.specs.declared.Link.{Link}
 use Rattle.document_model.specs.declared.LinkEntry.{LinkEntry}
 use Rattle.merge_model.specs.Stated.{is_stated_up}
 use Rattle.merge_model.specs.Kinds.{base_of}
-use Rattle.merge_model.specs.Members.{Member, seats}
+use Rattle.merge_model.specs.Members.{Member, members_by_rank}
 use Rattle.merge_model.specs.Controllers.{lists, with_controllers}
 
 abbrev pub is_unstated : Member → Bool
@@ -38,4 +38,4 @@ with_lifted ms = map (raised ms) ms
 
 -- the links of the merged network by rank, each with its controller and with whether it is lifted
 abbrev pub members : List Link → List LinkEntry → List Member
-members links entries = with_lifted (with_controllers (seats links entries))
+members links entries = with_lifted (with_controllers (members_by_rank links entries))

@@ -1,7 +1,7 @@
 pub mod Searches
 pub mod StatedLists
 pub mod Each
-pub mod Seats
+pub mod Members
 pub mod Controllers
 pub mod Fields
 pub mod Rules

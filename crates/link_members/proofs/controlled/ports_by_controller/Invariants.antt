@@ -3,5 +3,5 @@ use Rattle.link_members.specs.Controlled.{HasPorts}
 use Rattle.link_members.proofs.controlled.ports_by_controller.Given as goal
 
 -- the ports among the links so far
-abbrev pub invariant-loop-slot : goal.invariant-loop-slot
-invariant-loop-slot l = HasPorts (take l.slot-index l.slots) l.ports
+abbrev pub invariant-loop-member : goal.invariant-loop-member
+invariant-loop-member l = HasPorts (take l.member-index l.members) l.ports

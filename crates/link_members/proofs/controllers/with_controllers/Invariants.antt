@@ -3,5 +3,5 @@ use Rattle.merge_model.specs.Controllers.{with_controller}
 use Rattle.link_members.proofs.controllers.with_controllers.Given as goal
 
 -- those so far
-abbrev pub invariant-loop-slot : goal.invariant-loop-slot
-invariant-loop-slot l = l.slots.items ≡ map (with_controller l.members) (take l.slot-index l.slot-items)
+abbrev pub invariant-loop-member : goal.invariant-loop-member
+invariant-loop-member l = l.list.items ≡ map (with_controller l.members) (take l.member-index l.member-items)

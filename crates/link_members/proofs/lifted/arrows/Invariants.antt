@@ -3,5 +3,5 @@ use Rattle.link_members.specs.Lifts.{held_names, unstated_places}
 use Rattle.link_members.proofs.lifted.arrows.Given as goal
 
 -- the rows of the links so far
-abbrev pub invariant-loop-slot : goal.invariant-loop-slot
-invariant-loop-slot l = l.arrows.items ≡ map (λ m. unstated_places l.slots (held_names m)) (take l.slot-index l.slots)
+abbrev pub invariant-loop-member : goal.invariant-loop-member
+invariant-loop-member l = l.arrows.items ≡ map (λ m. unstated_places l.members (held_names m)) (take l.member-index l.members)

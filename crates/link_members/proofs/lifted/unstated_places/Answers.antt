@@ -8,5 +8,5 @@ pub loop-name-preserved : goal.loop-name-preserved
 loop-name-preserved c =
     c.in_ok-add.ensures
     ∙ ap (λ (places : List ℕ). places ++ option_to_list c.unstated_place-place.result) c.loop-name.invariant
-    ∙ ap (λ o. unstated_places c.args.slots.now (take c.loop-name.name-index c.args.names.now) ++ option_to_list o) c.unstated_place-place.ensures
-    ∙ sym (one_place_more (unstated_place c.args.slots.now) c.args.names.now c.loop-name.name-index c.name-item.result (omega (arith, c.loop-name-test.true)) c.name-item.is)
+    ∙ ap (λ o. unstated_places c.args.members.now (take c.loop-name.name-index c.args.names.now) ++ option_to_list o) c.unstated_place-place.ensures
+    ∙ sym (one_place_more (unstated_place c.args.members.now) c.args.names.now c.loop-name.name-index c.name-item.result (omega (arith, c.loop-name-test.true)) c.name-item.is)

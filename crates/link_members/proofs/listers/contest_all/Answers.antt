@@ -10,5 +10,5 @@ loop-name-init c = λ q. no_contest (contains name_cmp c.args.contested.now q)
 pub loop-name-preserved : goal.loop-name-preserved
 loop-name-preserved c = λ q.
     c.in_ok-contest.ensures q
-    ∙ one_contest c.args.slots.now c.args.names.now c.loop-name.name-index c.name-item.result (omega (arith, c.loop-name-test.true)) c.name-item.is c.args.lister.now q
+    ∙ one_contest c.args.members.now c.args.names.now c.loop-name.name-index c.name-item.result (omega (arith, c.loop-name-test.true)) c.name-item.is c.args.lister.now q
     (contains name_cmp c.args.contested.now q) (contains name_cmp c.loop-name.contested q) c.is_rival-rival.result c.is_rival-rival.ensures (c.loop-name.invariant q)

@@ -7,4 +7,4 @@ use Rattle.link_members.proofs.listers.contest_all.Given as goal
 
 -- those of the names so far are in the set
 abbrev pub invariant-loop-name : goal.invariant-loop-name
-invariant-loop-name l = (q : List ℕ) → contains name_cmp l.contested q ≡ (contains name_cmp l.initial.contested q || (is_among (take l.name-index l.names) q && is_rival l.slots q l.lister))
+invariant-loop-name l = (q : List ℕ) → contains name_cmp l.contested q ≡ (contains name_cmp l.initial.contested q || (is_among (take l.name-index l.names) q && is_rival l.members q l.lister))

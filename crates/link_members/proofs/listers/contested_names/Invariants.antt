@@ -7,4 +7,4 @@ use Rattle.link_members.proofs.listers.contested_names.Given as goal
 
 -- the names that a rival among the links so far lists
 abbrev pub invariant-loop-at : goal.invariant-loop-at
-invariant-loop-at l = (q : List ℕ) → contains name_cmp l.contested q ≡ list_any (rivals l.slots q) (take l.at l.slots)
+invariant-loop-at l = (q : List ℕ) → contains name_cmp l.contested q ≡ list_any (rivals l.members q) (take l.at l.members)

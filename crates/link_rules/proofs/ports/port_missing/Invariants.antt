@@ -8,4 +8,4 @@ use Rattle.link_rules.proofs.ports.port_missing.Given as goal
 
 -- what is left decides
 abbrev pub invariant-loop-at : goal.invariant-loop-at
-invariant-loop-at l = at_member (find (λ m. list_any (is_missing l.members) (unwrap_or (stated_ports m) []) || option_map_or (claims_missing l.members) (own_claim m) false) (drop l.at l.slots)) ≡ port_missing l.members
+invariant-loop-at l = at_member (find (λ m. list_any (is_missing l.members) (unwrap_or (stated_ports m) []) || option_map_or (claims_missing l.members) (own_claim m) false) (drop l.at l.list)) ≡ port_missing l.members

@@ -9,4 +9,4 @@ use Rattle.link_rules.proofs.ports.port_twice.Given as goal
 
 -- what is left decides
 abbrev pub invariant-loop-at : goal.invariant-loop-at
-invariant-loop-at l = at_member (find (λ m. not (apart same_bytes (unwrap_or (stated_ports m) []))) (drop l.at l.slots)) ≡ port_twice l.members
+invariant-loop-at l = at_member (find (λ m. not (apart same_bytes (unwrap_or (stated_ports m) []))) (drop l.at l.list)) ≡ port_twice l.members

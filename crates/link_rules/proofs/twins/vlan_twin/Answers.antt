@@ -5,7 +5,7 @@ use Rattle.net_model.specs.declared.Link.{Link}
 use Rattle.merge_model.specs.Places.{at_link}
 use Rattle.merge_model.proofs.lemmas.FirstSecond.{second_here, second_later}
 use Rattle.link_rules.specs.Twins.{HasVlans}
-use Rattle.link_slots.proofs.lemmas.More.{take_one}
+use Rattle.link_order.proofs.lemmas.More.{take_one}
 use Rattle.link_rules.proofs.Vlans.{twin_told, twin_again, twin_none}
 use Rattle.link_rules.proofs.twins.vlan_twin.Goals as goal
 

@@ -3,7 +3,7 @@ use Rattle.std.specs.List.{position}
 use Rattle.net_model.specs.Name.{same_bytes}
 use Rattle.net_model.specs.Links.{find_link}
 use Rattle.net_model.specs.declared.Link.{Link}
-use Rattle.link_slots.proofs.lemmas.Placed.{placed, unplaced}
+use Rattle.link_order.proofs.lemmas.Placed.{placed, unplaced}
 use Rattle.link_rules.proofs.merged.Merged.find.Goals as goal
 
 pub returns-in-Some-clause-found : goal.returns-in-Some-clause-found
