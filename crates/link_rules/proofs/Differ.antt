@@ -1,26 +1,13 @@
 -- Whether the names of a list differ, one name more.
-use Rattle.std.proofs.Common.{◌≡◌, ℕ, ◌+◌, ◌<◌, zero, suc, Bool, true, false, not, ◌&&◌, ◌||◌, cond, List, [], ◌∷◌, ◌++◌, length, get_or, take, refl, sym, ap, ◌∙◌}
+use Rattle.std.proofs.Common.{◌≡◌, ℕ, ◌+◌, ◌<◌, zero, suc, Bool, true, false, not, ◌&&◌, ◌||◌, cond, List, [], ◌∷◌, length, get_or, take, refl, sym, ap, ◌∙◌}
 use Rattle.std.specs.List.{list_any}
 use Rattle.std.specs.Ordering.{is_eq}
 use Rattle.std.specs.Cmp.Lexicographic.{texts_ties}
 use Rattle.net_model.specs.Name.{same_bytes}
 use Rattle.net_model.specs.Words.{apart, is_among}
 use Rattle.net_model.specs.Order.{name_cmp}
+use Rattle.net_model.proofs.lemmas.Differing.{apart_more}
 use Rattle.link_order.proofs.lemmas.More.{take_one, any_more}
-
-apart_more : {X : Type 0} (R : X → X → Bool) (xs : List X) (x : X) → apart R (xs ++ x ∷ []) ≡ (apart R xs && not (list_any (λ y. R y x) xs))
-apart_more R [] x = refl
-apart_more R (y ∷ ys) x =
-    ap (λ b. not b && apart R (ys ++ x ∷ [])) (any_more (R y) ys x)
-    ∙ ap (λ b. not (cond (R y x) true (list_any (R y) ys)) && b) (apart_more R ys x)
-    ∙ swap (R y x) (list_any (R y) ys) (apart R ys) (list_any (λ z. R z x) ys)
-  where
-    swap : (a b c d : Bool) → (not (cond a true b) && (c && not d)) ≡ ((not b && c) && not (a || d))
-    swap true true c d = refl
-    swap true false true d = refl
-    swap true false false d = refl
-    swap false true c d = refl
-    swap false false c d = refl
 
 any_part : {X : Type 0} (p : X → Bool) (xs : List X) (n : ℕ) → list_any p (take n xs) ≡ true → list_any p xs ≡ true
 any_part p [] zero h = h

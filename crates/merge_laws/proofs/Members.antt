@@ -5,12 +5,13 @@ use Rattle.std.specs.Option.{option_map_or, option_map, option_and_then}
 use Rattle.std.proofs.lemmas.Cmp.{nat_list_eq_equiv}
 use Rattle.net_model.specs.Name.{same_bytes}
 use Rattle.net_model.specs.Words.{apart}
-use Rattle.net_model.specs.Links.{find_link, same_name, is_ethernet, peer_of}
+use Rattle.net_model.specs.Links.{find_link, is_ethernet, peer_of}
 use Rattle.net_model.specs.Valid.{names_differ}
 use Rattle.net_model.specs.declared.Link.{Link}
 use Rattle.net_model.specs.declared.Kind.{Kind}
 use Rattle.net_model.proofs.lemmas.Truth.{and_left, and_right, and_both, not_true, not_false, or_left_false, or_right_false, or_right}
 use Rattle.net_model.proofs.lemmas.Found.{one_name, itself}
+use Rattle.net_model.proofs.lemmas.Differing.{names_turned}
 use Rattle.document_model.specs.declared.LinkEntry.{LinkEntry}
 use Rattle.document_model.specs.declared.Place.TheVariants.{Link as AtLink}
 use Rattle.document_model.specs.declared.Wish.TheVariants.{Absent}
@@ -133,15 +134,6 @@ entries_apart : (links : List Link) (es : List LinkEntry) → apart same_entry e
 entries_apart links [] h = refl
 entries_apart links (e ∷ es) h = cons_apart e.name (entered_over links e) (filter_map (entered_over links) es) (entered_named links e)
     (entries_lack links e.name es (apart_head same_entry e es h)) (entries_apart links es (apart_tail same_entry e es h))
-
-name_turned : (n : List ℕ) (ls : List Link) → list_any (λ l. same_bytes l.name n) ls ≡ false → list_any (λ l. same_bytes n l.name) ls ≡ false
-name_turned n [] h = refl
-name_turned n (l ∷ ls) h = or_false (same_bytes n l.name) (list_any (λ k. same_bytes n k.name) ls) (nat_list_eq_equiv.symm n l.name ∙ or_left_false (same_bytes l.name n) (list_any (λ k. same_bytes k.name n) ls) h) (name_turned n ls (or_right_false (same_bytes l.name n) (list_any (λ k. same_bytes k.name n) ls) h))
-
--- same_name asks the second's name first
-names_turned : (ls : List Link) → names_differ ls ≡ true → apart (λ a b. same_bytes a.name b.name) ls ≡ true
-names_turned [] h = refl
-names_turned (l ∷ ls) h = apart_cons (λ a b. same_bytes a.name b.name) l ls (name_turned l.name ls (apart_head same_name l ls h)) (names_turned ls (apart_tail same_name l ls h))
 
 left_apart : (p : Link → Bool) (ls : List Link) → names_differ ls ≡ true → apart same_member (map left_alone (filter p ls)) ≡ true
 left_apart p ls h = apart_map left_alone same_member (filter p ls) ∙ apart_filter (λ a b. same_bytes a.name b.name) p ls (names_turned ls h)

@@ -24,5 +24,6 @@ pub mod Search
 pub mod Same
 pub mod SameLists
 pub mod InOrder
+pub mod Differing
 pub mod Arranged
 pub mod Cycles

@@ -28,3 +28,4 @@ pub mod Taken
 pub mod Simulating
 pub mod Commanding
 pub mod Continued
+pub mod Orders
