@@ -10,7 +10,7 @@ use Rattle.net_model.specs.declared.options.BondOpts.{BondOpts}
 use Rattle.net_model.specs.declared.options.BridgeOpts.{BridgeOpts}
 use Rattle.net_model.specs.declared.options.PortOpts.{PortOpts}
 use Rattle.net_model.proofs.lemmas.FactsHold.{facts}
-use Rattle.link_planner.specs.declared.phase.Phase.TheVariants.{CreateLinks, LowerMtus, SetMacs, SetBridges, AttachPorts, SetPorts, SetPrimaries, RaiseLinks}
+use Rattle.link_planner.specs.declared.phase.Phase.TheVariants.{CreateLinks, LowerMtus, SetMacs, SetBridges, AttachPorts, SetPorts, SetPrimaries, TakeLinksUp}
 use Rattle.link_planner.specs.Drafts.{DraftData, Holds}
 use Rattle.link_planner.specs.Growing.{IsOnWay, IsNearer}
 use Rattle.link_planner.specs.Phases.{MayBuildUp, Grows}
@@ -27,7 +27,7 @@ module _ (d : DraftData) (h : Holds d) (stands : MayBuildUp 13 d) where
       let way : IsOnWay d.target l t = way_of d.target d.net stands.toward n l t found at in
       ap (λ x. bare x l.kind l.up l.mtu l.mac l.controller l.bond l.bridge l.port) ((facts d.net h.net).named n l found ∙ sym ((facts d.target h.target).named n t at))
       ∙ ap (λ x. bare t.name x l.up l.mtu l.mac l.controller l.bond l.bridge l.port) (sym way.kind)
-      ∙ ap (λ x. bare t.name t.kind x l.mtu l.mac l.controller l.bond l.bridge l.port) (stands.done RaiseLinks refl (lit< tt) n l t found at)
+      ∙ ap (λ x. bare t.name t.kind x l.mtu l.mac l.controller l.bond l.bridge l.port) (stands.done TakeLinksUp refl (lit< tt) n l t found at)
       ∙ ap (λ x. bare t.name t.kind t.up x l.mac l.controller l.bond l.bridge l.port) (stands.done LowerMtus refl (lit< tt) n l t found at)
       ∙ ap (λ x. bare t.name t.kind t.up t.mtu x l.controller l.bond l.bridge l.port) (stands.done SetMacs refl (lit< tt) n l t found at)
       ∙ ap (λ x. bare t.name t.kind t.up t.mtu t.mac x l.bond l.bridge l.port) (stands.done AttachPorts refl (lit< tt) n l t found at)

@@ -27,7 +27,7 @@ use Rattle.kernel_laws.proofs.lemmas.Taking.{is_accepted}
 use Rattle.kernel_laws.proofs.lemmas.StepKeeps.{hangs_on_it}
 use Rattle.plan_model.specs.Touched.{IsCalm, must_fall, is_lowered}
 use Rattle.plan_model.specs.Undisturbed.{IsUndisturbed, has_route}
-use Rattle.link_planner.specs.declared.phase.Phase.TheVariants.{LowerLinks}
+use Rattle.link_planner.specs.declared.phase.Phase.TheVariants.{TakeLinksDown}
 use Rattle.link_planner.specs.Drafts.{DraftData, Holds, IsSafe}
 use Rattle.link_planner.specs.Phases.{MayTakeAway, IsNext}
 use Rattle.link_planner.specs.Shrinking.{IsLess, IsShrunk, KeepsPorts, HasBonds, IsLow, MustFall}
@@ -185,7 +185,7 @@ module _ (start target net : NetData) (first : IsNet start) (good : IsNet target
       let had = low w.0 t kept w.1 there (and_left w.0.up (not (falls w.0.name)) (ap (λ (x : Link). x.up) (sym w.2) ∙ up)) in
       (had.0, λ c b has at bond. let p = had.1 c b has at bond in (ap (λ (x : Link). x.controller) w.2 ∙ p.0, p.1))
 
-pub lower_next : (d : DraftData) → Holds d → (n : List ℕ) → MayTakeAway 1 d → MustFall d.start d.target d.net n → IsNext LowerLinks d n (Down n)
+pub lower_next : (d : DraftData) → Holds d → (n : List ℕ) → MayTakeAway 1 d → MustFall d.start d.target d.net n → IsNext TakeLinksDown d n (Down n)
 lower_next d h n stands must = record {
   safe = down_safe d.start d.target d.net h.start h.target h.net h.draft.undisturbed stands.shrunk n must;
   moves = record {

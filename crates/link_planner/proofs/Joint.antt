@@ -5,7 +5,7 @@ use Rattle.net_model.specs.NetData.{NetData, IsNet}
 use Rattle.net_model.specs.Facts.{ControllerFacts}
 use Rattle.net_model.specs.declared.link.Link.{Link}
 use Rattle.net_model.proofs.lemmas.FactsHold.{facts}
-use Rattle.link_planner.specs.declared.phase.Phase.TheVariants.{DetachPorts, LowerLinks, DeleteLinks}
+use Rattle.link_planner.specs.declared.phase.Phase.TheVariants.{DetachPorts, TakeLinksDown, DeleteLinks}
 use Rattle.link_planner.specs.Drafts.{DraftData, Holds, Advances}
 use Rattle.link_planner.specs.Kept.{is_kept}
 use Rattle.link_planner.specs.Phases.{MayTakeAway}
@@ -72,4 +72,4 @@ module _ (start target before net : NetData) (first : IsNet start) (good : IsNet
 pub cleared : (m : ℕ) (old d : DraftData) → Advances m old d → Holds d → IsReady old.start old.target old.net → IsShrunk old.net d.net → MayTakeAway 3 d → IsToward d.target d.net
 cleared m old d advances h ready shrunk stands =
     let now : IsReady d.start d.target old.net = of_ends (λ s t. IsReady s t old.net) m old d advances ready in
-    on_way d.start d.target old.net d.net h.start h.target h.net now shrunk (device_kept d.start d.target now.devices) (stands.done DetachPorts refl (lit< tt)) (stands.done LowerLinks refl (lit< tt)) (stands.done DeleteLinks refl (lit< tt))
+    on_way d.start d.target old.net d.net h.start h.target h.net now shrunk (device_kept d.start d.target now.devices) (stands.done DetachPorts refl (lit< tt)) (stands.done TakeLinksDown refl (lit< tt)) (stands.done DeleteLinks refl (lit< tt))

@@ -5,7 +5,7 @@ use Rattle.net_model.specs.declared.link.Link.{Link}
 use Rattle.net_model.specs.declared.call.Call.{Call}
 use Rattle.net_model.proofs.lemmas.Parts.{le_of, not_le, length_filter}
 use Rattle.link_planner.specs.declared.phase.Phase.{Phase}
-use Rattle.link_planner.specs.declared.phase.Phase.TheVariants.{DetachPorts, LowerLinks, DeleteLinks, CreateLinks, RaiseMtus, LowerMtus, SetMacs, SetBonds, SetBridges, AttachPorts, SetPorts, SetPrimaries, RaiseLinks}
+use Rattle.link_planner.specs.declared.phase.Phase.TheVariants.{DetachPorts, TakeLinksDown, DeleteLinks, CreateLinks, RaiseMtus, LowerMtus, SetMacs, SetBonds, SetBridges, AttachPorts, SetPorts, SetPrimaries, TakeLinksUp}
 use Rattle.link_planner.specs.Depths.{IsBaseFirst, NamesAll}
 use Rattle.link_planner.specs.Drafts.{DraftData, Advances, IsSafe, with_call, with_some}
 use Rattle.link_planner.specs.Kept.{EachOf}
@@ -21,11 +21,11 @@ use Rattle.link_planner.proofs.Shrunk.{shrunk_itself, shrunk_more, rules_more, f
 -- ---- ranks
 
 abbrev phases : List Phase
-phases = DetachPorts ∷ LowerLinks ∷ DeleteLinks ∷ CreateLinks ∷ RaiseMtus ∷ LowerMtus ∷ SetMacs ∷ SetBonds ∷ SetBridges ∷ AttachPorts ∷ SetPorts ∷ SetPrimaries ∷ RaiseLinks ∷ []
+phases = DetachPorts ∷ TakeLinksDown ∷ DeleteLinks ∷ CreateLinks ∷ RaiseMtus ∷ LowerMtus ∷ SetMacs ∷ SetBonds ∷ SetBridges ∷ AttachPorts ∷ SetPorts ∷ SetPrimaries ∷ TakeLinksUp ∷ []
 
 at_rank : (p : Phase) → get_or phases (rank p) DetachPorts ≡ p
 at_rank DetachPorts = refl
-at_rank LowerLinks = refl
+at_rank TakeLinksDown = refl
 at_rank DeleteLinks = refl
 at_rank CreateLinks = refl
 at_rank RaiseMtus = refl
@@ -36,7 +36,7 @@ at_rank SetBridges = refl
 at_rank AttachPorts = refl
 at_rank SetPorts = refl
 at_rank SetPrimaries = refl
-at_rank RaiseLinks = refl
+at_rank TakeLinksUp = refl
 
 same_rank : (p q : Phase) → rank p ≡ rank q → p ≡ q
 same_rank p q e = sym (at_rank p) ∙ ap (λ k. get_or phases k DetachPorts) e ∙ at_rank q
@@ -54,7 +54,7 @@ all_and_own p d before own q half lt n = elim (nat_le (suc (rank q)) (rank p)) a
 
 shed_still : (k m : ℕ) (q : Phase) (old new : DraftData) → Advances m old new → Sheds k old new → builds q ≡ false → rank q < k + 1 → (n : List ℕ) → Done q old n → Done q new n
 shed_still k m DetachPorts old new advances sheds half lt n done = of_ends (λ s t. IsFree s t new.net n) m old new advances (free_still old.start old.target old.net new.net sheds.shrunk n done)
-shed_still k m LowerLinks old new advances sheds half lt n done = sheds.low (omega (arith, lt)) n done
+shed_still k m TakeLinksDown old new advances sheds half lt n done = sheds.low (omega (arith, lt)) n done
 shed_still k m DeleteLinks old new advances sheds half lt n done = of_ends (λ s t. HasStayed s t new.net n) m old new advances (stayed_still old.start old.target old.net new.net sheds.shrunk n done)
 shed_still k m CreateLinks old new advances sheds half lt n done = absurd cc
 shed_still k m RaiseMtus old new advances sheds half lt n done = absurd cc
@@ -65,7 +65,7 @@ shed_still k m SetBridges old new advances sheds half lt n done = absurd cc
 shed_still k m AttachPorts old new advances sheds half lt n done = absurd cc
 shed_still k m SetPorts old new advances sheds half lt n done = absurd cc
 shed_still k m SetPrimaries old new advances sheds half lt n done = absurd cc
-shed_still k m RaiseLinks old new advances sheds half lt n done = absurd cc
+shed_still k m TakeLinksUp old new advances sheds half lt n done = absurd cc
 
 module _ (old new : DraftData) (m : ℕ) (advances : Advances m old new) (grows : Grows old new) where
   reached : (R : Link → Link → Type 0) → ((t k l : Link) → IsAsNear t k l → R k t → R l t) → IsWhole old.target old.net → (n : List ℕ) → Reaches R old.target old.net n → Reaches R new.target new.net n
@@ -77,7 +77,7 @@ module _ (old new : DraftData) (m : ℕ) (advances : Advances m old new) (grows 
 
   grow_still : (q : Phase) → builds q ≡ true → (3 < rank q → IsWhole old.target old.net) → (n : List ℕ) → Done q old n → Done q new n
   grow_still DetachPorts half whole n done = absurd cc
-  grow_still LowerLinks half whole n done = absurd cc
+  grow_still TakeLinksDown half whole n done = absurd cc
   grow_still DeleteLinks half whole n done = absurd cc
   grow_still CreateLinks half whole n done = made n done
   grow_still RaiseMtus half whole n done = reached EnoughMtu (λ t k l near h. near.enough_mtu h) (whole (lit< tt)) n done
@@ -88,7 +88,7 @@ module _ (old new : DraftData) (m : ℕ) (advances : Advances m old new) (grows 
   grow_still AttachPorts half whole n done = reached SameController (λ t k l near h. near.controller h) (whole (lit< tt)) n done
   grow_still SetPorts half whole n done = reached SamePort (λ t k l near h. near.port h) (whole (lit< tt)) n done
   grow_still SetPrimaries half whole n done = reached SameBond (λ t k l near h. near.bond h) (whole (lit< tt)) n done
-  grow_still RaiseLinks half whole n done = reached SameUp (λ t k l near h. near.up h) (whole (lit< tt)) n done
+  grow_still TakeLinksUp half whole n done = reached SameUp (λ t k l near h. near.up h) (whole (lit< tt)) n done
 
 -- where all links of target are there
 pub whole_at : (k : ℕ) (d : DraftData) → 3 < k → MayBuildUp k d → IsWhole d.target d.net
@@ -148,7 +148,7 @@ served p d n (Some call) due next = record {
 -- what every name has that the phase may meet
 named_done : (p : Phase) (d : DraftData) (names : List (List ℕ)) → Stands (builds p) (rank p) d → NamesAll (gone_over (builds p) d).links names → EachOf names (Done p d) → (n : List ℕ) → Done p d n
 named_done DetachPorts d names stands all done n = λ l t c kept found. let k = stands.shrunk.links n l found in done n (all n k.0 k.1) l t c kept found
-named_done LowerLinks d names stands all done n = λ l t kept found. let k = stands.shrunk.links n l found in done n (all n k.0 k.1) l t kept found
+named_done TakeLinksDown d names stands all done n = λ l t kept found. let k = stands.shrunk.links n l found in done n (all n k.0 k.1) l t kept found
 named_done DeleteLinks d names stands all done n = λ l found. let k = stands.shrunk.links n l found in done n (all n k.0 k.1) l found
 named_done CreateLinks d names stands all done n = λ t at. done n (all n t at) t at
 named_done RaiseMtus d names stands all done n = λ l t found at. done n (all n t at) l t found at
@@ -159,7 +159,7 @@ named_done SetBridges d names stands all done n = λ l t found at. done n (all n
 named_done AttachPorts d names stands all done n = λ l t found at. done n (all n t at) l t found at
 named_done SetPorts d names stands all done n = λ l t found at. done n (all n t at) l t found at
 named_done SetPrimaries d names stands all done n = λ l t found at. done n (all n t at) l t found at
-named_done RaiseLinks d names stands all done n = λ l t found at. done n (all n t at) l t found at
+named_done TakeLinksUp d names stands all done n = λ l t found at. done n (all n t at) l t found at
 
 gone_over_same : (half : Bool) (m : ℕ) (a b : DraftData) → Advances m a b → gone_over half a ≡ gone_over half b
 gone_over_same false m a b advances = sym advances.start

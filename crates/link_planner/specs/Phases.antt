@@ -4,7 +4,7 @@ use Rattle.net_model.specs.Links.{named_passes, is_bond, is_bridge}
 use Rattle.net_model.specs.Lists.{NetData}
 use Rattle.net_model.specs.declared.Call.{Call}
 use Rattle.link_planner.specs.declared.phase.Phase.{Phase}
-use Rattle.link_planner.specs.declared.phase.Phase.TheVariants.{DetachPorts, LowerLinks, DeleteLinks, CreateLinks, RaiseMtus, LowerMtus, SetMacs, SetBonds, SetBridges, AttachPorts, SetPorts, SetPrimaries, RaiseLinks}
+use Rattle.link_planner.specs.declared.phase.Phase.TheVariants.{DetachPorts, TakeLinksDown, DeleteLinks, CreateLinks, RaiseMtus, LowerMtus, SetMacs, SetBonds, SetBridges, AttachPorts, SetPorts, SetPrimaries, TakeLinksUp}
 use Rattle.link_planner.specs.Depths.{IsBaseFirst, NamesAll}
 use Rattle.link_planner.specs.Drafts.{DraftData, IsSafe, Advances, with_call}
 use Rattle.link_planner.specs.Kept.{EachOf}
@@ -14,7 +14,7 @@ use Rattle.link_planner.specs.Growing.{IsToward, IsNearer, IsMade, Reaches, OfBa
 -- how many phases come before it
 abbrev pub rank : Phase → ℕ
 rank DetachPorts = 0
-rank LowerLinks = 1
+rank TakeLinksDown = 1
 rank DeleteLinks = 2
 rank CreateLinks = 3
 rank RaiseMtus = 4
@@ -25,12 +25,12 @@ rank SetBridges = 8
 rank AttachPorts = 9
 rank SetPorts = 10
 rank SetPrimaries = 11
-rank RaiseLinks = 12
+rank TakeLinksUp = 12
 
 -- the first three take away, the others build up
 abbrev pub builds : Phase → Bool
 builds DetachPorts = false
-builds LowerLinks = false
+builds TakeLinksDown = false
 builds DeleteLinks = false
 builds _ = true
 
@@ -38,13 +38,13 @@ builds _ = true
 abbrev pub is_upward : Phase → Bool
 is_upward CreateLinks = true
 is_upward RaiseMtus = true
-is_upward RaiseLinks = true
+is_upward TakeLinksUp = true
 is_upward _ = false
 
 -- what it reaches for a name
 abbrev pub Done : Phase → DraftData → List ℕ → Type 0
 Done DetachPorts d n = IsFree d.start d.target d.net n
-Done LowerLinks d n = IsLow d.start d.target d.net n
+Done TakeLinksDown d n = IsLow d.start d.target d.net n
 Done DeleteLinks d n = HasStayed d.start d.target d.net n
 Done CreateLinks d n = IsMade d.target d.net n
 Done RaiseMtus d n = Reaches EnoughMtu d.target d.net n
@@ -55,7 +55,7 @@ Done SetBridges d n = Reaches SameBridge d.target d.net n
 Done AttachPorts d n = Reaches SameController d.target d.net n
 Done SetPorts d n = Reaches SamePort d.target d.net n
 Done SetPrimaries d n = Reaches SameBond d.target d.net n
-Done RaiseLinks d n = Reaches SameUp d.target d.net n
+Done TakeLinksUp d n = Reaches SameUp d.target d.net n
 
 -- the phases of either half that come before a rank have reached all names
 abbrev pub AllDone : Bool → ℕ → DraftData → Type 0

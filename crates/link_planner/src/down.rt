@@ -40,9 +40,9 @@ fn must_fall(draft: &Draft, name: &Name) -> bool
 }
 
 /// The call that takes the link down, or none where it may stay as it is.
-pub fn lower_link(draft: &Draft, name: &Name) -> Option<Call>
-    requires { IsDue Phase.LowerLinks draft.now name.now }
-    ensures { Serves Phase.LowerLinks draft.now name.now result }
+pub fn take_down(draft: &Draft, name: &Name) -> Option<Call>
+    requires { IsDue Phase.TakeLinksDown draft.now name.now }
+    ensures { Serves Phase.TakeLinksDown draft.now name.now result }
 {
     draft.laws();
     if must_fall(draft, name) {

@@ -5,12 +5,12 @@ ghost use Rattle.link_planner.specs.Phases.{HasRun, IsDue, IsOrder, Serves, Stan
 use crate::create::create_link;
 use crate::delete::delete_link;
 use crate::detach::detach_port;
-use crate::down::lower_link;
+use crate::down::take_down;
 use crate::draft::Draft;
 use crate::mtus::{lower_mtu, raise_mtu};
 use crate::ports::{attach_port, set_port, set_primary};
-use crate::raise::raise_link;
 use crate::settings::{set_bond, set_bridge, set_mac};
+use crate::up::take_up;
 use net_model::{Call, Name, OutOfMemory};
 
 /// The phases, in their order.
@@ -19,7 +19,7 @@ pub enum Phase {
     /// Kept ports leave a kept controller that is another in the target.
     DetachPorts,
     /// Kept links fall that are down in the target, or move to another bond.
-    LowerLinks,
+    TakeLinksDown,
     /// Virtual links go that aren't kept.
     DeleteLinks,
     /// The target's links come, each base before what stands on it.
@@ -39,7 +39,7 @@ pub enum Phase {
     /// The primaries that are still missing.
     SetPrimaries,
     /// Links rise, each base before what stands on it.
-    RaiseLinks,
+    TakeLinksUp,
 }
 
 // The call that a phase makes for a name, if there is something to do.
@@ -49,7 +49,7 @@ fn call_for(draft: &Draft, phase: Phase, name: &Name) -> Option<Call>
 {
     match phase {
         Phase::DetachPorts => detach_port(draft, name),
-        Phase::LowerLinks => lower_link(draft, name),
+        Phase::TakeLinksDown => take_down(draft, name),
         Phase::DeleteLinks => delete_link(draft, name),
         Phase::CreateLinks => create_link(draft, name),
         Phase::RaiseMtus => raise_mtu(draft, name),
@@ -60,7 +60,7 @@ fn call_for(draft: &Draft, phase: Phase, name: &Name) -> Option<Call>
         Phase::AttachPorts => attach_port(draft, name),
         Phase::SetPorts => set_port(draft, name),
         Phase::SetPrimaries => set_primary(draft, name),
-        Phase::RaiseLinks => raise_link(draft, name),
+        Phase::TakeLinksUp => take_up(draft, name),
     }
 }
 

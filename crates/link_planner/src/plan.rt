@@ -29,7 +29,7 @@ fn take_away(alloc: Global, draft: &mut Draft) -> Result<(), OutOfMemory>
 {
     let orders = orders_of(alloc, draft.start())?;
     run(draft, Phase::DetachPorts, &orders.names)?;
-    run(draft, Phase::LowerLinks, &orders.upward)?;
+    run(draft, Phase::TakeLinksDown, &orders.upward)?;
     run(draft, Phase::DeleteLinks, &orders.downward)?;
     draft.laws();
     Ok(())
@@ -51,7 +51,7 @@ fn build_up(alloc: Global, draft: &mut Draft) -> Result<(), OutOfMemory>
     run(draft, Phase::AttachPorts, &orders.names)?;
     run(draft, Phase::SetPorts, &orders.names)?;
     run(draft, Phase::SetPrimaries, &orders.names)?;
-    run(draft, Phase::RaiseLinks, &orders.upward)?;
+    run(draft, Phase::TakeLinksUp, &orders.upward)?;
     draft.laws();
     Ok(())
 }

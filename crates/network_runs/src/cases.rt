@@ -12,7 +12,7 @@
 //! In lists and documents a bar stands for a line's end. A call that is refused changes nothing.
 
 use crate::calls::call;
-use crate::networks::{copied, first, is_same, make, merged};
+use crate::networks::{copied, first, is_same, merged, try_call};
 use crate::printing::is_printed;
 use crate::reading::{number, text_of};
 use anyhow::{Result, anyhow};
@@ -75,7 +75,7 @@ fn find<'a>(networks: &'a [Named], name: &str) -> Result<&'a Named> {
 fn grown(alloc: Global, mut net: Net, times: u32, words: &str) -> Result<Net> {
     for at in 0..times {
         let line = numbered(alloc, words, at)?;
-        if make(&mut net, &call(alloc, &line)?)?.is_some() {
+        if try_call(&mut net, &call(alloc, &line)?)?.is_some() {
             return Err(anyhow!("a call is refused"));
         }
     }
@@ -203,7 +203,7 @@ impl Cases {
         self.count = self.count.wrapping_add(1);
         let before = &find(&self.networks, name)?.net;
         let mut net = copied(before)?;
-        let answer = make(&mut net, &call(alloc, words)?)?;
+        let answer = try_call(&mut net, &call(alloc, words)?)?;
         let said = differs(alloc, &self.networks, before, &net, answer, wanted)?;
         if !said.is_empty() {
             self.differ = self.differ.wrapping_add(1);

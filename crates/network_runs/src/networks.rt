@@ -80,7 +80,7 @@ pub fn copied(net: &Net) -> Result<Net> {
 }
 
 /// Makes a call, and gives the number with which it is refused, if it is.
-pub fn make(net: &mut Net, call: &Call) -> Result<Option<u8>> {
+pub fn try_call(net: &mut Net, call: &Call) -> Result<Option<u8>> {
     match step(net, call) {
         Ok(()) => Ok(None),
         Err(StepFault::Refused(number)) => Ok(Some(number)),

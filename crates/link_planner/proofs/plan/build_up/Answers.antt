@@ -1,7 +1,7 @@
 use Rattle.std.proofs.Common.{arith, ◌≡◌, ap, subst, sym, ◌∙◌, length}
 use Rattle.net_model.specs.NetData.{NetData, IsNet}
 use Rattle.link_planner.specs.Depths.{AreOrders}
-use Rattle.link_planner.specs.declared.phase.Phase.TheVariants.{CreateLinks, RaiseMtus, LowerMtus, SetMacs, AttachPorts, SetPorts, SetPrimaries, RaiseLinks}
+use Rattle.link_planner.specs.declared.phase.Phase.TheVariants.{CreateLinks, RaiseMtus, LowerMtus, SetMacs, AttachPorts, SetPorts, SetPrimaries, TakeLinksUp}
 use Rattle.link_planner.proofs.Building.{Way, way_begun, way_more, links_reached}
 use Rattle.link_planner.proofs.Counting.{both_counted}
 use Rattle.link_planner.proofs.Phasing.{few}
@@ -29,5 +29,5 @@ returns-clause-advances c =
     record {
       start = c.in_ok-run-10.ensures.advances.start ∙ c.in_ok-run-9.ensures.advances.start ∙ c.in_ok-run-8.ensures.advances.start ∙ c.in_ok-run-7.ensures.advances.start ∙ c.in_ok-run-6.ensures.advances.start ∙ c.in_ok-run-5.ensures.advances.start ∙ c.in_ok-run-4.ensures.advances.start ∙ c.in_ok-run-3.ensures.advances.start ∙ c.in_ok-run-2.ensures.advances.start ∙ c.in_ok-run.ensures.advances.start;
       target = c.in_ok-run-10.ensures.advances.target ∙ c.in_ok-run-9.ensures.advances.target ∙ c.in_ok-run-8.ensures.advances.target ∙ c.in_ok-run-7.ensures.advances.target ∙ c.in_ok-run-6.ensures.advances.target ∙ c.in_ok-run-5.ensures.advances.target ∙ c.in_ok-run-4.ensures.advances.target ∙ c.in_ok-run-3.ensures.advances.target ∙ c.in_ok-run-2.ensures.advances.target ∙ c.in_ok-run.ensures.advances.target;
-      count = omega (arith, c.in_ok-run.ensures.advances.count, c.in_ok-run-2.ensures.advances.count, c.in_ok-run-3.ensures.advances.count, c.in_ok-run-4.ensures.advances.count, c.in_ok-run-5.ensures.advances.count, c.in_ok-run-6.ensures.advances.count, c.in_ok-run-7.ensures.advances.count, c.in_ok-run-8.ensures.advances.count, c.in_ok-run-9.ensures.advances.count, c.in_ok-run-10.ensures.advances.count, few CreateLinks c.args.draft.now.target c.deref.result.now, few RaiseMtus c.run.new.draft.target c.deref-2.result.now, few LowerMtus c.run-2.new.draft.target c.deref-3.result.now, few SetMacs c.run-3.new.draft.target c.deref-4.result.now, few AttachPorts c.run-6.new.draft.target c.deref-7.result.now, few SetPorts c.run-7.new.draft.target c.deref-8.result.now, few SetPrimaries c.run-8.new.draft.target c.deref-9.result.now, few RaiseLinks c.run-9.new.draft.target c.deref-10.result.now, ap length c.deref.ensures.value, ap length c.deref-2.ensures.value, ap length c.deref-3.ensures.value, ap length c.deref-4.ensures.value, ap length c.deref-5.ensures.value, ap length c.deref-6.ensures.value, ap length c.deref-7.ensures.value, ap length c.deref-8.ensures.value, ap length c.deref-9.ensures.value, ap length c.deref-10.ensures.value, o.count, o.count_upward, o.count_downward, both);
+      count = omega (arith, c.in_ok-run.ensures.advances.count, c.in_ok-run-2.ensures.advances.count, c.in_ok-run-3.ensures.advances.count, c.in_ok-run-4.ensures.advances.count, c.in_ok-run-5.ensures.advances.count, c.in_ok-run-6.ensures.advances.count, c.in_ok-run-7.ensures.advances.count, c.in_ok-run-8.ensures.advances.count, c.in_ok-run-9.ensures.advances.count, c.in_ok-run-10.ensures.advances.count, few CreateLinks c.args.draft.now.target c.deref.result.now, few RaiseMtus c.run.new.draft.target c.deref-2.result.now, few LowerMtus c.run-2.new.draft.target c.deref-3.result.now, few SetMacs c.run-3.new.draft.target c.deref-4.result.now, few AttachPorts c.run-6.new.draft.target c.deref-7.result.now, few SetPorts c.run-7.new.draft.target c.deref-8.result.now, few SetPrimaries c.run-8.new.draft.target c.deref-9.result.now, few TakeLinksUp c.run-9.new.draft.target c.deref-10.result.now, ap length c.deref.ensures.value, ap length c.deref-2.ensures.value, ap length c.deref-3.ensures.value, ap length c.deref-4.ensures.value, ap length c.deref-5.ensures.value, ap length c.deref-6.ensures.value, ap length c.deref-7.ensures.value, ap length c.deref-8.ensures.value, ap length c.deref-9.ensures.value, ap length c.deref-10.ensures.value, o.count, o.count_upward, o.count_downward, both);
     }

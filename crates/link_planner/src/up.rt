@@ -1,4 +1,4 @@
-//! Links that are raised.
+//! Links that are taken up.
 ghost use Rattle.std.specs.Prelude.{◌≡◌, true, false};
 ghost use Rattle.std.specs.Bool.{OnTrue, OnFalse};
 ghost use Rattle.link_planner.specs.Growing.{SameUp};
@@ -17,10 +17,10 @@ fn must_rise(link: &Link, there: &Link) -> bool
     there.up && !link.up
 }
 
-/// The call that raises the link, or none where it is up already, or down in the target.
-pub fn raise_link(draft: &Draft, name: &Name) -> Option<Call>
-    requires { IsDue Phase.RaiseLinks draft.now name.now }
-    ensures { Serves Phase.RaiseLinks draft.now name.now result }
+/// The call that takes the link up, or none where it is up already, or down in the target.
+pub fn take_up(draft: &Draft, name: &Name) -> Option<Call>
+    requires { IsDue Phase.TakeLinksUp draft.now name.now }
+    ensures { Serves Phase.TakeLinksUp draft.now name.now result }
 {
     draft.laws();
     let (link, there) = draft.pair(name)?;

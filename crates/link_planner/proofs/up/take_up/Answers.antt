@@ -2,7 +2,7 @@ use Rattle.std.proofs.Common.{rules, refl}
 use Rattle.link_planner.specs.Pairs.{ArePair}
 use Rattle.link_planner.proofs.Editing.{way_of}
 use Rattle.link_planner.proofs.Upping.{up_next}
-use Rattle.link_planner.proofs.raise.raise_link.Goals as goal
+use Rattle.link_planner.proofs.up.take_up.Goals as goal
 
 pub must_rise-requires : goal.must_rise-requires
 must_rise-requires c =
