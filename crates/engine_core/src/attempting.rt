@@ -23,8 +23,8 @@ use checkpoint_cell::{PutFault, mark_waiting, put};
 use engine_model::ApplyOpts;
 use engine_restore::{RunFault, run};
 use host_core::{DumpFault, Failed, Host};
+use net_equal::same_net;
 use net_model::{Call, Net};
-use plan_core::same_net;
 use std::alloc::Global;
 
 // Stores the checkpoint, and makes the calls.

@@ -7,5 +7,4 @@ pub mod Dropping
 pub mod Adding
 pub mod AddingAddress
 pub mod Same
-pub mod SameItems
 pub mod Linking

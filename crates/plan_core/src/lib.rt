@@ -1,8 +1,6 @@
 //! Plans: the calls that lead from one network to another.
 #![tactic(auto)]
 
-// Whether two networks are one.
-mod equal;
 // What a network has, by binary search.
 mod has;
 // The whole plan.
@@ -12,5 +10,4 @@ mod put_on;
 // Rules, routes and addresses that the target hasn't.
 mod take_off;
 
-pub use equal::same_net;
 pub use phases::plan;

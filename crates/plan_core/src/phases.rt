@@ -3,10 +3,10 @@ ghost use Rattle.std.specs.Prelude.{◌≡◌, ◌≢◌, IfOk};
 ghost use Rattle.net_model.specs.Hardware.{hardware};
 ghost use Rattle.plan_model.specs.Plans.{IsPlan};
 
-use crate::equal::same_net;
 use crate::put_on::put_on;
 use crate::take_off::take_off;
 use link_planner::{Draft, link_phases};
+use net_equal::same_net;
 use net_model::{Call, Net, OutOfMemory};
 use plan_model::plan_laws;
 use std::alloc::Global;

@@ -6,11 +6,10 @@ ghost use Rattle.link_planner.specs.Drafts.{Advances};
 ghost use Rattle.plan_core.specs.Parts.{IsPartOf, HasAddress, HasAddresses, HasRoute, HasRule, EachRoute, EachRule, LinkIsFilled};
 ghost use Rattle.plan_core.specs.Steps.{MayPutOn, PutsOn};
 
-use crate::equal::same_dns;
 use crate::has::{has_address, has_route, has_rule};
 use link_planner::Draft;
+use net_equal::same_dns;
 use net_model::{Call, Link, Name, OutOfMemory, Prefix, Route, Rule};
-use std::alloc::AllocError;
 
 // The call that puts the address on, or none where it is there.
 fn address_on(draft: &Draft, name: &Name, addr: &Prefix) -> Option<Call>

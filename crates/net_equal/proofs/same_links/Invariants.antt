@@ -1,5 +1,5 @@
 use Rattle.std.proofs.Common.{◌≡◌, take}
-use Rattle.plan_core.proofs.equal.same_links.Given as goal
+use Rattle.net_equal.proofs.same_links.Given as goal
 
 abbrev pub invariant-loop-i : goal.invariant-loop-i
 invariant-loop-i l = take l.i l.a ≡ take l.i l.b

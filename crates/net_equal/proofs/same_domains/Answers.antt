@@ -1,5 +1,5 @@
 use Rattle.std.proofs.lemmas.Slice.Eq.{slice_eq-Decides, bytes_eq-Decides}
-use Rattle.plan_core.proofs.equal.same_domains.Goals as goal
+use Rattle.net_equal.proofs.same_domains.Goals as goal
 
 pub returns : goal.returns
 returns c = slice_eq-Decides bytes_eq-Decides _ _ _ c.eq.ensures

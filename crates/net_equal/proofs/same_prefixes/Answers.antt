@@ -1,6 +1,6 @@
 use Rattle.std.proofs.Common.{rules}
 use Rattle.std.proofs.lemmas.Slice.Eq.{slice_eq-Decides}
-use Rattle.plan_core.proofs.equal.same_prefixes.Goals as goal
+use Rattle.net_equal.proofs.same_prefixes.Goals as goal
 
 pub returns : goal.returns
 returns c = slice_eq-Decides (λ x y. search rules) _ _ _ c.eq.ensures

@@ -1,4 +1,6 @@
-//! Whether two networks are one, part by part.
+//! Whether two networks are one, part by part. It takes no memory.
+#![tactic(auto)]
+
 ghost use Rattle.std.specs.Prelude.{◌≡◌, ◌↔◌, IsTrue};
 
 use net_model::{Addr, BondOpts, Dns, Domain, Link, Net, Prefix, Route, Rule};
@@ -27,7 +29,8 @@ fn same_rules(a: &[Rule], b: &[Rule]) -> bool
     a == b
 }
 
-pub(crate) fn same_dns(a: &Dns, b: &Dns) -> bool
+/// Whether the settings of DNS are one, in one order.
+pub fn same_dns(a: &Dns, b: &Dns) -> bool
     ensures { IsTrue result ↔ (a.now ≡ b.now) }
 {
     same_addresses(a.servers.items(), b.servers.items())
@@ -52,7 +55,7 @@ fn same_bond(a: &BondOpts, b: &BondOpts) -> bool
     same_bond_choices(a, b) && same_bond_times(a, b)
 }
 
-fn same_place(a: &Link, b: &Link) -> bool
+fn same_tie(a: &Link, b: &Link) -> bool
     ensures { IsTrue result ↔ ((a.now.name ≡ b.now.name) × (a.now.kind ≡ b.now.kind) × (a.now.controller ≡ b.now.controller)) }
 {
     a.name == b.name && a.kind == b.kind && a.controller == b.controller
@@ -73,7 +76,7 @@ fn same_options(a: &Link, b: &Link) -> bool
 fn same_link(a: &Link, b: &Link) -> bool
     ensures { IsTrue result ↔ (a.now ≡ b.now) }
 {
-    same_place(a, b)
+    same_tie(a, b)
         && same_device(a, b)
         && same_options(a, b)
         && same_prefixes(a.addrs.items(), b.addrs.items())
@@ -125,7 +128,7 @@ fn same_routes(a: &[Route], b: &[Route]) -> bool
     true
 }
 
-/// Whether two networks are one. It takes no memory.
+/// Whether two networks are one.
 pub fn same_net(a: &Net, b: &Net) -> bool
     ensures { IsTrue result ↔ (a.now ≡ b.now) }
 {
