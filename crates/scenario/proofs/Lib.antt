@@ -1,5 +1,4 @@
 mod Draws
-mod Writable
 mod Plain
 mod Lengths
 mod Says

@@ -1,15 +1,16 @@
 -- The trees of a workload are writable.
 use Rattle.std.proofs.Common.{◌≡◌, ◌≤◌, ◌+◌, ◌*◌, ◌%◌, ℕ, List, [], ◌∷◌, ◌++◌, length, refl, sym, subst, arith}
-use Rattle.std.specs.List.{flat_map}
+use Rattle.std.specs.List.{All, flat_map}
 use Rattle.std.proofs.lemmas.List.{length-append}
+use Rattle.std.proofs.lemmas.List.Elements.{All-nil, All-cons, All-append}
 use Rattle.std.proofs.lemmas.List.FromFn.{length-map-range_with_len}
 use Rattle.doc_tree.specs.Shape.{Shape, list, shapes_of}
 use Rattle.show_core.specs.Fields.{each}
+use Rattle.show_core.proofs.lemmas.Writable.{IsWritable, IsShort, text_writable, whole_writable, truth_writable, none, one, map_writable, trees_writable, each_writable}
 use Rattle.scenario_model.specs.declared.Device.{Device}
 use Rattle.scenario_model.specs.declared.device.TheConstants.{MAX_DEVICES, VLAN_IDS}
 use Rattle.scenario_model.specs.Draws.{device, devices}
 use Rattle.scenario_model.specs.Trees.{device_tree, hardware_tree, address_tree, ipv4_tree, vlan_tree, routed_tree, bridged_tree, port_tree, bridge_tree, vlans, route_tree, rule_tree, config, first_tree, raised_tree, renumbered_tree, changes, second_tree, base_name, IsPlain}
-use Rattle.scenario.proofs.Writable.{IsWritable, IsShort, text_writable, whole_writable, truth_writable, none, one, map_writable, AllWritable, both_writable, flat_writable, list_writable, each_writable}
 
 -- what is writable at all levels that there may be is plain
 plain_of : (s : Shape) → IsWritable 32 s → IsPlain s
@@ -19,6 +20,17 @@ plain_of s is = record { distinct = is.distinct; depth = is.depth; short = is.sh
 two_each : (f : Device → List Shape) → ((d : Device) → length (f d) ≡ 2) → (ds : List Device) → length (flat_map f ds) ≡ 2 * length ds
 two_each f is [] = refl
 two_each f is (d ∷ ds) = omega (arith, length-append (f d) (flat_map f ds), is d, two_each f is ds)
+
+one_each : {n : ℕ} (s : Shape) → IsWritable n s → All (IsWritable n) (s ∷ [])
+one_each {n} s is = All-cons (IsWritable n) s [] is (All-nil (IsWritable n))
+
+both_each : {n : ℕ} (s t : Shape) → IsWritable n s → IsWritable n t → All (IsWritable n) (s ∷ t ∷ [])
+both_each {n} s t is also = All-cons (IsWritable n) s (t ∷ []) is (one_each t also)
+
+-- those that belong to each of a list
+flat_writable : (n : ℕ) (f : Device → List Shape) → ((d : Device) → All (IsWritable n) (f d)) → (ds : List Device) → All (IsWritable n) (flat_map f ds)
+flat_writable n f is [] = All-nil (IsWritable n)
+flat_writable n f is (d ∷ ds) = All-append (IsWritable n) (f d) (flat_map f ds) (is d) (flat_writable n f is ds)
 
 device_writable : (d : Device) → IsWritable 30 (device_tree d)
 device_writable d = map_writable (one text_writable (one text_writable none)) refl
@@ -74,8 +86,10 @@ module _ (ds : List Device) (few : length ds ≤ MAX_DEVICES) where
   interfaces_short = omega (arith, few, two_each vlans (λ d. refl) ds, length-append (flat_map vlans ds) (bridge_tree ds ∷ []))
 
   interfaces_writable : IsWritable 31 (list (shapes_of (flat_map vlans ds ++ bridge_tree ds ∷ [])))
-  interfaces_writable = list_writable 30 (flat_map vlans ds ++ bridge_tree ds ∷ []) interfaces_short
-      (both_writable 30 (flat_map vlans ds) (bridge_tree ds ∷ []) (flat_writable 30 vlans (λ d. (routed_writable d, (bridged_writable d, tt))) ds) (bridge_writable, tt))
+  interfaces_writable = trees_writable 30 (flat_map vlans ds ++ bridge_tree ds ∷ []) interfaces_short
+      (All-append (IsWritable 30) (flat_map vlans ds) (bridge_tree ds ∷ [])
+      (flat_writable 30 vlans (λ d. both_each (routed_tree d) (bridged_tree d) (routed_writable d) (bridged_writable d)) ds)
+      (one_each (bridge_tree ds) bridge_writable))
 
   pub first_plain : IsPlain (first_tree ds)
   first_plain = plain_of (first_tree ds) (map_writable
@@ -88,7 +102,8 @@ module _ (ds : List Device) (few : length ds ≤ MAX_DEVICES) where
 
   pub second_plain : IsPlain (second_tree ds)
   second_plain = plain_of (second_tree ds) (map_writable
-      (one (list_writable 30 (flat_map changes ds) changes_short (flat_writable 30 changes (λ d. (raised_writable d, (renumbered_writable d, tt))) ds)) none) refl)
+      (one (trees_writable 30 (flat_map changes ds) changes_short
+      (flat_writable 30 changes (λ d. both_each (raised_tree d) (renumbered_tree d) (raised_writable d) (renumbered_writable d)) ds)) none) refl)
 
 -- so many devices as were asked for
 pub device_count : (seed n : ℕ) → length (devices seed n) ≡ n

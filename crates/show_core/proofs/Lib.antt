@@ -1,3 +1,2 @@
-pub mod Writable
-pub mod LinkTrees
-pub mod NetTrees
+pub mod lemmas
+mod Returned

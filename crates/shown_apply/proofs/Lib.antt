@@ -1,7 +1,7 @@
 pub mod Low
 pub mod Words
 pub mod YamlLow
-pub mod Writable
+pub mod Simple
 pub mod LinkTrees
 pub mod NetTrees
 pub mod ReadAgain

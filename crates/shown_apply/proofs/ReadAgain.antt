@@ -8,12 +8,14 @@ use Rattle.doc_tree.specs.Shape.{Shape, is_distinct, levels}
 use Rattle.doc_tree.specs.Integers.{integers_fit}
 use Rattle.doc_tree.specs.declared.limits.TheConstants.{MAX_BYTES, MAX_LEVELS}
 use Rattle.net_model.specs.NetData.{NetData, IsNet}
+use Rattle.net_model.proofs.lemmas.FactsHold.{facts}
 use Rattle.net_search.specs.Ranges.{Ranges}
 use Rattle.yaml_read.specs.Reading.{reading}
 use Rattle.yaml_read.specs.Standing.{StandsFor}
 use Rattle.yaml_text.specs.Layout.{is_filled_map, yaml_text_of}
 use Rattle.yaml_text.specs.Scalars.{is_plain, is_control, in_double_quotes, in_single_quotes, printed}
 use Rattle.show_core.specs.Network.{whole_tree}
+use Rattle.show_core.proofs.lemmas.NetTrees.{all_writable}
 use Rattle.merge_model.specs.MergedNet.{unless_refused, merge}
 use Rattle.top_model.specs.Orders.{begins_json, tree_of, document, document_of_tree, and_then, with_fault}
 use Rattle.top_model.specs.declared.report.Cause.{Cause}
@@ -24,7 +26,7 @@ use Rattle.shown_merge.specs.Laws.{MergesToItself}
 use Rattle.shown_apply.specs.Laws.{state_text, ReadsAsShown, ShownIsSame, ChangesNothing}
 use Rattle.shown_apply.proofs.Low.{low_ascii, simple_fits}
 use Rattle.shown_apply.proofs.YamlLow.{map_text_low}
-use Rattle.shown_apply.proofs.NetTrees.{whole_writable}
+use Rattle.shown_apply.proofs.NetTrees.{whole_simple}
 
 -- however the first key is quoted, the text begins with no bracket
 first_by : (t u : Bool) (behind line rest : List ℕ)
@@ -66,15 +68,16 @@ module _
     (read : (bytes : List ℕ) (t : Shape) → length bytes ≤ MAX_BYTES → IsUtf8 bytes → StandsFor bytes t → reading bytes ≡ Ok t)
     (answers : AnswersAsShown) where
   -- the text of the whole tree is read as that tree
-  yaml_reads : (net : NetData) → Ranges net → length (yaml_text_of (whole_tree net)) ≤ MAX_BYTES → reading (yaml_text_of (whole_tree net)) ≡ Ok (whole_tree net)
-  yaml_reads net ranges within =
+  yaml_reads : (net : NetData) → IsNet net → Ranges net → length (yaml_text_of (whole_tree net)) ≤ MAX_BYTES → reading (yaml_text_of (whole_tree net)) ≡ Ok (whole_tree net)
+  yaml_reads net is ranges within =
       let tree = whole_tree net in
-      let is = whole_writable net ranges in
-      let ascii = low_ascii (yaml_text_of tree) (map_text_low _ is.simple) in
-      read (yaml_text_of tree) tree within (IsUtf8-from_ascii (yaml_text_of tree) ascii) (stands tree refl is.distinct (simple_fits tree is.simple) (omega (arith, is.depth)))
+      let writable = all_writable net (facts net is) in
+      let simple = whole_simple net ranges in
+      let ascii = low_ascii (yaml_text_of tree) (map_text_low _ simple) in
+      read (yaml_text_of tree) tree within (IsUtf8-from_ascii (yaml_text_of tree) ascii) (stands tree refl writable.distinct (simple_fits tree simple) (omega (arith, writable.depth)))
 
   -- and so as the document that it shows
   pub yaml_shown : ReadsAsShown state_text
   yaml_shown net is ranges printable within =
       let bytes = yaml_text_of (whole_tree net) in
-      known_tree bytes (whole_tree net) (shown_doc net) (yaml_tree bytes (whole_tree net) (yaml_first net) (yaml_reads net ranges within)) (answers net is ranges printable)
+      known_tree bytes (whole_tree net) (shown_doc net) (yaml_tree bytes (whole_tree net) (yaml_first net) (yaml_reads net is ranges within)) (answers net is ranges printable)

@@ -8,6 +8,7 @@ use Rattle.doc_tree.specs.JsonTree.{json_tree}
 use Rattle.doc_tree.specs.declared.limits.TheConstants.{MAX_BYTES}
 use Rattle.doc_tree.proofs.lemmas.Lines.{json_line}
 use Rattle.net_model.specs.NetData.{NetData, IsNet}
+use Rattle.net_model.proofs.lemmas.FactsHold.{facts}
 use Rattle.net_search.specs.Ranges.{Ranges}
 use Rattle.tree_schema.specs.Reading.{Steps, Reading, given}
 use Rattle.tree_schema.specs.Faults.{told}
@@ -15,13 +16,14 @@ use Rattle.route_schema.specs.Document.{document as read_document, doc}
 use Rattle.order_laws.specs.Alike.{AreAlike}
 use Rattle.order_laws.specs.Reordered.{IsReordered}
 use Rattle.show_core.specs.Network.{whole_tree}
+use Rattle.show_core.proofs.lemmas.NetTrees.{all_writable}
 use Rattle.top_model.specs.Orders.{tree_of}
 use Rattle.shown_model.specs.Shown.{shown_doc}
 use Rattle.shown_model.specs.Printable.{IsPrintable}
 use Rattle.shown_reading.specs.Laws.{ReadsAllAsShown, AnswersAsShown}
 use Rattle.shown_apply.specs.Laws.{state_line, ReadsAsShown}
 use Rattle.shown_apply.proofs.Low.{simple_numbers, simple_utf8}
-use Rattle.shown_apply.proofs.NetTrees.{whole_writable}
+use Rattle.shown_apply.proofs.NetTrees.{whole_simple}
 use Rattle.shown_apply.proofs.ReadAgain.{known_tree}
 
 -- the line begins as JSON does
@@ -43,11 +45,12 @@ same_reading : {X : Type 0} (x : X) (r s : Reading X) → r ≡ given x → AreA
 same_reading x r s there alike = alike_given x s (subst (λ q. AreAlike q s) there alike) ∙ sym there
 
 -- the line of the whole tree is read as that tree in order
-line_reads : (net : NetData) → Ranges net → length (state_line net) ≤ MAX_BYTES → json_tree (state_line net) ≡ Ok (in_order (whole_tree net))
-line_reads net ranges within =
+line_reads : (net : NetData) → IsNet net → Ranges net → length (state_line net) ≤ MAX_BYTES → json_tree (state_line net) ≡ Ok (in_order (whole_tree net))
+line_reads net is ranges within =
     let tree = whole_tree net in
-    let is = whole_writable net ranges in
-    json_line tree is.distinct (simple_numbers tree is.simple) (simple_utf8 tree is.simple) (omega (arith, is.depth)) within
+    let writable = all_writable net (facts net is) in
+    let simple = whole_simple net ranges in
+    json_line tree writable.distinct (simple_numbers tree simple) (simple_utf8 tree simple) (omega (arith, writable.depth)) within
 
 module _
     (sorted : (s : Shape) → is_distinct s ≡ true → IsReordered s (in_order s))
@@ -58,9 +61,9 @@ module _
   same_document : (net : NetData) → IsNet net → Ranges net → IsPrintable net → read_document (in_order (whole_tree net)) ≡ read_document (whole_tree net)
   same_document net is ranges printable =
       let tree = whole_tree net in
-      same_reading _ (read_document tree) (read_document (in_order tree)) (whole net is ranges printable) (alike tree (in_order tree) (sorted tree (whole_writable net ranges).distinct))
+      same_reading _ (read_document tree) (read_document (in_order tree)) (whole net is ranges printable) (alike tree (in_order tree) (sorted tree (all_writable net (facts net is)).distinct))
 
   pub line_shown : ReadsAsShown state_line
   line_shown net is ranges printable within =
-      known_tree (state_line net) (in_order (whole_tree net)) (shown_doc net) (json_tree_of net (in_order (whole_tree net)) (line_reads net ranges within))
+      known_tree (state_line net) (in_order (whole_tree net)) (shown_doc net) (json_tree_of net (in_order (whole_tree net)) (line_reads net is ranges within))
       (ap (told doc) (same_document net is ranges printable) ∙ answers net is ranges printable)

@@ -1,6 +1,6 @@
 -- What a caller may write, by the laws of the network.
 use Rattle.std.specs.Prelude.{None, Some}
-use Rattle.show_core.proofs.NetTrees.{returned_distinct, returned_short, returned_depth}
+use Rattle.show_core.proofs.Returned.{returned_distinct, returned_short, returned_depth}
 use Rattle.show_core.proofs.network.tree_of_net.Goals as goal
 
 pub returns-in-None-clause-distinct : goal.returns-in-None-clause-distinct

@@ -1,12 +1,12 @@
--- What the writers of JSON and YAML ask of a tree, and that maps and lists of such trees have it.
+-- What the writers and readers of documents ask of a tree, and that maps and lists of such trees have it.
 use Rattle.std.proofs.Common.{◌≡◌, ◌<◌, ◌^◌, ◌≤◌, ℕ, suc, ℤ, List, [], ◌∷◌, ◌++◌, length, append_assoc, map, Bool, true, false, not, Option, Some, None, refl, sym, subst, arith}
 use Rattle.std.specs.Prelude.{◌&&◌, bytes_eq}
 use Rattle.std.specs.List.{All, list_any}
 use Rattle.std.proofs.lemmas.Bool.{and_from, and_parts, or_parts, not-true, not_from_false, lt-ltb}
-use Rattle.std.proofs.lemmas.List.{append-nil}
-use Rattle.std.proofs.lemmas.List.Elements.{All-head, All-tail}
-use Rattle.doc_tree.specs.Shape.{Shape, truth, whole, text, mapping, Pairs, no_pairs, pair, shapes_of, pairs_of, lacks, is_distinct, shapes_are_distinct, pairs_are_distinct, levels, shapes_levels, pairs_levels, item_count, has_short_lists, shapes_have_short_lists, pairs_have_short_lists}
-use Rattle.doc_tree.proofs.lemmas.Trees.{item_count-map}
+use Rattle.std.proofs.lemmas.List.{append-nil, length-map}
+use Rattle.std.proofs.lemmas.List.Elements.{All-head, All-tail, All-map}
+use Rattle.doc_tree.specs.Shape.{Shape, truth, whole, text, list, mapping, Pairs, no_pairs, pair, shapes_of, pairs_of, lacks, is_distinct, shapes_are_distinct, pairs_are_distinct, levels, shapes_levels, pairs_levels, item_count, has_short_lists, shapes_have_short_lists, pairs_have_short_lists}
+use Rattle.doc_tree.proofs.lemmas.Trees.{item_count-shapes_of}
 use Rattle.net_model.specs.Words.{apart}
 use Rattle.show_core.specs.Fields.{Fields, fields, field, field_of, fields_if, each}
 
@@ -113,20 +113,23 @@ fields_writable {n} {ks} {fs} adds differ =
 abbrev pub IsShort : {X : Type 0} → List X → Type 0
 IsShort xs = length xs < 2 ^ 31
 
-items_writable : {X : Type 0} (n : ℕ) (tree : X → Shape) (xs : List X) → All (λ x. IsWritable n (tree x)) xs
-    → (shapes_are_distinct (shapes_of (map tree xs)) ≡ true) × (shapes_levels (shapes_of (map tree xs)) ≤ n) × (shapes_have_short_lists (shapes_of (map tree xs)) ≡ true)
-items_writable n tree [] all = (refl, omega arith, refl)
-items_writable n tree (x ∷ xs) all =
-    let first = All-head (λ y. IsWritable n (tree y)) x xs all in
-    let rest = items_writable n tree xs (All-tail (λ y. IsWritable n (tree y)) x xs all) in
-    (and_from (is_distinct (tree x)) (shapes_are_distinct (shapes_of (map tree xs))) first.distinct rest.0, omega (arith, first.depth, rest.1), and_from (has_short_lists (tree x)) (shapes_have_short_lists (shapes_of (map tree xs))) first.short rest.2)
+items_writable : (n : ℕ) (ss : List Shape) → All (IsWritable n) ss → (shapes_are_distinct (shapes_of ss) ≡ true) × (shapes_levels (shapes_of ss) ≤ n) × (shapes_have_short_lists (shapes_of ss) ≡ true)
+items_writable n [] all = (refl, omega arith, refl)
+items_writable n (s ∷ ss) all =
+    let first = All-head (IsWritable n) s ss all in
+    let rest = items_writable n ss (All-tail (IsWritable n) s ss all) in
+    (and_from (is_distinct s) (shapes_are_distinct (shapes_of ss)) first.distinct rest.0, omega (arith, first.depth, rest.1), and_from (has_short_lists s) (shapes_have_short_lists (shapes_of ss)) first.short rest.2)
 
--- a short list of which each item is writable
+-- a short list of writable trees
+pub trees_writable : (n : ℕ) (ss : List Shape) → IsShort ss → All (IsWritable n) ss → IsWritable (suc n) (list (shapes_of ss))
+trees_writable n ss few all =
+    let parts = items_writable n ss all in
+    let count = lt-ltb (item_count (shapes_of ss)) (2 ^ 31) (omega (arith, item_count-shapes_of ss, few)) in
+    record { distinct = parts.0; depth = omega (arith, parts.1); short = and_from _ (shapes_have_short_lists (shapes_of ss)) count parts.2 }
+
+-- a short list of which each item's tree is writable
 pub list_writable : {X : Type 0} (n : ℕ) (tree : X → Shape) (xs : List X) → IsShort xs → All (λ x. IsWritable n (tree x)) xs → IsWritable (suc n) (each tree xs)
-list_writable n tree xs few all =
-    let parts = items_writable n tree xs all in
-    let count = lt-ltb (item_count (shapes_of (map tree xs))) (2 ^ 31) (omega (arith, item_count-map tree xs, few)) in
-    record { distinct = parts.0; depth = omega (arith, parts.1); short = and_from _ (shapes_have_short_lists (shapes_of (map tree xs))) count parts.2 }
+list_writable n tree xs few all = trees_writable n (map tree xs) (omega (arith, length-map xs tree, few)) (All-map (IsWritable n) tree xs all)
 
 -- a short list of whatever items, where the tree of any item is writable
 pub each_writable : {X : Type 0} (n : ℕ) (tree : X → Shape) (xs : List X) → IsShort xs → ((x : X) → IsWritable n (tree x)) → IsWritable (suc n) (each tree xs)

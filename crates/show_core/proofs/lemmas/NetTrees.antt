@@ -1,13 +1,10 @@
 -- The tree of a network is writable. It has at most 7 levels: the whole, the list of links, a link, the section of a
 -- bridge, its options, those of STP, and each of these.
-use Rattle.std.proofs.Common.{◌≡◌, ◌≤◌, ℕ, List, [], ◌∷◌, true, Option, Some, None, Result, refl, sym, subst, arith}
-use Rattle.std.specs.Prelude.{pos, not, IfOk, ◌&&◌, ◌==◌, codes, filter, slice_index_or}
+use Rattle.std.proofs.Common.{ℕ, List, [], ◌∷◌, Option, Some, None, refl, arith}
+use Rattle.std.specs.Prelude.{pos, not, ◌&&◌, ◌==◌, codes, filter, slice_index_or}
 use Rattle.std.specs.List.{All}
 use Rattle.std.proofs.lemmas.List.Elements.{All-filter}
-use Rattle.std.proofs.lemmas.Result.{IfOk-weaker}
-use Rattle.doc_tree.specs.Shape.{Shape, shape, text, is_distinct, has_short_lists, levels}
-use Rattle.doc_tree.specs.declared.limits.TheConstants.{MAX_LEVELS}
-use Rattle.doc_tree.specs.declared.tree.Tree.{Tree}
+use Rattle.doc_tree.specs.Shape.{Shape, text}
 use Rattle.net_model.specs.Facts.{Facts}
 use Rattle.net_model.specs.Links.{is_named}
 use Rattle.net_model.specs.NetData.{NetData}
@@ -21,8 +18,8 @@ use Rattle.net_text.specs.Line.{family_word}
 use Rattle.show_core.specs.Fields.{each, address, prefix}
 use Rattle.show_core.specs.Links.{link_tree}
 use Rattle.show_core.specs.Network.{route_tree, target_fields, mark_fields, rule_tree, dns_tree, running, whole_tree, named_tree, network_tree}
-use Rattle.show_core.proofs.Writable.{IsWritable, IsShort, AddsKeys, text_writable, whole_writable, none, skip, one, key, key_of, keys_if, keys_then, map_writable, fields_writable, list_writable, each_writable}
-use Rattle.show_core.proofs.LinkTrees.{filter_short, link_writable}
+use Rattle.show_core.proofs.lemmas.Writable.{IsWritable, IsShort, AddsKeys, text_writable, whole_writable, none, skip, one, key, key_of, keys_if, keys_then, map_writable, fields_writable, list_writable, each_writable}
+use Rattle.show_core.proofs.lemmas.LinkTrees.{filter_short, link_writable}
 
 route_writable : (r : Route) → IsWritable 4 (route_tree r)
 route_writable r =
@@ -74,7 +71,8 @@ module _ (net : NetData) (facts : Facts net) where
       let of_link = facts.link l.name l (facts.link_at i d lt) in
       link_writable net.links links_short l (omega (arith, of_link.few_addresses))
 
-  all_writable : IsWritable 7 (whole_tree net)
+  -- the whole tree
+  pub all_writable : IsWritable 7 (whole_tree net)
   all_writable =
       let dns = running_writable (dns_tree net.dns) (dns_writable net.dns (omega (arith, facts.few_servers)) (omega (arith, facts.few_searched))) in
       let rules = each_writable 4 rule_tree net.rules (omega (arith, facts.few_rules)) rule_writable in
@@ -88,23 +86,7 @@ module _ (net : NetData) (facts : Facts net) where
       let links = list_writable 5 (link_tree net.links) (filter (is_named name) net.links) (filter_short (is_named name) net.links links_short) found in
       map_writable (one links none) refl
 
-  network_writable : (only : Option (List ℕ)) → IsWritable 7 (network_tree net only)
+  -- the whole tree, or that of a link's name
+  pub network_writable : (only : Option (List ℕ)) → IsWritable 7 (network_tree net only)
   network_writable None = all_writable
   network_writable (Some name) = named_writable name
-
-  -- ---- where a call returns that tree
-  module _ {E : Type 0} (only : Option (List ℕ)) (r : Result Tree E) (made : IfOk r (λ tree. shape tree ≡ network_tree net only)) where
-    returned : (P : Shape → Type 0) → (IsWritable 7 (network_tree net only) → P (network_tree net only)) → IfOk r (λ tree. P (shape tree))
-    returned P is = IfOk-weaker r (λ tree. shape tree ≡ network_tree net only) (λ tree. P (shape tree)) (λ tree e. subst P (sym e) (is (network_writable only))) made
-
-    -- its keys differ
-    pub returned_distinct : IfOk r (λ tree. is_distinct (shape tree) ≡ true)
-    returned_distinct = returned (λ s. is_distinct s ≡ true) (λ is. is.distinct)
-
-    -- its lists are short
-    pub returned_short : IfOk r (λ tree. has_short_lists (shape tree) ≡ true)
-    returned_short = returned (λ s. has_short_lists s ≡ true) (λ is. is.short)
-
-    -- it has no more levels than a document may
-    pub returned_depth : IfOk r (λ tree. levels (shape tree) ≤ MAX_LEVELS)
-    returned_depth = returned (λ s. levels s ≤ MAX_LEVELS) (λ is. omega (arith, is.depth))

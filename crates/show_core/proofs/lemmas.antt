@@ -1,0 +1,3 @@
+pub mod Writable
+pub mod LinkTrees
+pub mod NetTrees
