@@ -1,5 +1,4 @@
 pub mod Cuts
-pub mod Addresses
 pub mod Graphic
 pub mod Spelled
 pub mod Parsed

@@ -32,7 +32,7 @@ use Rattle.net_search.specs.Ranges.{NameRanges, DomainRanges, MacRanges, TableRa
 use Rattle.net_text.specs.AddrText.{addr_text, prefix_text, prefix_of, addr_of}
 use Rattle.net_text.specs.Line.{mode_word, rate_word, policy_word, bool_word, family_word, target_word, name_or_dash, prefix_or_dash}
 use Rattle.net_text.specs.Words.{word_in, actions}
-use Rattle.ip_batch.proofs.Addresses.{addr_text-reads, prefix_text-reads, hardware_complete}
+use Rattle.net_text.proofs.lemmas.Addresses.{addr_text-reads, prefix_text-reads, hardware_complete}
 use Rattle.net_text.proofs.lemmas.Words.{modes_exact, rates_exact, policies_exact, booleans_exact, families_exact}
 use Rattle.ip_batch.specs.Spelling.{Text, tag_word}
 use Rattle.ip_batch.specs.Pieces.{given, items_in, onto_read, each_read}

@@ -21,6 +21,7 @@ use Rattle.net_model.specs.declared.limits.TheConstants.{MAX_NAME_LEN, MAX_DOMAI
 use Rattle.net_model.specs.declared.mac.Mac.{Mac}
 use Rattle.net_search.specs.Ranges.{IsU8, NameRanges, DomainRanges, MacRanges}
 use Rattle.net_text.specs.AddrText.{addr_text, prefix_text}
+use Rattle.net_text.proofs.lemmas.Addresses.{max_len_small}
 use Rattle.shown_apply.proofs.Low.{low, both_low, more_low, ascii_low, low_by}
 
 -- ---- names and domains
@@ -120,10 +121,6 @@ of_family_low false bits lt = dotted_low bits lt
 -- an address
 pub addr_low : (a : Address) → IsAddress a → low (addr_text a) ≡ true
 addr_low a is = of_family_low a.v6 a.bits is
-
-max_len_small : (v6 : Bool) → max_len v6 < 256
-max_len_small true = omega arith
-max_len_small false = omega arith
 
 -- the length of a prefix has 32 bits
 pub prefix_len_narrow : (b : Block) → IsPrefix b → b.len < 2 ^ 32

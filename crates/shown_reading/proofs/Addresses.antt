@@ -9,6 +9,7 @@ use Rattle.net_model.specs.OnLink.{is_link_local}
 use Rattle.net_model.specs.Words.{bool_eq, is_empty}
 use Rattle.net_search.specs.Ranges.{PrefixRanges}
 use Rattle.net_text.specs.AddrText.{addr_text}
+use Rattle.net_text.proofs.lemmas.Addresses.{addr_text-reads}
 use Rattle.document_model.specs.Entries.{is_own}
 use Rattle.doc_tree.specs.Shape.{truth, text, list, Shapes, shapes_of}
 use Rattle.show_core.specs.Fields.{fields, field, each}
@@ -22,7 +23,6 @@ use Rattle.link_schema.specs.Ip.{address_table, no_address, address_of, is_link_
 use Rattle.shown_model.specs.Shown.{shown_ip}
 use Rattle.shown_reading.proofs.Lists.{all_kept}
 use Rattle.shown_reading.proofs.Steps.{list_itself}
-use Rattle.shown_reading.proofs.Texts.{addr_reads}
 use Rattle.shown_reading.proofs.Values.{number_reads, formed_reads, passing_reads}
 
 -- two booleans that are tested to be the same
@@ -36,11 +36,11 @@ same_bool false false h = refl
 own_reads : (v6 : Bool) (a : Address) → IsAddress a → bool_eq a.v6 v6 ≡ true → is_link_local a ≡ false → own_address v6 (show.address a) ≡ Ok a
 own_reads v6 a fits family far =
     let own : is_own v6 a ≡ true = and_from (bool_eq a.v6 v6) (not (is_link_local a)) family (not_from_false (is_link_local a) far) in
-    formed_reads (own_address_from v6) (addr_text a) a (ap (option_and_then (passing (is_own v6))) (addr_reads a fits) ∙ passing_reads (is_own v6) a own)
+    formed_reads (own_address_from v6) (addr_text a) a (ap (option_and_then (passing (is_own v6))) (addr_text-reads a fits) ∙ passing_reads (is_own v6) a own)
 
 not_local : (a : Address) → IsAddress a → is_link_local a ≡ false → is_link_local_text (addr_text a) ≡ false
 unfolding is_link_local_text
-not_local a fits far = ap (λ o. option_map_or is_link_local o false) (addr_reads a fits) ∙ far
+not_local a fits far = ap (λ o. option_map_or is_link_local o false) (addr_text-reads a fits) ∙ far
 
 -- an address entry by what its two values are read as
 entry_reads : (v6 : Bool) (t : List ℕ) (n : ℕ) (a : Address) → own_address v6 (text t) ≡ Ok a → number 0 (max_len v6) (show.number n) ≡ Ok n

@@ -6,20 +6,20 @@ use Rattle.net_model.specs.Address.{Address, Block, address, block, block_size, 
 use Rattle.net_model.specs.Name.{is_name}
 use Rattle.net_search.specs.Ranges.{TableRanges, SubnetRanges}
 use Rattle.net_text.specs.AddrText.{addr_text, prefix_text, addr_of}
+use Rattle.net_text.proofs.lemmas.Addresses.{addr_text-reads, prefix_text-reads}
 use Rattle.doc_tree.specs.Shape.{text}
 use Rattle.show_core.specs.Fields as show
 use Rattle.tree_schema.specs.declared.Reason.TheVariants.{OutOfRange}
 use Rattle.tree_schema.specs.Values.{and_if, name, mark, unless_empty}
 use Rattle.route_schema.specs.Words.{subnet_from, subnet, table}
 use Rattle.route_schema.specs.Words as schema
-use Rattle.shown_reading.proofs.Texts.{addr_reads, prefix_reads}
 use Rattle.shown_reading.proofs.Values.{u32_reads, formed_reads, name_reads, stated_reads}
 
 -- ---- addresses and prefixes
 
 -- the text of an address is read as it
 pub address_reads : (a : Address) → IsAddress a → schema.address (show.address a) ≡ Ok a
-address_reads a h = formed_reads addr_of (addr_text a) a (addr_reads a h)
+address_reads a h = formed_reads addr_of (addr_text a) a (addr_text-reads a h)
 
 -- the same where it may be left out
 pub gateway_reads : (a : Address) → IsAddress a → unless_empty schema.address (show.address a) ≡ Ok (Some a)
@@ -34,7 +34,7 @@ own_subnet b r = ap (λ n. block (address b.addr.v6 n) b.len) (less_nothing b.ad
 
 -- the text of a subnet is read as it
 pub subnet_reads : (b : Block) → SubnetRanges b → subnet (show.prefix b) ≡ Ok b
-subnet_reads b r = formed_reads subnet_from (prefix_text b) b (ap (option_map subnet_of) (prefix_reads b r.addr r.subnet.within) ∙ ap Some (own_subnet b r))
+subnet_reads b r = formed_reads subnet_from (prefix_text b) b (ap (option_map subnet_of) (prefix_text-reads b r.addr r.subnet.within) ∙ ap Some (own_subnet b r))
 
 -- the same where it may be left out
 pub source_reads : (b : Block) → SubnetRanges b → unless_empty subnet (show.prefix b) ≡ Ok (Some b)

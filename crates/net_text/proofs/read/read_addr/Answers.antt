@@ -1,5 +1,5 @@
 use Rattle.std.proofs.Common.{sym, ◌∙◌}
-use Rattle.net_text.proofs.AddrLaws.{addr_sound, addr_complete}
+use Rattle.net_text.proofs.lemmas.Addresses.{addr_sound, addr_complete}
 use Rattle.net_text.proofs.read.read_addr.Goals as goal
 
 pub returns-clause-exact : goal.returns-clause-exact

@@ -1,5 +1,5 @@
 use Rattle.std.proofs.Common.{sym, ◌∙◌}
-use Rattle.net_text.proofs.AddrLaws.{hardware_sound, hardware_complete}
+use Rattle.net_text.proofs.lemmas.Addresses.{hardware_sound, hardware_complete}
 use Rattle.net_text.proofs.read.read_mac.Goals as goal
 
 pub returns-clause-exact : goal.returns-clause-exact

@@ -1,5 +1,5 @@
 use Rattle.std.proofs.Common.{sym, ◌∙◌}
-use Rattle.net_text.proofs.AddrLaws.{prefix_sound, prefix_complete}
+use Rattle.net_text.proofs.lemmas.Addresses.{prefix_sound, prefix_complete}
 use Rattle.net_text.proofs.read.read_prefix.Goals as goal
 
 pub returns-clause-exact : goal.returns-clause-exact

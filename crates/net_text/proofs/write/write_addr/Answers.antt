@@ -1,4 +1,4 @@
-use Rattle.net_text.proofs.AddrLaws.{addr_text-reads}
+use Rattle.net_text.proofs.lemmas.Addresses.{addr_text-reads}
 use Rattle.net_text.proofs.write.write_addr.Goals as goal
 
 pub returns-in_err-push_addr-clause-reads_back : goal.returns-in_err-push_addr-clause-reads_back

@@ -1,5 +1,5 @@
 use Rattle.addr_text.specs.Mac.{mac_text}
-use Rattle.net_text.proofs.AddrLaws.{hardware_complete}
+use Rattle.net_text.proofs.lemmas.Addresses.{hardware_complete}
 use Rattle.net_text.proofs.write.write_mac.Goals as goal
 
 pub returns-in_err-push_mac-clause-reads_back : goal.returns-in_err-push_mac-clause-reads_back

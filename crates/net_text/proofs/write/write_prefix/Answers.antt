@@ -1,4 +1,4 @@
-use Rattle.net_text.proofs.AddrLaws.{prefix_text-reads}
+use Rattle.net_text.proofs.lemmas.Addresses.{prefix_text-reads}
 use Rattle.net_text.proofs.write.write_prefix.Goals as goal
 
 pub returns-in_err-push_prefix-clause-reads_back : goal.returns-in_err-push_prefix-clause-reads_back

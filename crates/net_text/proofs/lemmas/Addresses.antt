@@ -1,4 +1,4 @@
--- Addresses and prefixes are read exactly by their grammar, and what is written is read again.
+-- Addresses, prefixes and MAC addresses are read exactly by their grammar, and what is written is read again.
 use Rattle.std.proofs.Common.{◌≡◌, ℕ, ◌+◌, ◌<◌, ◌≤◌, ◌^◌, ◌==◌, Bool, true, false, nat_le, List, ◌∷◌, ◌++◌, Option, Some, None, length, take, drop, refl, ap, sym, ◌∙◌, subst, arith, inl, inr}
 use Rattle.std.proofs.lemmas.Bool.{cond-true, le-leb, leb-true}
 use Rattle.std.specs.Fmt.{decimal}
@@ -22,6 +22,7 @@ use Rattle.addr_text.proofs.lemmas.Split.{lacks, position-front, position-lacks,
 use Rattle.addr_text.proofs.lemmas.Written.{v6_text-reads}
 use Rattle.net_text.specs.AddrText.{hardware, hardware_of, addr_text, prefix_text, addr_of, prefix_of, whole, with_length, IsTextOf, IsAddrText, IsPrefixText}
 
+-- a text that is read as an address is one of its texts
 pub addr_sound : (t : List ℕ) (a : Address) → addr_of t ≡ Some a → IsAddrText t a
 addr_sound t a h =
     elim (placed_or_none (dotted_of t) (option_map (address true) (v6_of t)) (λ n. Some (address false n)) (Some a) h) [
@@ -48,6 +49,7 @@ text_complete true t bits h =
     ap (λ o. at_place o (option_map (address true) (v6_of t)) (λ n. Some (address false n))) (v6_not_dotted t bits (dotted_of t) refl e)
     ∙ ap (option_map (address true)) e
 
+-- and each of its texts is read as it
 pub addr_complete : (t : List ℕ) (a : Address) → IsAddrText t a → addr_of t ≡ Some a
 addr_complete t a h = text_complete a.v6 t a.bits h
 
@@ -74,6 +76,7 @@ lengthened (Some a) (Some n) b h =
 with_text : (t front back : List ℕ) (a : Address) (n : ℕ) → front ++ 47 ∷ back ≡ t → IsAddrText front a → back ≡ decimal n → n ≤ max_len a.v6 → IsPrefixText t (block a n)
 with_text t front back a n e h d w = inl (record { front = front; written = sym e ∙ ap (λ u. front ++ 47 ∷ u) d; address = h; within = w })
 
+-- a text that is read as a prefix is one of its texts
 pub prefix_sound : (t : List ℕ) (b : Block) → prefix_of t ≡ Some b → IsPrefixText t b
 prefix_sound t b h =
     elim (placed_or_none (position (λ c. c == 47) t) (option_map whole (addr_of t)) (λ i. with_length (addr_of (take i t)) (octet_of (drop (i + 1) t))) (Some b) h) [
@@ -86,7 +89,8 @@ prefix_sound t b h =
           subst (IsPrefixText t) l.made (with_text t (take p.place t) (drop (p.place + 1) t) l.item l.number (split-at 47 t p.place p.found) (addr_sound (take p.place t) l.item l.addr_is) d.1 l.within)
     ]
 
-max_len_small : (v6 : Bool) → max_len v6 < 256
+-- a prefix length is below 256
+pub max_len_small : (v6 : Bool) → max_len v6 < 256
 max_len_small true = omega arith
 max_len_small false = omega arith
 
@@ -108,6 +112,7 @@ alone_complete t a n h e =
     ∙ ap (option_map whole) (addr_complete t a h)
     ∙ ap (λ m. Some (block a m)) (sym e)
 
+-- and each of its texts is read as it
 pub prefix_complete : (t : List ℕ) (b : Block) → IsPrefixText t b → prefix_of t ≡ Some b
 prefix_complete t b (inl r) = length_complete t r.front b.addr b.len r.written r.address r.within
 prefix_complete t b (inr h) = alone_complete t b.addr b.len h.0 h.1
@@ -116,17 +121,20 @@ written_text : (v6 : Bool) (bits : ℕ) → bits < 2 ^ max_len v6 → IsTextOf v
 written_text false bits h = (h, refl)
 written_text true bits h = v6_text-reads bits h
 
+-- the text of an address is read as it
 pub addr_text-reads : (a : Address) → IsAddress a → addr_of (addr_text a) ≡ Some a
 addr_text-reads a h = addr_complete (addr_text a) a (written_text a.v6 a.bits h)
 
+-- the text of a prefix is read as it
 pub prefix_text-reads : (b : Block) → IsAddress b.addr → IsPrefix b → prefix_of (prefix_text b) ≡ Some b
 prefix_text-reads b h k = length_complete (prefix_text b) (addr_text b.addr) b.addr b.len refl (written_text b.addr.v6 b.addr.bits h) k
 
--- a MAC address that was read
+-- a text that is read as a MAC address is one of its texts
 pub hardware_sound : (t : List ℕ) (m : Mac) → hardware_of t ≡ Some m → IsMac t m.bytes
 hardware_sound t m h =
     let p = mapped hardware (mac_of t) m h in
     subst (λ m. IsMac t m.bytes) p.made (mac_sound t p.item p.found)
 
+-- and each of its texts is read as it
 pub hardware_complete : (t : List ℕ) (m : Mac) → IsMac t m.bytes → hardware_of t ≡ Some m
 hardware_complete t m h = ap (option_map hardware) (mac_complete t m.bytes h)
