@@ -1,6 +1,6 @@
 -- What an apply of a policy answers, leaves and tells where it ends before its change: the recovery fails or a change waits, the network
 -- isn't dumped, the policy is refused on it, or memory runs out.
-use Rattle.std.proofs.Common.{◌≡◌, ◌≢◌, ◌≤◌, ◌∙◌, inl, inr, refl, sym, ap, subst, arith, ℕ, Bool, true, false, Option, Some, None, Result, Ok, Err}
+use Rattle.std.proofs.Common.{◌≡◌, ◌≢◌, ◌∙◌, inl, inr, refl, sym, ap, subst, ℕ, Bool, true, false, Option, Some, None, Result, Ok, Err}
 use Rattle.std.specs.Prelude.{option_map, if◌then◌else◌}
 use Rattle.net_model.specs.NetData.{NetData}
 use Rattle.policy_model.specs.Values.{PolicyData}
@@ -9,6 +9,7 @@ use Rattle.host_core.specs.HostView.{State, HostView, dumped}
 use Rattle.host_core.specs.Stops.{Steps, Stays}
 use Rattle.host_core.specs.declared.DumpFault.{DumpFault}
 use Rattle.host_core.specs.declared.DumpFault.TheVariants as du
+use Rattle.host_core.proofs.lemmas.Counts.{rose_after}
 use Rattle.checkpoint_cell.specs.Cell.{Checkpoint, cell_of}
 use Rattle.checkpoint_cell.specs.Settled.{Standing, standing, settled, settled_from, taken_back, restored_to}
 use Rattle.engine_model.specs.Machine.{Outcome, stays, saved_on, restored_as, restore, recover, recover_cell, apply_fault}
@@ -168,9 +169,6 @@ module _ (p : PolicyData) (opts : ApplyOpts) (now : ℕ) (e : Standing) where
   refused_outcome cause new is after = record { answer = refused_answer cause is; after = after ∙ ap (λ (o : Outcome Said Cause). o.after) (sym is) }
 
 -- ---- counts and sides
-
-rose_on : (old mid new : ℕ) → old ≤ mid → Rose mid new → Rose old new
-rose_on old mid new le rose = omega arith
 
 begun_pending : side.NotBegun ≡ side.Pending → ⊥
 begun_pending e = cc
@@ -448,7 +446,7 @@ module _ (r : Run) (p : PolicyData) (opts : ApplyOpts) (inputs : Inputs) (may_re
   unlooked : Rose mid.faults r.host_after.faults → (r.host_tells → r.host_after.state ≡ mid.state) → Steps Stays mid.stops r.host_after.stops → GoesOn r
       → Told r (Ok (applying_policy p opts)) (Refused (HostFault (side_of done))) → Answered r
   unlooked risen state steps goes_on told =
-      let rose : HostRose r = rose_on r.host.faults mid.faults r.host_after.faults first.later risen in
+      let rose : HostRose r = rose_after r.host.faults mid.faults r.host_after.faults first.later risen in
       record {
         order = Ok (applying_policy p opts);
         gives = (inputs, may_read, is);

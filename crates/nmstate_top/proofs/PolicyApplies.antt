@@ -26,6 +26,7 @@ use Rattle.engine_model.specs.declared.BackFault.{BackFault}
 use Rattle.engine_model.specs.declared.BackFault.TheVariants as ba
 use Rattle.host_core.specs.declared.DumpFault.{DumpFault}
 use Rattle.host_core.specs.declared.DumpFault.TheVariants as du
+use Rattle.host_core.proofs.lemmas.Counts.{rose_after}
 use Rattle.engine_model.specs.declared.ApplyFault.{ApplyFault}
 use Rattle.engine_model.specs.declared.ApplyFault.TheVariants.{Pending, MergeRefused, HostFault, KernelRefused, NotVerified, InDoubt, Damaged, HardwareDiffers, OutOfMemory}
 use Rattle.engine_model.specs.declared.ApplyOpts.{ApplyOpts}
@@ -118,9 +119,6 @@ same_or_restored Restored clear x = inr x
 
 pub later : (a b c : ℕ) → a ≤ b → b ≤ c → a ≤ c
 later a b c one two = omega arith
-
-rose_on : (old mid new : ℕ) → old ≤ mid → Rose mid new → Rose old new
-rose_on old mid new le rose = omega arith
 
 quiet_dumped : (old mid new : Kernel) → NoneRefused old mid → new ≡ dumped mid → NoneRefused old new
 quiet_dumped old mid new one is = record { refusals = ap (λ (k : Kernel). k.refusals) is ∙ one.refusals; last = ap (λ (k : Kernel). k.last) is ∙ one.last }
@@ -511,7 +509,7 @@ module _ (r : Run) (p : PolicyData) (opts : ApplyOpts) (doc : Doc) (done : Recov
           let stands : standing mid.state ≡ restored_to from = ap standing (same begun (tells_of h)) ∙ stood in
           let net_is : wants.net ≡ from = same_some wants.net from (sym (found h) ∙ ap (λ (x : Standing). x.net) stands) in
           let doc_is : doc ≡ other = same_doc doc other (sym wants.reads ∙ ap (document_on p) net_is ∙ has) in
-          (calm h kept_mid.sound from to stands (ap (merge from) doc_is ∙ merges) (λ rose. no_fault (rose_on r.host.faults mid.faults r.host_after.faults faults rose))
+          (calm h kept_mid.sound from to stands (ap (merge from) doc_is ∙ merges) (λ rose. no_fault (rose_after r.host.faults mid.faults r.host_after.faults faults rose))
           (λ memory. no_memory (ap (λ (x : Result Applied ApplyFault). answer_of (go.told_as back x)) memory))
           r.host.stops.moment moment (record { pair = go.first_spared from to r.host mid goes_on.lawful.stops (goes_on.lawful.reads (tells_of h)) sound stood (seen_stays r.host_tells r.honest tells_of r.now done r.host between mid wants.net seen begun) })).pair
 

@@ -24,6 +24,7 @@ use Rattle.host_core.specs.declared.MakeFault.{MakeFault}
 use Rattle.host_core.specs.declared.MakeFault.TheVariants as ma
 use Rattle.host_core.specs.declared.DumpFault.{DumpFault}
 use Rattle.host_core.specs.declared.DumpFault.TheVariants as du
+use Rattle.host_core.proofs.lemmas.Counts.{rose_after}
 use Rattle.checkpoint_cell.specs.Cell.{Checkpoint, cell_of}
 use Rattle.checkpoint_cell.specs.Settled.{Standing, standing, restored_to}
 use Rattle.checkpoint_cell.proofs.lemmas.Cells.{gate_shut}
@@ -51,7 +52,6 @@ use Rattle.scenario_model.specs.declared.Summary.{Summary}
 use Rattle.scenario_model.specs.declared.WorkFault.{WorkFault}
 use Rattle.scenario_model.specs.declared.WorkFault.TheVariants.{Make, Dump, Apply, Merge, Back, OutOfMemory}
 use Rattle.scenario.specs.Stages.{IsAt, NoPlan, NotMade}
-use Rattle.scenario.proofs.Says.{rose_after}
 
 abbrev gives : {A E : Type 0} → A → Result A E
 gives a = Ok a

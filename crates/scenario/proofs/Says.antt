@@ -1,5 +1,5 @@
 -- What the answers of the stages say, from where the run began.
-use Rattle.std.proofs.Common.{◌≡◌, ◌∙◌, ◌≤◌, ◌⊎◌, inl, inr, ℕ, refl, sym, ap, subst, arith, Result, Ok, Err, Option, Some, None}
+use Rattle.std.proofs.Common.{◌≡◌, ◌∙◌, ◌⊎◌, inl, inr, refl, sym, ap, subst, arith, Result, Ok, Err, Option, Some, None}
 use Rattle.std.specs.Prelude.{IsSome, ⊤}
 use Rattle.net_model.specs.NetData.{NetData}
 use Rattle.document_model.specs.declared.Doc.{Doc}
@@ -13,6 +13,7 @@ use Rattle.host_core.specs.declared.MakeFault.{MakeFault}
 use Rattle.host_core.specs.declared.MakeFault.TheVariants as ma
 use Rattle.host_core.specs.declared.DumpFault.{DumpFault}
 use Rattle.host_core.specs.declared.DumpFault.TheVariants as du
+use Rattle.host_core.proofs.lemmas.Counts.{rose_after}
 use Rattle.merge_model.specs.MergedNet.{merge}
 use Rattle.engine_model.specs.Machine.{Asked}
 use Rattle.engine_model.specs.Faults.{ApplySays, BackSays, LeftSays}
@@ -27,10 +28,6 @@ use Rattle.scenario_model.specs.declared.Summary.{Summary}
 use Rattle.scenario_model.specs.declared.WorkFault.{WorkFault}
 use Rattle.scenario_model.specs.declared.WorkFault.TheVariants.{Make, Dump, Apply, Merge, Back, OutOfMemory}
 use Rattle.scenario.specs.Stages.{NoPlan, NotMade, IsOneOf}
-
--- a count that rose since later rose since before
-pub rose_after : (a b c : ℕ) → a ≤ b → Rose b c → Rose a c
-rose_after a b c le rose = omega (arith, le, rose)
 
 -- a later moment than a later one
 pub past_on : (tells : Type 0) (a b c : Past) → IsPast tells a b → IsPast tells b c → IsPast tells a c

@@ -10,6 +10,7 @@ use Rattle.host_core.specs.declared.Host.{Ghosts as HostGhosts}
 use Rattle.host_core.specs.declared.Folder.{Ghosts as FolderGhosts}
 use Rattle.host_core.specs.declared.Sink.{Ghosts as SinkGhosts}
 use Rattle.host_core.specs.declared.Clock.{Ghosts as ClockGhosts}
+use Rattle.host_core.proofs.lemmas.Counts.{rose_in}
 use Rattle.boot_service.specs.Fold.{IsStage}
 use Rattle.boot_service.specs.Stops.{pending, IsAt, SettlesAt}
 use Rattle.boot_service.specs.declared.fault.ServeFault.{ServeFault}
@@ -50,10 +51,6 @@ told_other cause other false report never is e = absurd (never (status_of cause)
 pub told_status : (cause : Cause) (is_open : Bool) (report : Report) → report ≡ told_as cause is_open → report.status ≡ status_of report.cause
 told_status cause true report is = subst (λ (r : Report). r.status ≡ status_of r.cause) (sym is) refl
 told_status cause false report is = subst (λ (r : Report). r.status ≡ status_of r.cause) (sym is) refl
-
--- a count that rose in a part rose in the whole
-pub rose_in : (a b c d : ℕ) → a ≤ b → c ≤ d → Rose b c → Rose a d
-rose_in a b c d le more rose = omega arith
 
 -- ---- sinks
 

@@ -9,6 +9,7 @@ use Rattle.host_core.specs.declared.Host.{Ghosts as HostGhosts}
 use Rattle.host_core.specs.declared.Folder.{Ghosts as FolderGhosts}
 use Rattle.host_core.specs.declared.Sink.{Ghosts as SinkGhosts}
 use Rattle.host_core.specs.declared.Clock.{Ghosts as ClockGhosts}
+use Rattle.host_core.proofs.lemmas.Counts.{rose_in}
 use Rattle.boot_service.specs.Fold.{folded, IsStage}
 use Rattle.boot_service.specs.Stops.{pending, IsAt}
 use Rattle.boot_service.proofs.lemmas.Pending.{names_pending}
@@ -25,7 +26,7 @@ use Rattle.service_run.specs.Services.{names_of, LeavesEnd, LeavesCourse, servic
 use Rattle.service_run.proofs.Causes.{IsStop, stop_memory, stop_folder}
 use Rattle.service_run.proofs.Documents.{none_pending}
 use Rattle.service_run.proofs.Walks.{Came, came_start, came_read, Between, all_between, CameBy, all_came}
-use Rattle.service_run.proofs.Ends.{done_told, told_other, told_status, rose_in, Spoke, spoke_start, spoke_more, spoke_stop, Stands, stop_stands, came_stands, idle, stop_host, stop_folder_later, stop_cause, stop_named, stop_fault, stop_quiet, stop_left, RefusedAt}
+use Rattle.service_run.proofs.Ends.{done_told, told_other, told_status, Spoke, spoke_start, spoke_more, spoke_stop, Stands, stop_stands, came_stands, idle, stop_host, stop_folder_later, stop_cause, stop_named, stop_fault, stop_quiet, stop_left, RefusedAt}
 
 module _ {X Y Z V : Type 0} (H : HostGhosts X) (F : FolderGhosts Y) (W : SinkGhosts Z) (C : ClockGhosts V) (lawful_host : (h : X) → IsLawfulHost H.tells (H.told h)) (lawful_folder : (f : Y) → IsLawfulFolder F.tells (F.told f)) where
   abbrev World' : Type 0

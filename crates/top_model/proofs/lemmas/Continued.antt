@@ -7,6 +7,7 @@ use Rattle.document_model.specs.declared.Refused.{Refused}
 use Rattle.host_core.specs.Faults.{Rose, RoseTwice}
 use Rattle.host_core.specs.HostView.{State, Kernel, HostView, WasRefused, NoneRefused}
 use Rattle.host_core.specs.Stops.{Steps, Stays, IsLawful}
+use Rattle.host_core.proofs.lemmas.Counts.{rose_after, twice_after}
 use Rattle.checkpoint_cell.specs.Cell.{Checkpoint, cell_of, applying}
 use Rattle.checkpoint_cell.specs.Settled.{Standing, standing, settled, settled_from, restored_to}
 use Rattle.merge_model.specs.MergedNet.{merge}
@@ -79,12 +80,6 @@ module _ (a : Asked) where
 
 -- ---- counts
 
-rose_on : (old mid new : ℕ) → old ≤ mid → Rose mid new → Rose old new
-rose_on old mid new le rose = omega arith
-
-twice_on : (old mid new : ℕ) → old ≤ mid → RoseTwice mid new → RoseTwice old new
-twice_on old mid new le rose = omega arith
-
 quiet_on : (old mid new : Kernel) → NoneRefused old mid → NoneRefused mid new → NoneRefused old new
 quiet_on old mid new one two = record { refusals = two.refusals ∙ one.refusals; last = two.last ∙ one.last }
 
@@ -117,7 +112,7 @@ first_spared from to old mid lawful here sound stood steps s left = (from, net_i
 module _ (tells : Type 0) (a : Asked) (back : Left) (old mid new : HostView) (side : back ≢ Pending) (faults : old.faults ≤ mid.faults) (quiet : NoneRefused old.kernel mid.kernel)
     (none : tells → (standing mid.state).cell ≡ None) (same : back ≡ NotBegun → tells → mid.state ≡ old.state) where
   rose : Rose mid.faults new.faults → Rose old.faults new.faults
-  rose risen = rose_on old.faults mid.faults new.faults faults risen
+  rose risen = rose_after old.faults mid.faults new.faults faults risen
 
   unbegun : (left : Left) → left ≡ back → (tells → new.state ≡ mid.state) → LeftSays tells old new left
   unbegun NotBegun is stays = λ told. stays told ∙ same (sym is) told
@@ -167,7 +162,7 @@ module _ (tells : Type 0) (a : Asked) (back : Left) (old mid new : HostView) (si
     tries (Err (fa.HostFault NotBegun)) is = tries_side back side
     tries (Err (fa.HostFault RolledBack)) is = tt
     tries (Err (fa.HostFault Pending)) (inl excuse) = inl (no_excuse excuse)
-    tries (Err (fa.HostFault Pending)) (inr (inl twice)) = inr (inl (twice_on old.faults mid.faults new.faults faults twice))
+    tries (Err (fa.HostFault Pending)) (inr (inl twice)) = inr (inl (twice_after old.faults mid.faults new.faults faults twice))
     tries (Err (fa.HostFault Pending)) (inr (inr refused)) = inr (inr (risen refused))
     tries (Err (fa.KernelRefused k n NotBegun)) is = tt
     tries (Err (fa.KernelRefused k n RolledBack)) is = tt
@@ -337,7 +332,7 @@ module _ (tells : Type 0) (a : Asked) (back : Left) (old mid new : HostView) (si
           exits stays (Err (fa.MergeRefused refused)) is exit = settled_within exit
           exits stays (Err (fa.HostFault NotBegun)) is exit = unbegun_exit back refl side stays exit
           exits stays (Err (fa.HostFault RolledBack)) is exit = settled_within exit
-          exits stays (Err (fa.HostFault Pending)) is exit = way_on (RoseTwice mid.faults new.faults) (RoseTwice old.faults new.faults) (twice_on old.faults mid.faults new.faults faults) exit
+          exits stays (Err (fa.HostFault Pending)) is exit = way_on (RoseTwice mid.faults new.faults) (RoseTwice old.faults new.faults) (twice_after old.faults mid.faults new.faults faults) exit
           exits stays (Err (fa.KernelRefused k n left)) is exit = absurd exit
           exits stays (Err (fa.NotVerified found left)) is exit = absurd exit
           exits stays (Err fa.InDoubt) is exit = doubt_on exit

@@ -6,6 +6,7 @@ use Rattle.host_core.specs.HostView.{State, IsLawfulHost}
 use Rattle.host_core.specs.declared.Source.{Ghosts as SourceGhosts}
 use Rattle.host_core.specs.declared.Sink.{Ghosts as SinkGhosts}
 use Rattle.host_core.specs.declared.Host.{Ghosts as HostGhosts}
+use Rattle.host_core.proofs.lemmas.Counts.{rose_before, rose_after}
 use Rattle.checkpoint_cell.specs.Settled.{Standing, standing, restored_to, settled}
 use Rattle.engine_model.specs.Stations.{Stands, Within, Only, left_by}
 use Rattle.engine_model.specs.Sound.{Sound}
@@ -26,7 +27,6 @@ use Rattle.top_model.specs.declared.report.Cause.{Cause}
 use Rattle.top_model.specs.declared.report.Cause.TheVariants.{Done}
 use Rattle.top_model.proofs.lemmas.Reports.{rests}
 use Rattle.top_model.proofs.lemmas.Stepping.{seven_rose}
-use Rattle.top_model.proofs.lemmas.Chaining.{rose_before, rose_after}
 use Rattle.top_model.proofs.lemmas.Firm.{Firm, firm_like, firm_left, firm_restored, backed_fit}
 use Rattle.top_model.proofs.lemmas.Walking.{SoFarWhole, whole_start, whole_more, alone, here, firm, reached_more}
 use Rattle.top_model.proofs.lemmas.Halving.{Has, Wrote, waits_among}

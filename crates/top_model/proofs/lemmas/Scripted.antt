@@ -2,6 +2,7 @@
 use Rattle.std.proofs.Common.{◌≡◌, ◌∙◌, ◌⊎◌, inl, inr, refl, sym, ap, subst, ℕ, ◌≤◌, Bool, false, List, Option, Some, None}
 use Rattle.std.specs.Prelude.{option_map, Result, Ok, Err}
 use Rattle.host_core.specs.Streams.{SourceView}
+use Rattle.host_core.proofs.lemmas.Counts.{rose_after}
 use Rattle.engine_model.specs.Stations.{Only, at}
 use Rattle.command_words.specs.Words.{command_of}
 use Rattle.top_model.specs.Orders.{Text, Inputs, and_then, input}
@@ -14,7 +15,6 @@ use Rattle.top_model.specs.Scripts.{order_in, StepGrounds, StepTexts, Folds, IsF
 use Rattle.top_model.specs.declared.report.Cause.{Cause}
 use Rattle.top_model.specs.declared.report.Cause.TheVariants.{OutOfMemory}
 use Rattle.top_model.proofs.lemmas.Settles.{same_some}
-use Rattle.top_model.proofs.lemmas.Chaining.{rose_after}
 
 -- all lines are read before a step is run, whatever else is said of the run
 pub is_script : (r : Run) (runs : List Timed → Type 0) → ScriptAnswered r runs → IsScript r runs
