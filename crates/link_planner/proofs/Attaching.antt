@@ -1,21 +1,16 @@
 -- A port that is attached to the controller that it has in target.
-use Rattle.std.proofs.Common.{◌≡◌, ℕ, Bool, true, false, not, ◌&&◌, ◌==◌, List, [], ◌∷◌, Option, Some, None, Ok, refl, sym, ap, ◌∙◌, lit<}
+use Rattle.std.proofs.Common.{◌≡◌, ℕ, true, false, List, [], ◌∷◌, Option, Some, None, Ok, refl, sym, ap, ◌∙◌, lit<}
 use Rattle.std.specs.List.{list_any}
 use Rattle.net_model.specs.Address.{Block}
 use Rattle.net_model.specs.Links.{find_link, is_bond, is_bond_or_bridge, takes}
 use Rattle.net_model.specs.Valid.{same_block}
 use Rattle.net_model.specs.NetData.{NetData}
-use Rattle.net_model.specs.Options.{default_port, is_default_port}
+use Rattle.net_model.specs.Options.{default_port}
 use Rattle.net_model.specs.Facts.{ControllerFacts}
 use Rattle.net_model.specs.declared.link.Link.{Link}
 use Rattle.net_model.specs.declared.call.Call.TheVariants.{Attach}
-use Rattle.net_model.specs.declared.options.PortOpts.{PortOpts}
-use Rattle.net_model.specs.Words.{bool_eq}
-use Rattle.net_model.specs.Valid.{same_address}
-use Rattle.net_model.proofs.lemmas.Truth.{and_both, and_left, and_right, not_true}
-use Rattle.std.proofs.lemmas.Bool.{eqb-true}
-use Rattle.std.proofs.lemmas.Cmp.{nat_eq_equiv}
 use Rattle.net_model.proofs.lemmas.FactsHold.{facts}
+use Rattle.net_model.proofs.lemmas.Same.{same_block_exact, default_port_exact}
 use Rattle.kernel_model.specs.Ports.{attached}
 use Rattle.kernel_model.specs.Addresses.{has_block}
 use Rattle.kernel_model.specs.Kernel.{step, after}
@@ -32,22 +27,6 @@ use Rattle.link_planner.specs.Phases.{MayBuildUp, IsNext}
 use Rattle.link_planner.specs.Growing.{IsOnWay, IsToward, SameController}
 use Rattle.link_planner.proofs.Editing.{IsEdit, edited, way_of}
 use Rattle.link_planner.proofs.Phasing.{whole_at}
-
-block_itself : (b : Block) → same_block b b ≡ true
-block_itself b =
-    and_both (same_address b.addr b.addr) (b.len == b.len) (and_both (bool_eq b.addr.v6 b.addr.v6) (b.addr.bits == b.addr.bits) (of b.addr.v6) (nat_eq_equiv.refl b.addr.bits)) (nat_eq_equiv.refl b.len)
-  where
-    of : (v : Bool) → bool_eq v v ≡ true
-    of true = refl
-    of false = refl
-
-port_default : (o : PortOpts) → is_default_port o ≡ true → o ≡ default_port
-port_default o h =
-    let front : ((o.cost == 100) && (o.priority == 32)) ≡ true = and_left ((o.cost == 100) && (o.priority == 32)) (not o.hairpin) h in
-    let cost : o.cost ≡ 100 = eqb-true o.cost 100 (and_left (o.cost == 100) (o.priority == 32) front) in
-    let priority : o.priority ≡ 32 = eqb-true o.priority 32 (and_right (o.cost == 100) (o.priority == 32) front) in
-    let hairpin : o.hairpin ≡ false = not_true o.hairpin (and_right ((o.cost == 100) && (o.priority == 32)) (not o.hairpin) h) in
-    ap (λ x. let m : PortOpts = record o { cost = x } in m) cost ∙ ap (λ x. let m : PortOpts = record o { cost = 100; priority = x } in m) priority ∙ ap (λ x. let m : PortOpts = record { cost = 100; priority = 32; hairpin = x } in m) hairpin
 
 -- each link of a network on its way stands within target
 within_target : (target net : NetData) → IsToward target net → StandsWithin net.links target.links
@@ -84,7 +63,7 @@ module _ (d : DraftData) (h : Holds d) (stands : MayBuildUp 9 d) (n c : List ℕ
     where
       none : (bs : List Block) → ((b : Block) → has_block b bs ≡ true → has_block b [] ≡ true) → bs ≡ []
       none [] all = refl
-      none (b ∷ bs) all = absurd (let no : false ≡ true = all b (or_left (same_block b b) (list_any (same_block b) bs) (block_itself b)) in cc)
+      none (b ∷ bs) all = absurd (let no : false ≡ true = all b (or_left (same_block b b) (list_any (same_block b) bs) ((same_block_exact b b).1 refl)) in cc)
 
   taken : step (Attach n c) d.net ≡ Ok (after (Attach n c) d.net)
   taken = is_accepted (Attach n c) d.net h.net (record {
@@ -104,7 +83,7 @@ module _ (d : DraftData) (h : Holds d) (stands : MayBuildUp 9 d) (n c : List ℕ
 
   -- a link without a controller has the options of a port at their defaults
   plain : link.port ≡ default_port
-  plain = port_default link.port (((facts d.net h.net).link n link pair.here).port_unused free)
+  plain = (default_port_exact link.port).0 (((facts d.net h.net).link n link pair.here).port_unused free)
 
   pub attach_next : IsNext AttachPorts d n (Attach n c)
   attach_next =

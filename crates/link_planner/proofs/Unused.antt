@@ -1,11 +1,10 @@
 -- Options that differ show what the link is.
 use Rattle.std.proofs.Common.{◌≡◌, ℕ, Bool, true, false, List, Option, Some, None, refl, sym, ap, ◌∙◌}
 use Rattle.net_model.specs.Links.{find_link, is_bond, is_bridge}
-use Rattle.net_model.specs.Options.{default_bond, default_bridge, default_port, is_default_port}
+use Rattle.net_model.specs.Options.{default_bond, default_bridge}
 use Rattle.net_model.specs.NetData.{NetData, IsNet}
 use Rattle.net_model.specs.Facts.{ControllerFacts}
 use Rattle.net_model.specs.declared.link.Link.{Link}
-use Rattle.net_model.specs.declared.options.PortOpts.{PortOpts}
 use Rattle.net_model.proofs.lemmas.FactsHold.{facts}
 use Rattle.net_model.proofs.lemmas.Same.{default_bond_exact, default_bridge_exact, default_port_exact}
 use Rattle.kernel_laws.specs.Takes.{IsThere}
@@ -39,12 +38,9 @@ module _ (target net : NetData) (good : IsNet target) (is : IsNet net) (toward :
   pub port_bridge : IsWhole target net → link.controller ≡ there.controller → (link.port ≡ there.port → ⊥) → (c : List ℕ) × (link.controller ≡ Some c) × IsThere c net.links (λ b. is_bridge b.kind ≡ true)
   port_bridge whole attached differs = of there.controller refl
     where
-      default : (o : PortOpts) → is_default_port o ≡ true → o ≡ default_port
-      default o = (default_port_exact o).0
-
       of : (o : Option (List ℕ)) → there.controller ≡ o → (c : List ℕ) × (link.controller ≡ Some c) × IsThere c net.links (λ b. is_bridge b.kind ≡ true)
       of None e =
-          absurd (differs (default link.port (((facts net is).link n link found).port_unused (attached ∙ e)) ∙ sym (default there.port (((facts target good).link n there at).port_unused e))))
+          absurd (differs ((default_port_exact link.port).0 (((facts net is).link n link found).port_unused (attached ∙ e)) ∙ sym ((default_port_exact there.port).0 (((facts target good).link n there at).port_unused e))))
       of (Some c) e =
           let control : ControllerFacts target.links there c = (facts target good).controller n there c at e in
           let now : ControllerFacts net.links link c = (facts net is).controller n link c found (attached ∙ e) in
@@ -54,6 +50,6 @@ module _ (target net : NetData) (good : IsNet target) (is : IsNet net) (toward :
             (
               now.link,
               now.there,
-              shown (is_bridge now.link.kind) (λ off. differs (default link.port (now.port_unused off) ∙ sym (default there.port (control.port_unused (ap is_bridge control_way.kind ∙ off))))),
+              shown (is_bridge now.link.kind) (λ off. differs ((default_port_exact link.port).0 (now.port_unused off) ∙ sym ((default_port_exact there.port).0 (control.port_unused (ap is_bridge control_way.kind ∙ off))))),
             ),
           )
