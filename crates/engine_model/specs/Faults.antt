@@ -1,10 +1,15 @@
 -- When each answer of a call comes. A fault of the host brings the answers of faults, and running out of memory its own; every other
 -- answer is the command machine's.
-use Rattle.std.specs.Prelude.{◌≡◌, ◌≢◌, ◌⊎◌, ⊤, ℕ, Bool, true, false, List, [], Option, Some, None, Result, Ok, Err}
+use Rattle.std.specs.Prelude.{◌≡◌, ◌≢◌, ◌⊎◌, ⊤, ℕ, Bool, true, false, length, List, [], Option, Some, None, IsSome, Result, Ok, Err}
 use Rattle.net_model.specs.NetData.{NetData}
+use Rattle.net_model.specs.declared.Call.{Call}
+use Rattle.document_model.specs.declared.Doc.{Doc}
+use Rattle.document_model.specs.declared.Refused.{Refused}
+use Rattle.plan_model.specs.Plans.{IsPlan}
 use Rattle.host_core.specs.Faults.{Rose, RoseTwice}
-use Rattle.host_core.specs.HostView.{State, HostView, HasNet, WasRefused, NoneRefused}
+use Rattle.host_core.specs.HostView.{State, Kernel, HostView, HasNet}
 use Rattle.merge_model.specs.MergedNet.{merge}
+use Rattle.engine_model.specs.Refusals.{NoCallMade}
 use Rattle.checkpoint_cell.specs.Cell.{Checkpoint, saved_net}
 use Rattle.checkpoint_cell.specs.Loaded.{IsBad}
 use Rattle.checkpoint_cell.specs.Settled.{standing, taken_back}
@@ -109,6 +114,12 @@ pub record HadDamaged (area : ℕ) (old new : HostView) : Type 0 where
   pub left : new.stops.left_since old.stops.moment pair
   pub damaged : IsDamaged area pair
 
+-- this network isn't what the document makes of the saved one
+pub record IsOther (doc : Doc) (found : NetData) (new : HostView) : Type 0 where
+  pub saved : NetData
+  pub is_saved : saved_net new.state.cell ≡ Some saved
+  pub other : merge saved doc ≢ Ok found
+
 -- the network that was dumped and the saved one have other devices, and these are all such names
 pub record Differs (names : List (List ℕ)) (new : HostView) : Type 0 where
   pub saved : NetData
@@ -118,15 +129,46 @@ pub record Differs (names : List (List ℕ)) (new : HostView) : Type 0 where
   pub all : differing saved found ≡ names
   pub some : names ≢ []
 
+-- the document breaks this rule on the network that was dumped last, and no checkpoint stands
+pub record BrokeRule (doc : Doc) (refused : Refused) (new : HostView) : Type 0 where
+  pub from : NetData
+  pub is_fresh : new.fresh ≡ Some from
+  pub breaks : merge from doc ≡ Err refused
+  pub none : (standing new.state).cell ≡ None
+
+-- Of a restoring that came to its end: behind its dump, which gave some network, as many calls were made as a plan from that network
+-- to the saved one has. Where it has none, the dump gave the saved network.
+pub record GaveSaved (new : HostView) : Type 0 where
+  pub saved : NetData
+  pub found : NetData
+  pub calls : List Call
+  pub is_saved : saved_net new.state.cell ≡ Some saved
+  pub plan : IsPlan found saved calls
+  pub made : new.kernel.calls ≡ length calls
+  pub idle : calls ≡ [] → new.fresh ≡ Some saved
+
+-- no kernel call was made since, but where a change was to be taken back first
+abbrev pub SettlesOnly : Type 0 → ℕ → State → Kernel → Kernel → Type 0
+SettlesOnly tells now state old new = (tells → HasTaken now (standing state).cell) ⊎ NoCallMade old new
+
+-- where all is told as taken back behind a host fault: calls gave the saved network, or none was made
+abbrev pub GaveBack : Type 0 → ℕ → State → Kernel → HostView → Type 0
+GaveBack tells now state kernel new = GaveSaved new ⊎ SettlesOnly tells now state kernel new.kernel
+
+-- where damage is told, it stands as the host reads; and no call was made, or a checkpoint stands by which to take it back
+pub record StandsDamaged (tells : Type 0) (area now : ℕ) (state : State) (kernel : Kernel) (new : HostView) : Type 0 where
+  pub damaged : IsDamaged area new.state
+  pub held : SettlesOnly tells now state kernel new.kernel ⊎ IsSome (standing new.state).cell
+
 abbrev pub ApplySays : Type 0 → Asked → HostView → HostView → Result Applied ApplyFault → Type 0
-ApplySays tells a old new (Ok done) = NoneRefused old.kernel new.kernel × (tells → a.opts.no_verify ≡ false → Verified a new)
+ApplySays tells a old new (Ok done) = tells → a.opts.no_verify ≡ false → Verified a new
 ApplySays tells a old new (Err (ap.Pending deadline)) = tells → IsOutcome (apply a (standing old.state)) new (Err (ap.Pending deadline))
-ApplySays tells a old new (Err (ap.MergeRefused refused)) = tells → (from : NetData) × (new.fresh ≡ Some from) × (merge from a.doc ≡ Err refused)
-ApplySays tells a old new (Err (ap.HostFault left)) = Rose old.faults new.faults × LeftSays tells old new left
+ApplySays tells a old new (Err (ap.MergeRefused refused)) = SettlesOnly tells a.now old.state old.kernel new.kernel × (tells → BrokeRule a.doc refused new)
+ApplySays tells a old new (Err (ap.HostFault left)) = Rose old.faults new.faults × LeftSays tells old new left × (left ≡ RolledBack → tells → GaveBack tells a.now old.state old.kernel new)
 ApplySays tells a old new (Err ap.InDoubt) = Rose old.faults new.faults
-ApplySays tells a old new (Err (ap.KernelRefused k n left)) = WasRefused k n old.kernel new.kernel × LeftSays tells old new left × (left ≢ NotBegun)
-ApplySays tells a old new (Err (ap.NotVerified found left)) = (left ≡ RolledBack) × (a.opts.no_verify ≡ false) × LeftSays tells old new RolledBack × (tells → (saved : NetData) × (saved_net new.state.cell ≡ Some saved) × (merge saved a.doc ≢ Ok found))
-ApplySays tells a old new (Err (ap.Damaged area)) = tells → HadDamaged area old new
+ApplySays tells a old new (Err (ap.KernelRefused k n left)) = LeftSays tells old new left × (left ≢ NotBegun) × (left ≡ RolledBack → tells → GaveSaved new)
+ApplySays tells a old new (Err (ap.NotVerified found left)) = (left ≡ RolledBack) × (a.opts.no_verify ≡ false) × LeftSays tells old new RolledBack × (tells → GaveSaved new) × (tells → IsOther a.doc found new)
+ApplySays tells a old new (Err (ap.Damaged area)) = tells → HadDamaged area old new × StandsDamaged tells area a.now old.state old.kernel new
 ApplySays tells a old new (Err (ap.HardwareDiffers names)) = tells → Differs names new
 ApplySays tells a old new (Err ap.OutOfMemory) = Unit {0}
 
@@ -134,20 +176,29 @@ ApplySays tells a old new (Err ap.OutOfMemory) = Unit {0}
 abbrev pub BackSays : {A : Type 0} → Type 0 → Result A BackFault → HostView → HostView → Result A BackFault → Type 0
 BackSays tells machine old new (Err ba.NoCheckpoint) = tells → machine ≡ Err ba.NoCheckpoint
 BackSays tells machine old new (Err (ba.HostFault left)) = Rose old.faults new.faults × LeftSays tells old new left × (left ≢ RolledBack)
-BackSays tells machine old new (Err (ba.KernelRefused k n left)) = WasRefused k n old.kernel new.kernel × (left ≡ Pending)
-BackSays tells machine old new (Err (ba.Damaged area)) = tells → HadDamaged area old new
+BackSays tells machine old new (Err (ba.KernelRefused k n left)) = left ≡ Pending
+BackSays tells machine old new (Err (ba.Damaged area)) = tells → HadDamaged area old new × IsDamaged area new.state
 BackSays tells machine old new (Err (ba.HardwareDiffers names)) = tells → Differs names new
 BackSays tells machine old new (Err ba.OutOfMemory) = Unit {0}
-BackSays tells machine old new (Ok done) = NoneRefused old.kernel new.kernel
+BackSays tells machine old new (Ok done) = Unit {0}
 
 -- ---- whether it tried, and what it did in doing so
 
--- that a change may stand half way is told only where its restoring was tried: one that was to be taken back first or one that was
--- compared and differs (the excuse), or else where two things went wrong, the second of them in restoring
+-- a change may stand half way where one was to be taken back first, or where one is compared, and differs
+abbrev pub MayStandHalf : Type 0 → Asked → HostView → Type 0
+MayStandHalf tells a old = (tells → HasTaken a.now (standing old.state).cell) ⊎ (a.opts.no_verify ≡ false)
+
+-- that a change may stand half way is told only where its restoring was tried: where it may (the excuse), or else where two things
+-- went wrong, the second of them in restoring
 abbrev pub Tries : Type 0 → ℕ → ℕ → HostView → Result Applied ApplyFault → Type 0
 Tries excuse faults refusals new (Err (ap.KernelRefused k n Pending)) = excuse ⊎ RoseTwice refusals new.kernel.refusals ⊎ Rose faults new.faults
 Tries excuse faults refusals new (Err (ap.HostFault Pending)) = excuse ⊎ RoseTwice faults new.faults ⊎ Rose refusals new.kernel.refusals
 Tries excuse faults refusals new result = Unit {0}
+
+-- on an honest host, sound or not: it is told of a host fault only where a change was to be taken back first, or the host failed twice
+abbrev pub FailsTwice : Type 0 → ℕ → HostView → Result Applied ApplyFault → Type 0
+FailsTwice taken faults new (Err (ap.HostFault Pending)) = taken ⊎ RoseTwice faults new.faults
+FailsTwice taken faults new result = Unit {0}
 
 -- A change that is verified was dumped after its last kernel call. One that isn't was not: the last dump that is still fresh, if
 -- there is one, gave the network that was saved.
