@@ -4,5 +4,6 @@ pub mod Leading
 pub mod Restores
 pub mod Settles
 pub mod Machines
+pub mod Refusals
 pub mod Backs
 pub mod Finding

@@ -60,7 +60,8 @@ agrees pending cell net seen loaded is (Err (Damaged area)) c = c
 agrees pending cell net seen loaded is (Err (HardwareDiffers names)) c = as_loaded pending cell net loaded ∙ ap (unless_other (found net cell)) c.0 ∙ told_others (found net cell) names c.1
 agrees pending cell net seen loaded is (Err OutOfMemory) c = tt
 
-none_here : {A : Type 0} (o : Option A) → IsSome o → o ≢ None
+-- what is there isn't none
+pub none_here : {A : Type 0} (o : Option A) → IsSome o → o ≢ None
 none_here None some none = cc
 none_here (Some x) some none = cc
 

@@ -1,6 +1,5 @@
 //! The calls that take a change back.
 ghost use Rattle.std.specs.Prelude.{◌≡◌, ◌≤◌, ℕ, None, Ok, IfOk, IfErr, OnOk, IsErrOf};
-ghost use Rattle.host_core.specs.HostView.{NoneRefused};
 ghost use Rattle.host_core.specs.Stops.{Steps, Stays};
 ghost use Rattle.checkpoint_cell.specs.Steps.{Holds};
 ghost use Rattle.checkpoint_cell.specs.Settled.{standing};
@@ -9,7 +8,8 @@ ghost use Rattle.engine_model.specs.Sound.{Sound};
 ghost use Rattle.engine_model.specs.Stations.{Only, Kept, at, entry_of, left_by};
 ghost use Rattle.engine_model.specs.Exit.{BackExit};
 ghost use Rattle.engine_model.specs.Answers.{IsBefore, IsClear};
-ghost use Rattle.engine_model.specs.Faults.{BackAnswers, BackExact, BackSays, HasSet, HasTaken};
+ghost use Rattle.engine_model.specs.Refusals.{BackCounts};
+ghost use Rattle.engine_model.specs.Faults.{BackAnswers, BackExact, BackSays, HasSet, HasTaken, GaveSaved};
 
 use crate::restoring::{go_back, take_back};
 use engine_model::{BackFault, Recovered};
@@ -31,6 +31,9 @@ pub fn rollback<H: Host>(host: &mut H, alloc: Global) -> Result<(), BackFault>
         → BackExit (rollback (standing (H.told host.old).state)).after (at (standing (H.told host.old).state))
         (Only (standing (H.told host.new).state)) result }
     ensures kept { H.honest → Sound (H.told host.old) → Kept (Only (rollback (standing (H.told host.old).state)).after) (H.told host.old) (H.told host.new) }
+    // What every host counts, and by what calls the saved network was given.
+    ensures counts { BackCounts (H.told host.old).kernel (H.told host.new).kernel result }
+    ensures gave { H.tells → OnOk result (GaveSaved (H.told host.new)) }
     // It is done only where one stands.
     ensures done { H.tells → OnOk result (HasSet (standing (H.told host.old).state).cell) }
     // It takes memory only where a checkpoint stands.
@@ -62,6 +65,9 @@ pub fn recover<H: Host>(host: &mut H, alloc: Global, now: u64) -> Result<Recover
         → BackExit (recover now (standing (H.told host.old).state)).after (at (standing (H.told host.old).state))
         (Only (standing (H.told host.new).state)) result }
     ensures kept { H.honest → Sound (H.told host.old) → Kept (Only (recover now (standing (H.told host.old).state)).after) (H.told host.old) (H.told host.new) }
+    // What every host counts, and by what calls the saved network was given.
+    ensures counts { BackCounts (H.told host.old).kernel (H.told host.new).kernel result }
+    ensures gave { H.tells → result ≡ Ok Recovered.Restored → GaveSaved (H.told host.new) }
     // It takes memory only where a change is to be taken back.
     ensures memory { H.tells → IsErrOf result BackFault.OutOfMemory → HasTaken now (standing (H.told host.old).state).cell }
     // It never answers, as a rollback does, that there is no checkpoint.
@@ -71,13 +77,12 @@ pub fn recover<H: Host>(host: &mut H, alloc: Global, now: u64) -> Result<Recover
     ensures waiting { H.tells → (deadline : ℕ) → result ≡ Ok (Recovered.Waiting deadline)
         → (recover now (standing (H.told host.old).state)).answer ≡ Ok (Recovered.Waiting deadline) }
     ensures restored { H.tells → result ≡ Ok Recovered.Restored → HasTaken now (standing (H.told host.old).state).cell }
-    // For a command that goes on behind it: no checkpoint stands then, where none stood nothing was changed, nor where one
-    // waits, and no call was refused.
+    // For a command that goes on behind it: no checkpoint stands then, and where none stood nothing was changed, nor where one
+    // waits.
     ensures cleared { H.tells → IfOk result (λ done. IsClear done → Holds None (H.told host.new)) }
     ensures same { H.tells → result ≡ Ok Recovered.Nothing → (H.told host.new).state ≡ (H.told host.old).state }
     ensures stays { result ≡ Ok Recovered.Nothing → Steps Stays (H.told host.old).stops (H.told host.new).stops }
     ensures waiting_same { H.tells → (deadline : ℕ) → result ≡ Ok (Recovered.Waiting deadline) → (H.told host.new).state ≡ (H.told host.old).state }
-    ensures quiet { OnOk result (NoneRefused (H.told host.old).kernel (H.told host.new).kernel) }
     // Also where the host isn't sound: once it is done, the host reads as what the machine leaves.
     ensures after { H.honest → OnOk result (standing (H.told host.new).state ≡ (recover now (standing (H.told host.old).state)).after) }
     // It begins only where a change is to be taken back.
@@ -105,6 +110,8 @@ pub fn settle<H: Host>(host: &mut H, alloc: Global, now: u64) -> Result<Option<u
         → BackExit (recover now (standing (H.told host.old).state)).after (at (standing (H.told host.old).state))
         (Only (standing (H.told host.new).state)) result }
     ensures kept { H.honest → Sound (H.told host.old) → Kept (Only (recover now (standing (H.told host.old).state)).after) (H.told host.old) (H.told host.new) }
+    // What every host counts.
+    ensures counts { BackCounts (H.told host.old).kernel (H.told host.new).kernel result }
     // It takes memory only where a change is to be taken back.
     ensures memory { H.tells → IsErrOf result BackFault.OutOfMemory → HasTaken now (standing (H.told host.old).state).cell }
     // It never answers, as a rollback does, that there is no checkpoint.

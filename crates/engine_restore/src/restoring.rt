@@ -1,9 +1,9 @@
-ghost use Rattle.std.specs.Prelude.{◌≡◌, ◌≢◌, ◌⊎◌, ◌≤◌, ℕ, not, true, false, List, None, Some, OnOk, OnErr, IfOk, IfErr, IsErrOf, IsSome};
+ghost use Rattle.std.specs.Prelude.{◌≡◌, ◌≢◌, ◌⊎◌, ◌≤◌, ℕ, not, true, false, [], length, List, None, Some, OnOk, OnErr, IfOk, IfErr, IsErrOf, IsSome};
 ghost use Rattle.net_model.specs.NetData.{NetData, IsNet};
 ghost use Rattle.kernel_model.specs.Runs.{Runs};
 ghost use Rattle.host_core.specs.Faults.{Rose, HasCause, HasFault};
 ghost use Rattle.host_core.specs.Stops.{Steps, Stays};
-ghost use Rattle.host_core.specs.HostView.{State, HasNet, SameKernel, WasRefused, NoneRefused};
+ghost use Rattle.host_core.specs.HostView.{State, HasNet, SameKernel};
 ghost use Rattle.checkpoint_cell.specs.Cell.{Checkpoint, cell_of, saved_net, is_due, applying, in_phase};
 ghost use Rattle.checkpoint_cell.specs.Steps.{Holds};
 ghost use Rattle.checkpoint_cell.specs.Loaded.{IsBad};
@@ -14,7 +14,9 @@ ghost use Rattle.engine_model.specs.Sound.{Sound};
 ghost use Rattle.engine_model.specs.Stations.{Only, Kept, Ends, IsSettled, Waits, FromRead, Any};
 ghost use Rattle.checkpoint_cell.specs.Settled.{restored_to};
 ghost use Rattle.engine_model.specs.Answers.{IsBefore, IsHealthy, IsClear, IsTaken, IsUndone, Finds};
-ghost use Rattle.engine_model.specs.Faults.{IsDamaged, Differs};
+ghost use Rattle.engine_model.specs.Refusals.{NoCallMade, BackCounts};
+ghost use Rattle.engine_model.specs.Faults.{IsDamaged, Differs, GaveSaved};
+ghost use Rattle.engine_restore.specs.Given.{IsGiven};
 
 use crate::devices::differing;
 use crate::running::{RunFault, run};
@@ -34,8 +36,11 @@ fn ready<H: Host>(host: &mut H, alloc: Global) -> Result<Vec<Call>, BackFault>
     ensures settled { OnOk result (H.told host.new).settled }
     ensures state { H.tells → (H.told host.new).state ≡ (H.told host.old).state }
     ensures stops { Steps Stays (H.told host.old).stops (H.told host.new).stops }
-    ensures quiet { NoneRefused (H.told host.old).kernel (H.told host.new).kernel }
+    // It makes no call. Where calls are planned, the network that was dumped is there, and they lead from it to the saved one.
+    ensures unmade { NoCallMade (H.told host.old).kernel (H.told host.new).kernel }
     ensures calls { OnOk result ((H.told host.new).kernel.calls ≡ 0) }
+    ensures found { H.tells → OnOk result (IsSome (H.told host.old).state.net) }
+    ensures gives { H.tells → IfOk result (λ calls. IsGiven calls.items (H.told host.new)) }
     ensures refused { (k n : ℕ) (left : Left) → IsErrOf result (BackFault.KernelRefused k n left) → ⊥ }
     ensures healthy { H.honest → Sound (H.told host.old) → IfErr result (λ fault. IsHealthy fault) }
     ensures exact { H.honest → (checkpoint : Checkpoint) → Holds (Some checkpoint) (H.told host.old)
@@ -110,11 +115,10 @@ fn undo<H: Host>(host: &mut H, alloc: Global, calls: &[Call]) -> Result<(), Back
     ensures healthy { H.honest → (from saved : NetData) → (H.told host.old).state.net ≡ Some from
         → Runs calls.now from saved → IfErr result (λ fault. IsHealthy fault) }
     ensures begun { IfErr result (λ fault. IsBefore fault → ⊥) }
-    ensures refused { (k n : ℕ) (left : Left) → IsErrOf result (BackFault.KernelRefused k n left)
-        → (H.told host.old).kernel.calls ≡ 0 → WasRefused k n (H.told host.old).kernel (H.told host.new).kernel }
+    ensures counts { (H.told host.old).kernel.calls ≡ 0 → BackCounts (H.told host.old).kernel (H.told host.new).kernel result }
     ensures given_up { (k n : ℕ) (left : Left) → IsErrOf result (BackFault.KernelRefused k n left) → left ≡ Left.Pending }
-    ensures quiet { OnOk result (NoneRefused (H.told host.old).kernel (H.told host.new).kernel) }
-    ensures unrefused { (left : Left) → IsErrOf result (BackFault.HostFault left) → NoneRefused (H.told host.old).kernel (H.told host.new).kernel }
+    ensures made { OnOk result ((H.told host.old).kernel.calls ≡ 0 → (H.told host.new).kernel.calls ≡ length calls.now) }
+    ensures idle { H.tells → OnOk result (calls.now ≡ [] → (H.told host.new).fresh ≡ (H.told host.old).fresh) }
     ensures fault { (left : Left) → IsErrOf result (BackFault.HostFault left) → Rose (H.told host.old).faults (H.told host.new).faults }
     ensures set_there { IsErrOf result BackFault.NoCheckpoint → ⊥ }
     ensures side { (left : Left) → IsErrOf result (BackFault.HostFault left) → left ≢ Left.RolledBack }
@@ -147,11 +151,11 @@ fn restore<H: Host>(host: &mut H, alloc: Global, phase: Phase) -> Result<(), Bac
     ensures exact { H.honest → (checkpoint : Checkpoint) → Holds (Some checkpoint) (H.told host.old)
         → Finds (saved_on checkpoint.net (H.told host.old).state.net) result }
     ensures before { IfErr result (λ fault. IsBefore fault → Steps Stays (H.told host.old).stops (H.told host.new).stops) }
-    ensures refused { (k n : ℕ) (left : Left) → IsErrOf result (BackFault.KernelRefused k n left)
-        → WasRefused k n (H.told host.old).kernel (H.told host.new).kernel }
+    // What every host counts, and by what calls the saved network was given. Without a network nothing is done.
+    ensures counts { BackCounts (H.told host.old).kernel (H.told host.new).kernel result }
+    ensures gave { H.tells → OnOk result (GaveSaved (H.told host.new)) }
+    ensures bare { H.tells → (H.told host.old).state.net ≡ None → (H.told host.new).state ≡ (H.told host.old).state }
     ensures given_up { (k n : ℕ) (left : Left) → IsErrOf result (BackFault.KernelRefused k n left) → left ≡ Left.Pending }
-    ensures quiet { OnOk result (NoneRefused (H.told host.old).kernel (H.told host.new).kernel) }
-    ensures unrefused { (left : Left) → IsErrOf result (BackFault.HostFault left) → NoneRefused (H.told host.old).kernel (H.told host.new).kernel }
     ensures fault { (left : Left) → IsErrOf result (BackFault.HostFault left) → Rose (H.told host.old).faults (H.told host.new).faults }
     ensures set_there { IsErrOf result BackFault.NoCheckpoint → ⊥ }
     ensures side { (left : Left) → IsErrOf result (BackFault.HostFault left) → left ≢ Left.RolledBack }
@@ -195,11 +199,12 @@ pub fn go_back<H: Host>(host: &mut H, alloc: Global) -> Result<bool, BackFault>
     ensures unset { H.tells → cell_of (H.told host.old).state.cell ≡ None → IfErr result (λ fault. fault ≡ BackFault.HostFault Left.NotBegun) }
     ensures before { IfErr result (λ fault. IsBefore fault → Steps Stays (H.told host.old).stops (H.told host.new).stops) }
     ensures memory { H.tells → IsErrOf result BackFault.OutOfMemory → IsSome (cell_of (H.told host.old).state.cell) }
-    ensures refused { (k n : ℕ) (left : Left) → IsErrOf result (BackFault.KernelRefused k n left)
-        → WasRefused k n (H.told host.old).kernel (H.told host.new).kernel }
+    // What every host counts, and by what calls the saved network was given. Without a network nothing is done.
+    ensures counts { BackCounts (H.told host.old).kernel (H.told host.new).kernel result }
+    ensures gave { H.tells → IfOk result (λ was. was ≡ true → GaveSaved (H.told host.new)) }
+    ensures unmade { IfOk result (λ was. was ≡ false → (H.told host.new).kernel ≡ (H.told host.old).kernel) }
+    ensures bare { H.tells → (H.told host.old).state.net ≡ None → (H.told host.new).state ≡ (H.told host.old).state }
     ensures given_up { (k n : ℕ) (left : Left) → IsErrOf result (BackFault.KernelRefused k n left) → left ≡ Left.Pending }
-    ensures quiet { OnOk result (NoneRefused (H.told host.old).kernel (H.told host.new).kernel) }
-    ensures unrefused { (left : Left) → IsErrOf result (BackFault.HostFault left) → NoneRefused (H.told host.old).kernel (H.told host.new).kernel }
     ensures fault { (left : Left) → IsErrOf result (BackFault.HostFault left) → Rose (H.told host.old).faults (H.told host.new).faults }
     ensures set_there { IsErrOf result BackFault.NoCheckpoint → ⊥ }
     ensures side { (left : Left) → IsErrOf result (BackFault.HostFault left) → left ≢ Left.RolledBack }
@@ -267,11 +272,11 @@ pub fn take_back<H: Host>(host: &mut H, alloc: Global, now: u64) -> Result<Recov
     ensures pending { H.tells → IsErrOf result (BackFault.HostFault Left.Pending) → IsTaken now (cell_of (H.told host.old).state.cell) }
     ensures unaccepted { H.tells → (k n : ℕ) (left : Left) → IsErrOf result (BackFault.KernelRefused k n left)
         → IsTaken now (cell_of (H.told host.old).state.cell) }
-    ensures refused { (k n : ℕ) (left : Left) → IsErrOf result (BackFault.KernelRefused k n left)
-        → WasRefused k n (H.told host.old).kernel (H.told host.new).kernel }
+    // What every host counts, and by what calls the saved network was given.
+    ensures counts { BackCounts (H.told host.old).kernel (H.told host.new).kernel result }
+    ensures gave { H.tells → result ≡ Ok Recovered.Restored → GaveSaved (H.told host.new) }
+    ensures unmade { IfOk result (λ done. done ≢ Recovered.Restored → (H.told host.new).kernel ≡ (H.told host.old).kernel) }
     ensures given_up { (k n : ℕ) (left : Left) → IsErrOf result (BackFault.KernelRefused k n left) → left ≡ Left.Pending }
-    ensures quiet { OnOk result (NoneRefused (H.told host.old).kernel (H.told host.new).kernel) }
-    ensures unrefused { (left : Left) → IsErrOf result (BackFault.HostFault left) → NoneRefused (H.told host.old).kernel (H.told host.new).kernel }
     ensures fault { (left : Left) → IsErrOf result (BackFault.HostFault left) → Rose (H.told host.old).faults (H.told host.new).faults }
     ensures set_there { IsErrOf result BackFault.NoCheckpoint → ⊥ }
     ensures side { (left : Left) → IsErrOf result (BackFault.HostFault left) → left ≢ Left.RolledBack }

@@ -1,9 +1,10 @@
-ghost use Rattle.std.specs.Prelude.{◌≡◌, ◌⊎◌, ◌≤◌, ◌+◌, ℕ, None, Some, OnOk, OnErr, IsErrOf};
+ghost use Rattle.std.specs.Prelude.{◌≡◌, ◌⊎◌, ◌≤◌, ◌+◌, ℕ, [], length, None, Some, OnOk, OnErr, IsErrOf};
 ghost use Rattle.net_model.specs.NetData.{NetData};
 ghost use Rattle.kernel_model.specs.Runs.{Runs};
 ghost use Rattle.host_core.specs.Faults.{HasFault};
 ghost use Rattle.host_core.specs.Stops.{Steps};
 ghost use Rattle.host_core.specs.HostView.{State, SameCell, WasRefused, NoneRefused};
+ghost use Rattle.engine_model.specs.Refusals.{RefusedOnce};
 ghost use Rattle.engine_model.specs.Stations.{RunStep, FrontStep};
 
 use host_core::{CallFault, Host};
@@ -34,9 +35,12 @@ pub fn run<H: Host>(host: &mut H, alloc: Global, calls: &[Call]) -> Result<(), R
         → Steps (FrontStep calls.now from) (H.told host.old).stops (H.told host.new).stops }
     ensures refused { (k n : ℕ) → IsErrOf result (RunFault.Refused k n) → (H.told host.old).kernel.calls ≡ 0
         → WasRefused k n (H.told host.old).kernel (H.told host.new).kernel }
+    ensures once { (k n : ℕ) → IsErrOf result (RunFault.Refused k n) → RefusedOnce (H.told host.old).kernel (H.told host.new).kernel }
     ensures quiet { ((k n : ℕ) → IsErrOf result (RunFault.Refused k n) → ⊥) → NoneRefused (H.told host.old).kernel (H.told host.new).kernel }
+    ensures made { OnOk result ((H.told host.old).kernel.calls ≡ 0 → (H.told host.new).kernel.calls ≡ length calls.now) }
     // No dump is made.
     ensures fresh { H.tells → ((H.told host.new).fresh ≡ (H.told host.old).fresh) ⊎ ((H.told host.new).fresh ≡ None) }
+    ensures idle { H.tells → calls.now ≡ [] → (H.told host.new).fresh ≡ (H.told host.old).fresh }
     ensures cause { HasFault (H.told host.old).faults (H.told host.new).faults RunFault.Failed result }
 {
     step_laws();

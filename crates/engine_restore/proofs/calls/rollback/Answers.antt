@@ -1,4 +1,4 @@
-use Rattle.std.proofs.Common.{◌≡◌, Err, sym, ap, subst}
+use Rattle.std.proofs.Common.{◌≡◌, Err, inl, sym, ap, subst}
 use Rattle.std.specs.Prelude.{⊤}
 use Rattle.checkpoint_cell.specs.Settled.{Standing, standing}
 use Rattle.checkpoint_cell.specs.Cell.{cell_of}
@@ -9,7 +9,8 @@ use Rattle.engine_model.specs.Answers.{IsUndone}
 use Rattle.engine_model.specs.Machine.{rollback}
 use Rattle.engine_model.proofs.lemmas.Leading.{kept_wider}
 use Rattle.engine_model.proofs.lemmas.Machines.{ends_within, ends_reads, read_within, going_as}
-use Rattle.engine_model.proofs.lemmas.Backs.{undone_only, rolled_back, fault_exit, fault_reads}
+use Rattle.engine_model.proofs.lemmas.Backs.{undone_only, rolled_back, fault_exit, fault_reads, fault_says}
+use Rattle.engine_model.proofs.lemmas.Refusals.{back_as}
 use Rattle.std.specs.Prelude.{Bool}
 use Rattle.std.proofs.Common.{refl}
 use Rattle.engine_model.proofs.lemmas.Finding.{rolled_exact, rollback_exact}
@@ -88,3 +89,22 @@ pub returns-in-Err-clause-exact : goal.returns-in-Err-clause-exact
 returns-in-Err-clause-exact g c = λ honest.
     let old = g.H.Host.told c.args.host.now in
     rollback_exact old.state (cell_of old.state.cell) refl Bool c.in-Err.fault (λ checkpoint is. c.in-Err.ensures.exact honest checkpoint is) (c.in-Err.ensures.unset (g.met.H.Host.honest_tells honest))
+
+-- ---- on every host
+
+pub returns-in-Err-clause-says : goal.returns-in-Err-clause-says
+returns-in-Err-clause-says g c =
+    let old = g.H.Host.told c.args.host.now in
+    let e = c.in-Err.ensures in
+    fault_says g.H.Host.tells (rollback (standing old.state)).answer old (g.H.Host.told c.go_back.new.host) (g.met.H.Host.lawful c.args.host.now).stops (g.met.H.Host.lawful c.args.host.now).reads c.in-Err.fault
+    (λ is. e.set_there (ap (λ x. Err x) is)) (λ left is. e.fault left (ap (λ x. Err x) is)) (λ left is. e.side left (ap (λ x. Err x) is)) e.same (λ k n left is. e.given_up k n left (ap (λ x. Err x) is)) e.before
+    (λ tells area is. e.damaged tells area (ap (λ x. Err x) is)) (λ tells names is. e.differs tells names (ap (λ x. Err x) is))
+
+pub returns-in-Err-clause-counts : goal.returns-in-Err-clause-counts
+returns-in-Err-clause-counts g c = back_as Bool ⊤ (g.H.Host.told c.args.host.now).kernel (g.H.Host.told c.go_back.new.host).kernel c.in-Err.fault c.in-Err.ensures.counts
+
+pub returns-in-Ok-false-clause-counts : goal.returns-in-Ok-false-clause-counts
+returns-in-Ok-false-clause-counts g c = inl (c.in-Ok-false.ensures.unmade c.in-Ok-false.field-0-test)
+
+pub returns-in-Ok-true-clause-gave : goal.returns-in-Ok-true-clause-gave
+returns-in-Ok-true-clause-gave g c = λ tells. c.in-Ok-true.ensures.gave tells c.in-Ok-true.field-0-test

@@ -1,4 +1,4 @@
-use Rattle.std.proofs.Common.{◌≡◌, ◌∙◌, Option, Some, None, sym, ap, subst}
+use Rattle.std.proofs.Common.{◌≡◌, ◌∙◌, inl, Option, Some, None, sym, ap, subst}
 use Rattle.std.specs.Prelude.{Err}
 use Rattle.engine_model.specs.declared.answers.BackFault.TheVariants.{Damaged}
 use Rattle.net_model.specs.NetData.{NetData}
@@ -21,8 +21,10 @@ use Rattle.engine_model.specs.Answers.{Finds}
 use Rattle.engine_model.specs.Machine.{saved_on}
 use Rattle.engine_model.specs.declared.BackFault.{BackFault}
 use Rattle.engine_model.proofs.lemmas.Finding.{finds_as}
+use Rattle.engine_model.specs.Refusals.{NoCallMade}
+use Rattle.engine_model.proofs.lemmas.Refusals.{quiet_same, quiet_on, back_after, back_as}
 use Rattle.engine_restore.proofs.restoring.go_back.Goals as goal
-use Rattle.engine_restore.proofs.restoring.go_back.Goals.{After-restore}
+use Rattle.engine_restore.proofs.restoring.go_back.Goals.{After-barrier, After-restore}
 
 as_set : (g : _) (c : After-restore g) → g.H.Host.tells → SetAs (cell_of (g.H.Host.told c.args.host.now).state.cell) c.in-Set.phase c.in-Set.made c.in-Set.deadline
 as_set g c tells = set_as (cell_of (g.H.Host.told c.args.host.now).state.cell) c.in-Set.phase c.in-Set.made c.in-Set.deadline (sym c.in-Set.is ∙ c.in-Ok.ensures.seen tells)
@@ -152,3 +154,41 @@ returns-in-Err-restore-clause-unset g c = λ tells none.
     let set = as_set g (goal.at.returns-in-Err-restore-clause-unset g c).After-restore tells in
     let e : Some set.checkpoint ≡ None = sym set.is ∙ none in
     absurd (cc)
+
+-- ---- what is counted
+
+looked : (g : _) (c : After-barrier g) → NoCallMade (g.H.Host.told c.args.host.now).kernel (g.H.Host.told c.barrier.new.host).kernel
+looked g c = inl c.barrier.ensures.untouched.kernel.kernel
+
+pub returns-in-Err-clause-counts : goal.returns-in-Err-clause-counts
+returns-in-Err-clause-counts g c = looked g (goal.at.returns-in-Err-clause-counts g c).After-barrier
+
+pub returns-in-Empty-clause-counts : goal.returns-in-Empty-clause-counts
+returns-in-Empty-clause-counts g c = quiet_same (g.H.Host.told c.args.host.now).kernel (g.H.Host.told c.barrier.new.host).kernel c.barrier.ensures.untouched.kernel.kernel
+
+pub returns-in-Ok-restore-clause-counts : goal.returns-in-Ok-restore-clause-counts
+returns-in-Ok-restore-clause-counts g c =
+    let mid = (g.H.Host.told c.barrier.new.host).kernel in
+    quiet_on (g.H.Host.told c.args.host.now).kernel mid (g.H.Host.told c.restore.new.host).kernel (quiet_same (g.H.Host.told c.args.host.now).kernel mid c.barrier.ensures.untouched.kernel.kernel) c.in-Ok-restore.ensures.counts
+
+pub returns-in-Err-restore-clause-counts : goal.returns-in-Err-restore-clause-counts
+returns-in-Err-restore-clause-counts g c =
+    let old = (g.H.Host.told c.args.host.now).kernel in
+    let new = (g.H.Host.told c.restore.new.host).kernel in
+    back_as ⊤ Bool old new c.in-Err-restore.fault
+    (back_after {A = ⊤} old (g.H.Host.told c.barrier.new.host).kernel new (Err c.in-Err-restore.fault) (looked g (goal.at.returns-in-Err-restore-clause-counts g c).After-barrier) c.in-Err-restore.ensures.counts)
+
+pub returns-in-Ok-restore-clause-gave : goal.returns-in-Ok-restore-clause-gave
+returns-in-Ok-restore-clause-gave g c = λ tells was. c.in-Ok-restore.ensures.gave tells
+
+-- ---- without a network nothing is done
+
+still_bare : (g : _) (c : After-restore g) → g.H.Host.tells → (g.H.Host.told c.args.host.now).state.net ≡ None → (g.H.Host.told c.restore.new.host).state ≡ (g.H.Host.told c.args.host.now).state
+still_bare g c tells none =
+    c.restore.ensures.bare tells (c.barrier.ensures.untouched.kernel.net tells ∙ none) ∙ same_state g.H.Host.tells (g.H.Host.told c.args.host.now) (g.H.Host.told c.barrier.new.host) c.barrier.ensures.untouched tells
+
+pub returns-in-Ok-restore-clause-bare : goal.returns-in-Ok-restore-clause-bare
+returns-in-Ok-restore-clause-bare g c = λ tells none. still_bare g (goal.at.returns-in-Ok-restore-clause-bare g c).After-restore tells none
+
+pub returns-in-Err-restore-clause-bare : goal.returns-in-Err-restore-clause-bare
+returns-in-Err-restore-clause-bare g c = λ tells none. still_bare g (goal.at.returns-in-Err-restore-clause-bare g c).After-restore tells none

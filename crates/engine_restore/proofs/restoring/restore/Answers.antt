@@ -1,11 +1,11 @@
-use Rattle.std.proofs.Common.{◌≡◌, ◌∙◌, List, Option, Some, sym, ap, subst}
+use Rattle.std.proofs.Common.{◌≡◌, ◌∙◌, inl, List, Option, Some, Err, sym, ap, subst}
 use Rattle.std.proofs.lemmas.Result.{on_ok_weaker}
 use Rattle.net_model.specs.NetData.{NetData, IsNet}
 use Rattle.net_model.specs.declared.Call.{Call}
 use Rattle.kernel_model.specs.Runs.{Runs}
-use Rattle.host_core.specs.HostView.{State, HasNet}
+use Rattle.host_core.specs.HostView.{State, Kernel, HasNet}
 use Rattle.checkpoint_cell.specs.declared.Phase.TheVariants.{Applying}
-use Rattle.checkpoint_cell.specs.Cell.{Checkpoint, in_phase, applying}
+use Rattle.checkpoint_cell.specs.Cell.{Checkpoint, in_phase, applying, saved_net}
 use Rattle.checkpoint_cell.proofs.lemmas.Saved.{saved_is}
 use Rattle.checkpoint_cell.specs.Steps.{Holds}
 use Rattle.engine_model.specs.Undone.{stand}
@@ -14,13 +14,17 @@ use Rattle.engine_model.specs.Stations.{Only, Kept, Ends}
 use Rattle.checkpoint_cell.specs.Settled.{restored_to}
 use Rattle.engine_model.proofs.lemmas.Leading.{kept_stays, kept_on, sound_stays}
 use Rattle.engine_model.proofs.lemmas.Restores.{held_stays, is_applying, ends_held}
-use Rattle.std.specs.Prelude.{⊤, Vec}
+use Rattle.std.specs.Prelude.{⊤, Vec, OnOk}
 use Rattle.std.specs.declared.alloc.Global.{Global}
 use Rattle.engine_model.specs.Machine.{saved_on}
 use Rattle.engine_model.proofs.lemmas.Finding.{finds_as, finds_done, found_saved}
-use Rattle.engine_restore.proofs.Compares.{restored_net}
+use Rattle.engine_model.specs.Refusals.{NoCallMade}
+use Rattle.engine_model.proofs.lemmas.Refusals.{unmade_quiet, unmade_on, back_after, back_unmade}
+use Rattle.engine_restore.specs.Given.{IsGiven}
+use Rattle.engine_restore.proofs.Gives.{gave_saved}
+use Rattle.engine_restore.proofs.Compares.{restored_net, none_here}
 use Rattle.engine_restore.proofs.restoring.restore.Goals as goal
-use Rattle.engine_restore.proofs.restoring.restore.Goals.{After-take_up}
+use Rattle.engine_restore.proofs.restoring.restore.Goals.{After-take_up, After-undo}
 
 -- what is known before the change is taken up
 record Ready (g : _) (c : After-take_up g) (checkpoint : Checkpoint) (saved : NetData) : Type 0 where
@@ -89,8 +93,9 @@ returns-in-Ok-take_up-clause-healthy g c = λ honest sound.
     let k = known g (goal.at.returns-in-Ok-take_up-clause-healthy g c).After-take_up was.0 w.saved honest was.1 w.is_saved in
     c.undo.ensures.healthy honest k.from w.saved (c.take_up.ensures.kernel.net tells ∙ k.net) (subst (λ (l : List Call). Runs l k.from w.saved) (sym c.deref.ensures.value) k.runs)
 
-pub returns-in-Ok-take_up-clause-saved : goal.returns-in-Ok-take_up-clause-saved
-returns-in-Ok-take_up-clause-saved g c = λ tells.
+-- the saved network stays in its place
+stays_saved : (g : _) (c : After-undo g) → g.H.Host.tells → OnOk c.undo.result (saved_net (g.H.Host.told c.undo.new.host).state.cell ≡ saved_net (g.H.Host.told c.args.host.now).state.cell)
+stays_saved g c tells =
     let was = c.requires tells in
     let old = g.H.Host.told c.args.host.now in
     let there = held_stays (Some was.0) old (g.H.Host.told c.ready.new.host) was.1 c.ready.ensures.stops (ap (λ (s : State). s.cell) (c.ready.ensures.state tells)) in
@@ -98,6 +103,9 @@ returns-in-Ok-take_up-clause-saved g c = λ tells.
     on_ok_weaker c.undo.result
     (λ same. same ∙ saved_is (in_phase Applying was.0) (g.H.Host.told c.take_up.new.host).state.cell marked.cell ∙ sym (saved_is was.0 old.state.cell was.1.cell))
     (c.undo.ensures.saved tells)
+
+pub returns-in-Ok-take_up-clause-saved : goal.returns-in-Ok-take_up-clause-saved
+returns-in-Ok-take_up-clause-saved g c = λ tells. stays_saved g (goal.at.returns-in-Ok-take_up-clause-saved g c).After-undo tells
 
 pub returns-in-Err-clause-exact : goal.returns-in-Err-clause-exact
 returns-in-Err-clause-exact g c = λ honest checkpoint holds. finds_as (Vec Call Global) ⊤ (saved_on checkpoint.net (g.H.Host.told c.args.host.now).state.net) c.in-Err.fault (c.in-Err.ensures.exact honest checkpoint holds)
@@ -128,3 +136,38 @@ returns-in-Ok-take_up-clause-reads g c = λ honest.
     let cell = saved_is (in_phase Applying was.0) (g.H.Host.told c.take_up.new.host).state.cell marked.cell ∙ has in
     restored_net is.0 (g.H.Host.told c.take_up.new.host) new c.undo.result ((g.met.H.Host.lawful c.undo.new.host).reads tells) cell
     (c.undo.ensures.ends honest k.from is.0 (c.take_up.ensures.kernel.net tells ∙ k.net) (subst (λ (l : List Call). Runs l k.from is.0) (sym c.deref.ensures.value) k.runs)) (c.undo.ensures.saved tells)
+
+-- ---- what is counted, and what was given
+
+pub returns-in-Err-clause-counts : goal.returns-in-Err-clause-counts
+returns-in-Err-clause-counts g c =
+    back_unmade (g.H.Host.told c.args.host.now).kernel (g.H.Host.told c.ready.new.host).kernel c.in-Err.fault c.ready.ensures.unmade (λ k n left is. c.in-Err.ensures.refused k n left (ap (λ e. Err e) is))
+
+-- no call was made before the planned ones
+unmade : (g : _) (c : After-take_up g) → NoCallMade (g.H.Host.told c.args.host.now).kernel (g.H.Host.told c.take_up.new.host).kernel
+unmade g c = unmade_on (g.H.Host.told c.args.host.now).kernel (g.H.Host.told c.ready.new.host).kernel (g.H.Host.told c.take_up.new.host).kernel c.ready.ensures.unmade (inl c.take_up.ensures.kernel.kernel)
+
+pub returns-clause-counts : goal.returns-clause-counts
+returns-clause-counts g c = unmade_quiet (g.H.Host.told c.args.host.now).kernel (g.H.Host.told c.take_up.new.host).kernel (unmade g (goal.at.returns-clause-counts g c).After-take_up)
+
+pub returns-in-Ok-take_up-clause-counts : goal.returns-in-Ok-take_up-clause-counts
+returns-in-Ok-take_up-clause-counts g c =
+    back_after (g.H.Host.told c.args.host.now).kernel (g.H.Host.told c.take_up.new.host).kernel (g.H.Host.told c.undo.new.host).kernel c.undo.result (unmade g (goal.at.returns-in-Ok-take_up-clause-counts g c).After-take_up)
+    (c.undo.ensures.counts (ap (λ (k : Kernel). k.calls) c.take_up.ensures.kernel.kernel ∙ c.in-Ok.ensures.calls))
+
+pub returns-in-Ok-take_up-clause-gave : goal.returns-in-Ok-take_up-clause-gave
+returns-in-Ok-take_up-clause-gave g c = λ tells.
+    let mid = g.H.Host.told c.take_up.new.host in
+    let given = c.in-Ok.ensures.gives tells in
+    let calls = c.deref.result.now in
+    let zero : mid.kernel.calls ≡ 0 = ap (λ (k : Kernel). k.calls) c.take_up.ensures.kernel.kernel ∙ c.in-Ok.ensures.calls in
+    gave_saved calls (g.H.Host.told c.ready.new.host) (g.H.Host.told c.undo.new.host) c.undo.result (subst (λ (l : List Call). IsGiven l (g.H.Host.told c.ready.new.host)) (sym c.deref.ensures.value) given)
+    (on_ok_weaker c.undo.result (λ made. made zero) c.undo.ensures.made)
+    (on_ok_weaker c.undo.result (λ idle. λ none. idle none ∙ c.take_up.ensures.kernel.fresh tells) (c.undo.ensures.idle tells))
+    (on_ok_weaker c.undo.result (λ same. same ∙ ap (λ (s : State). saved_net s.cell) (sym (c.ready.ensures.state tells))) (stays_saved g (goal.at.returns-in-Ok-take_up-clause-gave g c).After-undo tells))
+
+pub returns-clause-bare : goal.returns-clause-bare
+returns-clause-bare g c = λ tells none. absurd (none_here (g.H.Host.told c.args.host.now).state.net (c.in-Ok.ensures.found tells) none)
+
+pub returns-in-Ok-take_up-clause-bare : goal.returns-in-Ok-take_up-clause-bare
+returns-in-Ok-take_up-clause-bare g c = λ tells none. absurd (none_here (g.H.Host.told c.args.host.now).state.net (c.in-Ok.ensures.found tells) none)

@@ -1,7 +1,7 @@
 use Rattle.std.proofs.Common.{◌≡◌, ◌∙◌, Option, Some, None, Err, ℕ, ap, subst, refl}
 use Rattle.net_model.specs.NetData.{NetData, IsNet}
 use Rattle.kernel_model.specs.Runs.{Runs}
-use Rattle.host_core.specs.HostView.{HasNet}
+use Rattle.host_core.specs.HostView.{HasNet, Kernel}
 use Rattle.checkpoint_cell.specs.Cell.{applying}
 use Rattle.checkpoint_cell.specs.Steps.{Holds, NoneOr}
 use Rattle.checkpoint_cell.specs.Settled.{Standing}
@@ -11,6 +11,7 @@ use Rattle.engine_model.specs.Stations.{Only, Kept, Ends}
 use Rattle.checkpoint_cell.specs.Settled.{restored_to}
 use Rattle.engine_model.proofs.lemmas.Leading.{run_kept, cell_kept, same_kind, kept_on}
 use Rattle.engine_model.proofs.lemmas.Restores.{held, ends_held, clearing}
+use Rattle.engine_model.proofs.lemmas.Refusals.{quiet_same, quiet_on}
 use Rattle.engine_restore.proofs.restoring.undo.Goals as goal
 use Rattle.engine_restore.proofs.restoring.undo.Goals.{After-run, After-clear}
 
@@ -62,3 +63,35 @@ returns-in-Ok-clear-clause-ends g c = λ honest from saved is runs.
     let new = g.H.Host.told c.clear.new.host in
     let nets : HasNet (Some saved) mid = subst (λ (n : Option NetData). HasNet n mid) (c.in-Ok.ensures.reached honest from saved is runs) ((g.met.H.Host.lawful c.run.new.host).no_doubt tells c.in-Ok.ensures.settled) in
     ends_held saved None new (λ s left. let was = c.clear.ensures.stops_net.now s left in was.2 ∙ nets was.0 was.1) (c.in-Ok-clear.ensures.cleared tells)
+
+-- ---- what is counted
+
+pub returns-in-Err-Refused-clause-counts : goal.returns-in-Err-Refused-clause-counts
+returns-in-Err-Refused-clause-counts g c = λ zero. (
+  c.in-Err-Refused.ensures.refused _ _ (ap (λ e. Err e) c.in-Err-Refused.field-0-is) zero,
+  c.in-Err-Refused.ensures.once _ _ (ap (λ e. Err e) c.in-Err-Refused.field-0-is),
+)
+
+pub returns-in-Err-Failed-clause-counts : goal.returns-in-Err-Failed-clause-counts
+returns-in-Err-Failed-clause-counts g c = λ zero. c.in-Err-Failed.ensures.quiet (λ k n is. cc)
+
+pub returns-in-Err-OutOfMemory-clause-counts : goal.returns-in-Err-OutOfMemory-clause-counts
+returns-in-Err-OutOfMemory-clause-counts g c = λ zero. c.in-Err-OutOfMemory.ensures.quiet (λ k n is. cc)
+
+pub returns-in-Ok-clear-clause-counts : goal.returns-in-Ok-clear-clause-counts
+returns-in-Ok-clear-clause-counts g c = λ zero.
+    let mid = (g.H.Host.told c.run.new.host).kernel in
+    let new = (g.H.Host.told c.clear.new.host).kernel in
+    quiet_on (g.H.Host.told c.args.host.now).kernel mid new (c.in-Ok.ensures.quiet (λ k n is. cc)) (quiet_same mid new c.clear.ensures.kernel.kernel)
+
+pub returns-in-Err-clause-counts : goal.returns-in-Err-clause-counts
+returns-in-Err-clause-counts g c = λ zero.
+    let mid = (g.H.Host.told c.run.new.host).kernel in
+    let new = (g.H.Host.told c.clear.new.host).kernel in
+    quiet_on (g.H.Host.told c.args.host.now).kernel mid new (c.in-Ok.ensures.quiet (λ k n is. cc)) (quiet_same mid new c.clear.ensures.kernel.kernel)
+
+pub returns-in-Ok-clear-clause-made : goal.returns-in-Ok-clear-clause-made
+returns-in-Ok-clear-clause-made g c = λ zero. ap (λ (k : Kernel). k.calls) c.clear.ensures.kernel.kernel ∙ c.in-Ok.ensures.made zero
+
+pub returns-in-Ok-clear-clause-idle : goal.returns-in-Ok-clear-clause-idle
+returns-in-Ok-clear-clause-idle g c = λ tells none. c.clear.ensures.kernel.fresh tells ∙ c.run.ensures.idle tells none

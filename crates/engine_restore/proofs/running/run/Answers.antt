@@ -1,6 +1,7 @@
-use Rattle.std.proofs.Common.{◌≡◌, ◌∙◌, inl, inr, Err, Ok, Some, refl, ap, arith, Option, subst}
+use Rattle.std.proofs.Common.{◌≡◌, ◌∙◌, inl, inr, Err, Ok, Some, refl, ap, arith, Option, subst, List, [], length}
 use Rattle.host_core.specs.declared.host.CallFault.TheVariants.{Refused, Failed}
 use Rattle.net_model.specs.NetData.{NetData}
+use Rattle.net_model.specs.declared.Call.{Call}
 use Rattle.kernel_model.specs.Runs.{Runs}
 use Rattle.host_core.specs.Stops.{Steps}
 use Rattle.host_core.specs.HostView.{SameCell, HasNet}
@@ -38,6 +39,26 @@ returns-in-Err-Refused-clause-accepted g c = λ honest from to is runs k n refus
 pub returns-in-Err-Refused-clause-quiet : goal.returns-in-Err-Refused-clause-quiet
 returns-in-Err-Refused-clause-quiet g c = λ none. absurd (none _ _ refl)
 
+-- ---- what is counted
+
+pub returns-in-Err-Refused-clause-once : goal.returns-in-Err-Refused-clause-once
+returns-in-Err-Refused-clause-once g c = λ k n is.
+    ap (λ (k : Kernel). k.refusals) (c.in-Err-Refused.ensures.counts c.in-Err-Refused.k (ap (λ e. Err e) c.in-Err-Refused.field-0-is)) ∙ ap one_more c.loop-i.invariant.quiet.refusals
+
+none_left : (g : _) (c : After-call g) → c.args.calls.now ≡ [] → ⊥
+none_left g c none = let zero : length c.args.calls.now ≡ 0 = ap (λ (l : List Call). length l) none in let lt = c.loop-i-test.true in absurd (omega (arith, lt, zero))
+
+pub returns-in-Err-Refused-clause-idle : goal.returns-in-Err-Refused-clause-idle
+returns-in-Err-Refused-clause-idle g c = λ tells none. absurd (none_left g (goal.at.returns-in-Err-Refused-clause-idle g c).After-call none)
+
+pub returns-in-Err-Failed-clause-idle : goal.returns-in-Err-Failed-clause-idle
+returns-in-Err-Failed-clause-idle g c = λ tells none. absurd (none_left g (goal.at.returns-in-Err-Failed-clause-idle g c).After-call none)
+
+pub returns-in-Err-OutOfMemory-clause-idle : goal.returns-in-Err-OutOfMemory-clause-idle
+returns-in-Err-OutOfMemory-clause-idle g c = λ tells none. absurd (none_left g (goal.at.returns-in-Err-OutOfMemory-clause-idle g c).After-call none)
+
+-- ---- what stops leave
+
 pub returns-in-Err-Refused-clause-stops_cell : goal.returns-in-Err-Refused-clause-stops_cell
 returns-in-Err-Refused-clause-stops_cell g c = follow SameCell SameCell SameCell _ _ _ c.loop-i.invariant.stops_cell c.call.ensures.stops_cell (λ r s left same. same) (λ q r s was left one two. two ∙ one)
 
@@ -74,5 +95,6 @@ loop-i-preserved g c =
       quiet = record { refusals = ap (λ (k : Kernel). k.refusals) counts ∙ c.loop-i.invariant.quiet.refusals; last = ap (λ (k : Kernel). k.last) counts ∙ c.loop-i.invariant.quiet.last };
       calls = λ zero. let is : before.kernel.calls ≡ c.loop-i.i = c.loop-i.invariant.calls zero in let more : after.kernel.calls ≡ one_more before.kernel.calls = ap (λ (k : Kernel). k.calls) counts in omega (arith, is, more);
       fresh = λ tells. inr (c.call.ensures.fresh tells);
+      idle = λ tells none. absurd (omega (arith, none));
       later = omega (arith, c.loop-i.invariant.later, c.call.ensures.cause.later);
     }

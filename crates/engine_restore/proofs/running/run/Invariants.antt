@@ -19,5 +19,6 @@ invariant-loop-i g l = record {
   quiet : NoneRefused (g.H.Host.told l.fn.host).kernel (g.H.Host.told l.host).kernel;
   calls : (g.H.Host.told l.fn.host).kernel.calls ≡ 0 → (g.H.Host.told l.host).kernel.calls ≡ l.i;
   fresh : g.H.Host.tells → ((g.H.Host.told l.host).fresh ≡ (g.H.Host.told l.fn.host).fresh) ⊎ ((g.H.Host.told l.host).fresh ≡ None);
+  idle : g.H.Host.tells → l.i ≡ 0 → (g.H.Host.told l.host).fresh ≡ (g.H.Host.told l.fn.host).fresh;
   later : (g.H.Host.told l.fn.host).faults ≤ (g.H.Host.told l.host).faults;
 }
