@@ -3,6 +3,7 @@ mod Commits
 mod Attempts
 mod Gives
 mod Says
+mod Counts
 mod Applies
 mod Exacts
 mod Tries

@@ -1,20 +1,21 @@
 -- What the answers of an apply say on every host, carried through its parts.
-use Rattle.std.proofs.Common.{◌≡◌, ◌≢◌, ◌≤◌, arith, ℕ, refl, sym, ap, ◌∙◌, subst, false, Some, None, Result, Ok, Err, List}
-use Rattle.std.specs.Prelude.{OnOk, OnErr, IfErr}
+use Rattle.std.proofs.Common.{◌≡◌, ◌≢◌, ◌⊎◌, ◌≤◌, inl, inr, arith, ℕ, Bool, refl, sym, ap, ◌∙◌, subst, true, false, Option, Some, None, Result, Ok, Err, List}
+use Rattle.std.specs.Prelude.{⊤, OnOk, OnErr, IfErr, IsSome}
 use Rattle.net_model.specs.NetData.{NetData}
 use Rattle.document_model.specs.declared.Doc.{Doc}
 use Rattle.document_model.specs.declared.Refused.{Refused}
 use Rattle.host_core.specs.Faults.{Rose}
-use Rattle.host_core.specs.HostView.{State, Kernel, HostView, WasRefused, NoneRefused, dumped}
+use Rattle.host_core.specs.HostView.{State, HostView, NoneRefused}
 use Rattle.host_core.specs.Stops.{Steps, Stays, IsLawful}
-use Rattle.checkpoint_cell.specs.Cell.{cell_of, saved_net}
+use Rattle.checkpoint_cell.specs.Cell.{Checkpoint, cell_of, saved_net}
 use Rattle.checkpoint_cell.specs.Settled.{standing, taken_back}
 use Rattle.checkpoint_cell.specs.declared.Phase.{Phase}
 use Rattle.merge_model.specs.MergedNet.{merge}
 use Rattle.engine_model.specs.Machine.{Asked, asked, apply, apply_step, apply_fault, Outcome, stays}
 use Rattle.engine_model.specs.Stations.{Any, Waits}
 use Rattle.engine_model.specs.Answers.{IsBefore}
-use Rattle.engine_model.specs.Faults.{IsDamaged, Differs, ApplySays}
+use Rattle.engine_model.specs.Refusals.{NoCallMade, BackCounts}
+use Rattle.engine_model.specs.Faults.{IsDamaged, Differs, ApplySays, GaveSaved, GaveBack, StandsDamaged}
 use Rattle.engine_model.specs.declared.answers.Left.{Left}
 use Rattle.engine_model.specs.declared.answers.Left.TheVariants.{NotBegun, RolledBack, Pending}
 use Rattle.engine_model.specs.declared.answers.Applied.{Applied}
@@ -24,38 +25,21 @@ use Rattle.engine_model.specs.declared.answers.BackFault.TheVariants as ba
 use Rattle.engine_model.specs.declared.answers.ApplyFault.{ApplyFault}
 use Rattle.engine_model.specs.declared.answers.ApplyFault.TheVariants as ap_
 use Rattle.engine_model.proofs.lemmas.Backs.{recover_waits}
+use Rattle.engine_model.proofs.lemmas.Refusals.{quiet_on, settled_on}
 use Rattle.engine_core.specs.declared.missed.Missed.{Missed}
 use Rattle.engine_core.specs.declared.missed.Missed.TheVariants as missed
-use Rattle.engine_core.specs.Saying.{Start, start_of, Follows, DamagedSince, Why, Said, taken_back_as, pending_as, damaged_as, stopped_as}
+use Rattle.engine_core.specs.Saying.{Start, start_of, Follows, DamagedSince, IsSet, Why, SettledBy, Said, taken_back_as, pending_as, damaged_as, stopped_as}
 
 abbrev merged_with : NetData → Result NetData Refused
 merged_with to = Ok to
 
--- ---- refusals and faults that came since
-
-pub quiet_same : (a b : Kernel) → b ≡ a → NoneRefused a b
-quiet_same a b same = record { refusals = ap (λ (k : Kernel). k.refusals) same; last = ap (λ (k : Kernel). k.last) same }
-
-pub quiet_dumped : (a b : Kernel) → b ≡ dumped a → NoneRefused a b
-quiet_dumped a b same = record { refusals = ap (λ (k : Kernel). k.refusals) same; last = ap (λ (k : Kernel). k.last) same }
-
-pub quiet_on : (a b c : Kernel) → NoneRefused a b → NoneRefused b c → NoneRefused a c
-quiet_on a b c one two = record { refusals = two.refusals ∙ one.refusals; last = two.last ∙ one.last }
-
-pub refused_after : (k n : ℕ) (a b c : Kernel) → NoneRefused a b → WasRefused k n b c → WasRefused k n a c
-refused_after k n a b c one two = record { rose = subst (λ (r : ℕ). Rose r c.refusals) one.refusals two.rose; last = two.last; counted = two.counted }
-
-refused_before : (k n : ℕ) (a b c : Kernel) → WasRefused k n a b → NoneRefused b c → WasRefused k n a c
-refused_before k n a b c one two = record { rose = subst (λ (r : ℕ). Rose a.refusals r) (sym two.refusals) one.rose; last = two.last ∙ one.last; counted = one.counted }
+-- ---- faults that came since
 
 pub rose_after : (a b c : ℕ) → a ≤ b → Rose b c → Rose a c
 rose_after a b c le rose = omega arith
 
 pub rose_before : (a b c : ℕ) → Rose a b → b ≤ c → Rose a c
 rose_before a b c rose le = omega arith
-
-rose_both : (a b c : ℕ) → Rose a b → Rose b c → Rose a c
-rose_both a b c one two = omega arith
 
 pub follows_on : (start : Start) (old mid : HostView) → Follows start old → old.faults ≤ mid.faults → old.stops.moment ≤ mid.stops.moment → NoneRefused old.kernel mid.kernel → Follows start mid
 follows_on start old mid follows faults moment quiet = record {
@@ -72,71 +56,135 @@ since t area host lawful reads le damaged = record { pair = host.state; left = l
 pub since_keeps : (step : State → State → Type 0) (t area : ℕ) (old new : HostView) → t ≤ old.stops.moment → Steps step old.stops new.stops → DamagedSince t area old → DamagedSince t area new
 since_keeps step t area old new le steps had = record { pair = had.pair; left = steps.keeps t had.pair le had.left; damaged = had.damaged }
 
+-- ---- a checkpoint that stands
+
+pub set_as : (host : HostView) (checkpoint : Checkpoint) → cell_of host.state.cell ≡ Some checkpoint → IsSet host
+set_as host checkpoint is = subst (λ (k : Option Checkpoint). IsSome k) (sym is) refl
+
+set_same : (old mid : HostView) → mid.state ≡ old.state → IsSet old → IsSet mid
+set_same old mid same set = subst (λ (s : State). IsSome (cell_of s.cell)) (sym same) set
+
+unless_none : (cell : Option Checkpoint) → (cell ≡ None → ⊥) → IsSome cell
+unless_none None never = absurd (never refl)
+unless_none (Some checkpoint) never = refl
+
+never_none : (cell : Option Checkpoint) → IsSome cell → cell ≡ None → ⊥
+never_none None some none = cc
+never_none (Some checkpoint) some none = cc
+
 -- ---- why a change misses
 
-pub differs_why : (tells : Type 0) (doc : Doc) (start : Start) (from to found : NetData) (old mid : HostView) → Follows start old → merge from doc ≡ Ok to → (tells → saved_net old.state.cell ≡ Some from) → (tells → mid.state ≡ old.state)
-    → NoneRefused old.kernel mid.kernel → (found ≡ to → ⊥) → Why tells doc start mid (missed.Differs found)
-differs_why tells doc start from to found old mid follows merges saved same quiet differs = (
+pub differs_why : (tells : Type 0) (doc : Doc) (start : Start) (from to found : NetData) (old mid : HostView) → Follows start old → merge from doc ≡ Ok to → (tells → saved_net old.state.cell ≡ Some from) → (tells → IsSet old)
+    → (tells → mid.state ≡ old.state) → NoneRefused old.kernel mid.kernel → (found ≡ to → ⊥) → Why tells doc start mid (missed.Differs found)
+differs_why tells doc start from to found old mid follows merges saved set same quiet differs = (
   quiet_on start.kernel old.kernel mid.kernel follows.quiet quiet,
-  λ told. record {
-    saved = from;
-    is_saved = ap (λ (s : State). saved_net s.cell) (same told) ∙ saved told;
-    other = λ is. let e : merged_with found ≡ merged_with to = sym is ∙ merges in differs (cc);
-  },
+  λ told. (
+    record {
+      saved = from;
+      is_saved = ap (λ (s : State). saved_net s.cell) (same told) ∙ saved told;
+      other = λ is. let e : merged_with found ≡ merged_with to = sym is ∙ merges in differs (cc);
+    },
+    set_same old mid (same told) (set told),
+  ),
 )
 
-why_rose : (tells : Type 0) (doc : Doc) (start : Start) (host : HostView) (why : Missed) → Why tells doc start host why → (r : ℕ) → Rose host.kernel.refusals r → Rose start.kernel.refusals r
-why_rose tells doc start host missed.Failed is r rose = subst (λ (b : ℕ). Rose b r) is.0.refusals rose
-why_rose tells doc start host (missed.Refused k n) is r rose = rose_both start.kernel.refusals host.kernel.refusals r is.rose rose
-why_rose tells doc start host missed.Damaged is r rose = subst (λ (b : ℕ). Rose b r) is.0.refusals rose
-why_rose tells doc start host (missed.Differs found) is r rose = subst (λ (b : ℕ). Rose b r) is.0.refusals rose
-why_rose tells doc start host missed.OutOfMemory is r rose = subst (λ (b : ℕ). Rose b r) is.refusals rose
+-- no network was there to be compared
+pub damaged_why : (tells : Type 0) (doc : Doc) (start : Start) (old mid : HostView) → Follows start old → old.stops.moment ≤ mid.stops.moment → (tells → IsSet old) → (tells → mid.state ≡ old.state) → NoneRefused old.kernel mid.kernel
+    → IsLawful mid.stops → (tells → mid.stops.may_leave mid.state) → (tells → old.state.net ≡ None) → Why tells doc start mid missed.Damaged
+damaged_why tells doc start old mid follows later set same quiet lawful reads none = (
+  quiet_on start.kernel old.kernel mid.kernel follows.quiet quiet,
+  λ told.
+      let bare : mid.state.net ≡ None = ap (λ (s : State). s.net) (same told) ∙ none told in (
+        since start.moment 0 mid lawful (reads told) (omega (arith, follows.moment, later)) (inl (refl, bare)),
+        bare,
+        set_same old mid (same told) (set told),
+      ),
+)
 
 -- ---- where the change is taken back
 
-module _ (tells : Type 0) (doc : Doc) (opts : ApplyOpts) (made : ℕ) (start : Start) (old new : HostView) (faults : start.faults ≤ old.faults) (moment : start.moment ≤ old.stops.moment) where
+-- what still stands is damaged, with the checkpoint by which to take it back
+still_damaged : (tells : Type 0) (area now : ℕ) (start : Start) (old new : HostView) → new.state ≡ old.state → IsSet old → IsDamaged area old.state → StandsDamaged tells area now start.state start.kernel new
+still_damaged tells area now start old new same set damaged = record {
+  damaged = subst (λ (s : State). IsDamaged area s) (sym same) damaged;
+  held = inr (set_same old new same set);
+}
+
+-- no kernel call was made behind it
+pub left_settled : (tells : Type 0) (now : ℕ) (start : Start) (old new : HostView) → SettledBy tells now start old → NoCallMade old.kernel new.kernel → SettledBy tells now start new
+left_settled tells now start old new settled unmade = settled_on tells now start.state start.kernel old.kernel new.kernel settled unmade
+
+-- what was to be taken back was, by calls, or no checkpoint stood
+abbrev pub Returned : HostView → HostView → Type 0
+Returned old new = GaveSaved new ⊎ ((cell_of old.state.cell ≡ None) × (new.kernel ≡ old.kernel))
+
+pub returned : (tells : Type 0) (old new : HostView) (was : Bool) → (tells → was ≡ true → GaveSaved new) → (tells → was ≡ false → cell_of old.state.cell ≡ None) → (was ≡ false → new.kernel ≡ old.kernel) → tells → Returned old new
+returned tells old new true gave empty unmade told = inl (gave told refl)
+returned tells old new false gave empty unmade told = inr (empty told refl, unmade refl)
+
+-- with a checkpoint, by calls
+gave_of : (tells : Type 0) (old new : HostView) → IsSet old → Returned old new → GaveSaved new
+gave_of tells old new set (inl gave) = gave
+gave_of tells old new set (inr none) = absurd (never_none (cell_of old.state.cell) set none.0)
+
+back_of : (tells : Type 0) (now : ℕ) (start : Start) (old new : HostView) → (cell_of old.state.cell ≡ None → SettledBy tells now start old) → Returned old new → GaveBack tells now start.state start.kernel new
+back_of tells now start old new settled (inl gave) = inl gave
+back_of tells now start old new settled (inr none) = inr (left_settled tells now start old new (settled none.0) (inl none.1))
+
+module _ (tells : Type 0) (doc : Doc) (opts : ApplyOpts) (made : ℕ) (start : Start) (old new : HostView) (faults : start.faults ≤ old.faults) (moment : start.moment ≤ old.stops.moment) (bare : tells → old.state.net ≡ None → new.state ≡ old.state) where
   -- it was
-  pub taken_says : (why : Missed) → Why tells doc start old why → ((found : NetData) → why ≡ missed.Differs found → opts.no_verify ≡ false) → NoneRefused old.kernel new.kernel → old.faults ≤ new.faults → Steps Any old.stops new.stops
-      → (tells → cell_of new.state.cell ≡ None) → (tells → saved_net new.state.cell ≡ saved_net old.state.cell) → Said tells (asked doc opts made) start new (Err (taken_back_as why))
-  taken_says missed.Failed is compared quiet later steps none saved = (rose_before start.faults old.faults new.faults is.1 later, none)
-  taken_says (missed.Refused k n) is compared quiet later steps none saved = (refused_before k n start.kernel old.kernel new.kernel is quiet, none, λ same. cc)
-  taken_says missed.Damaged is compared quiet later steps none saved = λ told. since_keeps Any start.moment 0 old new moment steps (is.1 told)
-  taken_says (missed.Differs found) is compared quiet later steps none saved = (refl, compared found refl, none, λ told. let o = is.1 told in record { saved = o.saved; is_saved = saved told ∙ o.is_saved; other = o.other })
-  taken_says missed.OutOfMemory is compared quiet later steps none saved = tt
+  pub taken_says : (why : Missed) → Why tells doc start old why → ((found : NetData) → why ≡ missed.Differs found → opts.no_verify ≡ false) → old.faults ≤ new.faults → Steps Any old.stops new.stops
+      → (tells → cell_of new.state.cell ≡ None) → (tells → saved_net new.state.cell ≡ saved_net old.state.cell) → (tells → Returned old new) → (tells → cell_of old.state.cell ≡ None → SettledBy tells made start old)
+      → Said tells (asked doc opts made) start new (Err (taken_back_as why))
+  taken_says missed.Failed is compared later steps none saved back settled = (rose_before start.faults old.faults new.faults is.1 later, none, λ same told. back_of tells made start old new (settled told) (back told))
+  taken_says (missed.Refused k n) is compared later steps none saved back settled = (none, λ same. cc, λ same told. gave_of tells old new (is.2 told) (back told))
+  taken_says missed.Damaged is compared later steps none saved back settled = λ told.
+      let why = is.1 told in
+      (since_keeps Any start.moment 0 old new moment steps why.0, still_damaged tells 0 made start old new (bare told why.1) why.2 (inl (refl, why.1)))
+  taken_says (missed.Differs found) is compared later steps none saved back settled = (
+    refl,
+    compared found refl,
+    none,
+    (λ told. gave_of tells old new (is.1 told).1 (back told)),
+    (λ told. let o = (is.1 told).0 in record { saved = o.saved; is_saved = saved told ∙ o.is_saved; other = o.other }),
+  )
+  taken_says missed.OutOfMemory is compared later steps none saved back settled = tt
 
   module _ (lawful : IsLawful old.stops) (reads : tells → old.stops.may_leave old.state) where
-    pending_says : (fault : BackFault) → ((r : ℕ) → Rose old.kernel.refusals r → Rose start.kernel.refusals r) → (fault ≡ ba.NoCheckpoint → ⊥) → ((left : Left) → fault ≡ ba.HostFault left → Rose old.faults new.faults)
-        → ((k n : ℕ) (left : Left) → fault ≡ ba.KernelRefused k n left → WasRefused k n old.kernel new.kernel) → (IsBefore fault → Steps Stays old.stops new.stops)
-        → (tells → (area : ℕ) → fault ≡ ba.Damaged area → IsDamaged area old.state) → (tells → (names : List (List ℕ)) → fault ≡ ba.HardwareDiffers names → Differs names new)
-        → Said tells (asked doc opts made) start new (Err (pending_as fault))
-    pending_says ba.NoCheckpoint refusals set rose refused before damaged differs = absurd (set refl)
-    pending_says (ba.HostFault left) refusals set rose refused before damaged differs = (rose_after start.faults old.faults new.faults faults (rose left refl), tt)
-    pending_says (ba.KernelRefused k n left) refusals set rose refused before damaged differs =
-        let was = refused k n left refl in
-        (record { rose = refusals new.kernel.refusals was.rose; last = was.last; counted = was.counted }, tt, λ is. cc)
-    pending_says (ba.Damaged area) refusals set rose refused before damaged differs = λ told.
-        since_keeps Stays start.moment area old new moment (before tt) (since start.moment area old lawful (reads told) moment (damaged told area refl))
-    pending_says (ba.HardwareDiffers names) refusals set rose refused before damaged differs = λ told. differs told names refl
-    pending_says ba.OutOfMemory refusals set rose refused before damaged differs = tt
+    pending_says : (fault : BackFault) → (fault ≡ ba.NoCheckpoint → ⊥) → ((left : Left) → fault ≡ ba.HostFault left → Rose old.faults new.faults) → (IsBefore fault → Steps Stays old.stops new.stops)
+        → (IsBefore fault → tells → new.state ≡ old.state) → (tells → cell_of old.state.cell ≡ None → fault ≡ ba.HostFault NotBegun) → (tells → (area : ℕ) → fault ≡ ba.Damaged area → IsDamaged area old.state)
+        → (tells → (names : List (List ℕ)) → fault ≡ ba.HardwareDiffers names → Differs names new) → Said tells (asked doc opts made) start new (Err (pending_as fault))
+    pending_says ba.NoCheckpoint set rose before same unset damaged differs = absurd (set refl)
+    pending_says (ba.HostFault left) set rose before same unset damaged differs = (rose_after start.faults old.faults new.faults faults (rose left refl), tt, λ is. let e : Pending ≡ RolledBack = is in absurd (cc))
+    pending_says (ba.KernelRefused k n left) set rose before same unset damaged differs = (tt, (λ is. cc), λ is. let e : Pending ≡ RolledBack = is in absurd (cc))
+    pending_says (ba.Damaged area) set rose before same unset damaged differs = λ told.
+        let there : IsSet old = unless_none (cell_of old.state.cell) (λ none. let e : ba.Damaged area ≡ ba.HostFault NotBegun = unset told none in cc) in
+        let had = damaged told area refl in
+        (since_keeps Stays start.moment area old new moment (before tt) (since start.moment area old lawful (reads told) moment had), still_damaged tells area made start old new (same tt told) there had)
+    pending_says (ba.HardwareDiffers names) set rose before same unset damaged differs = λ told. differs told names refl
+    pending_says ba.OutOfMemory set rose before same unset damaged differs = tt
 
-    damaged_says : (fault : BackFault) → Steps Any old.stops new.stops → (tells → DamagedSince start.moment 0 old) → Said tells (asked doc opts made) start new (Err (damaged_as fault))
-    damaged_says ba.NoCheckpoint steps had = λ told. since_keeps Any start.moment 0 old new moment steps (had told)
-    damaged_says (ba.HostFault left) steps had = λ told. since_keeps Any start.moment 0 old new moment steps (had told)
-    damaged_says (ba.KernelRefused k n left) steps had = λ told. since_keeps Any start.moment 0 old new moment steps (had told)
-    damaged_says (ba.Damaged area) steps had = λ told. since_keeps Any start.moment 0 old new moment steps (had told)
-    damaged_says (ba.HardwareDiffers names) steps had = λ told. since_keeps Any start.moment 0 old new moment steps (had told)
+    bare_says : Steps Any old.stops new.stops → tells → DamagedSince start.moment 0 old × (old.state.net ≡ None) × IsSet old → DamagedSince start.moment 0 new × StandsDamaged tells 0 made start.state start.kernel new
+    bare_says steps told had = (since_keeps Any start.moment 0 old new moment steps had.0, still_damaged tells 0 made start old new (bare told had.1) had.2 (inl (refl, had.1)))
+
+    damaged_says : (fault : BackFault) → Steps Any old.stops new.stops → (tells → DamagedSince start.moment 0 old × (old.state.net ≡ None) × IsSet old) → Said tells (asked doc opts made) start new (Err (damaged_as fault))
+    damaged_says ba.NoCheckpoint steps had = λ told. bare_says steps told (had told)
+    damaged_says (ba.HostFault left) steps had = λ told. bare_says steps told (had told)
+    damaged_says (ba.KernelRefused k n left) steps had = λ told. bare_says steps told (had told)
+    damaged_says (ba.Damaged area) steps had = λ told. bare_says steps told (had told)
+    damaged_says (ba.HardwareDiffers names) steps had = λ told. bare_says steps told (had told)
     damaged_says ba.OutOfMemory steps had = tt
 
     -- it wasn't
     pub stopped_says : (why : Missed) (fault : BackFault) → Why tells doc start old why → Steps Any old.stops new.stops → (fault ≡ ba.NoCheckpoint → ⊥) → ((left : Left) → fault ≡ ba.HostFault left → Rose old.faults new.faults)
-        → ((k n : ℕ) (left : Left) → fault ≡ ba.KernelRefused k n left → WasRefused k n old.kernel new.kernel) → (IsBefore fault → Steps Stays old.stops new.stops)
+        → (IsBefore fault → Steps Stays old.stops new.stops) → (IsBefore fault → tells → new.state ≡ old.state) → (tells → cell_of old.state.cell ≡ None → fault ≡ ba.HostFault NotBegun)
         → (tells → (area : ℕ) → fault ≡ ba.Damaged area → IsDamaged area old.state) → (tells → (names : List (List ℕ)) → fault ≡ ba.HardwareDiffers names → Differs names new)
         → Said tells (asked doc opts made) start new (Err (stopped_as why fault))
-    stopped_says missed.Failed fault is steps set rose refused before damaged differs = pending_says fault (why_rose tells doc start old missed.Failed is) set rose refused before damaged differs
-    stopped_says (missed.Refused k n) fault is steps set rose refused before damaged differs = pending_says fault (why_rose tells doc start old (missed.Refused k n) is) set rose refused before damaged differs
-    stopped_says missed.Damaged fault is steps set rose refused before damaged differs = damaged_says fault steps is.1
-    stopped_says (missed.Differs found) fault is steps set rose refused before damaged differs = pending_says fault (why_rose tells doc start old (missed.Differs found) is) set rose refused before damaged differs
-    stopped_says missed.OutOfMemory fault is steps set rose refused before damaged differs = tt
+    stopped_says missed.Failed fault is steps set rose before same unset damaged differs = pending_says fault set rose before same unset damaged differs
+    stopped_says (missed.Refused k n) fault is steps set rose before same unset damaged differs = pending_says fault set rose before same unset damaged differs
+    stopped_says missed.Damaged fault is steps set rose before same unset damaged differs = damaged_says fault steps is.1
+    stopped_says (missed.Differs found) fault is steps set rose before same unset damaged differs = pending_says fault set rose before same unset damaged differs
+    stopped_says missed.OutOfMemory fault is steps set rose before same unset damaged differs = tt
 
 -- none of it says that nothing was begun
 pub begun_taken : (why : Missed) → taken_back_as why ≡ ap_.HostFault NotBegun → ⊥
@@ -171,20 +219,17 @@ begun_stopped missed.OutOfMemory fault is = cc
 
 -- ---- where the change is made
 
-pub finished_says : (tells : Type 0) (doc : Doc) (opts : ApplyOpts) (made : ℕ) (start : Start) (from to : NetData) (mid new : HostView) (result : Result Applied ApplyFault) → merge from doc ≡ Ok to → start.faults ≤ mid.faults → NoneRefused start.kernel new.kernel
+pub finished_says : (tells : Type 0) (doc : Doc) (opts : ApplyOpts) (made : ℕ) (start : Start) (from to : NetData) (mid new : HostView) (result : Result Applied ApplyFault) → merge from doc ≡ Ok to → start.faults ≤ mid.faults
     → (tells → opts.no_verify ≡ false → mid.fresh ≡ Some to) → (tells → new.fresh ≡ mid.fresh) → (tells → OnOk result (saved_net new.state.cell ≡ Some from))
     → IfErr result (λ fault. fault ≡ ap_.InDoubt) → OnErr result (Rose mid.faults new.faults) → Said tells (asked doc opts made) start new result
-finished_says tells doc opts made start from to mid new (Ok applied) merges le quiet verified fresh saved doubt rose = (
-  quiet,
-  λ told wanted. record {
-    saved = from;
-    fresh = to;
-    is_saved = saved told;
-    is_fresh = fresh told ∙ verified told wanted;
-    merges = merges;
-  },
-)
-finished_says tells doc opts made start from to mid new (Err fault) merges le quiet verified fresh saved doubt rose =
+finished_says tells doc opts made start from to mid new (Ok applied) merges le verified fresh saved doubt rose = λ told wanted. record {
+  saved = from;
+  fresh = to;
+  is_saved = saved told;
+  is_fresh = fresh told ∙ verified told wanted;
+  merges = merges;
+}
+finished_says tells doc opts made start from to mid new (Err fault) merges le verified fresh saved doubt rose =
     subst (λ (f : ApplyFault). Said tells (asked doc opts made) start new (Err f)) (sym doubt) (rose_after start.faults mid.faults new.faults le rose)
 
 pub finished_begun : (result : Result Applied ApplyFault) → IfErr result (λ fault. fault ≡ ap_.InDoubt) → result ≡ Err (ap_.HostFault NotBegun) → ⊥
@@ -194,10 +239,10 @@ finished_begun (Err fault) doubt is = cc
 -- ---- where it isn't begun
 
 pub left_says : (tells : Type 0) (a : Asked) (start : Start) (old new : HostView) (left : Left) → (left ≡ Pending → ⊥) → Rose start.faults new.faults → (tells → new.state ≡ old.state) → (left ≡ NotBegun → tells → old.state ≡ start.state)
-    → (tells → cell_of old.state.cell ≡ None) → Said tells a start new (Err (ap_.HostFault left))
-left_says tells a start old new NotBegun side rose same was none = (rose, λ told. same told ∙ was refl told)
-left_says tells a start old new RolledBack side rose same was none = (rose, λ told. ap (λ (s : State). cell_of s.cell) (same told) ∙ none told)
-left_says tells a start old new Pending side rose same was none = absurd (side refl)
+    → (tells → cell_of old.state.cell ≡ None) → SettledBy tells a.now start new → Said tells a start new (Err (ap_.HostFault left))
+left_says tells a start old new NotBegun side rose same was none settled = (rose, (λ told. same told ∙ was refl told), λ is. let e : NotBegun ≡ RolledBack = is in absurd (cc))
+left_says tells a start old new RolledBack side rose same was none settled = (rose, (λ told. ap (λ (s : State). cell_of s.cell) (same told) ∙ none told), λ is told. inr settled)
+left_says tells a start old new Pending side rose same was none settled = absurd (side refl)
 
 -- ---- of the whole
 
@@ -213,8 +258,8 @@ module _ (tells : Type 0) (a : Asked) (old new : HostView) where
   said_says (Err (ap_.KernelRefused k n NotBegun)) said = said
   said_says (Err (ap_.KernelRefused k n RolledBack)) said = said
   said_says (Err (ap_.KernelRefused k n Pending)) said = said
-  said_says (Err (ap_.NotVerified found left)) said = (said.0, said.1, said.2, λ told. let o = said.3 told in (o.saved, o.is_saved, o.other))
-  said_says (Err (ap_.Damaged area)) said = λ told. let had = said told in record { pair = had.pair; left = had.left; damaged = had.damaged }
+  said_says (Err (ap_.NotVerified found left)) said = said
+  said_says (Err (ap_.Damaged area)) said = λ told. let had = (said told).0 in (record { pair = had.pair; left = had.left; damaged = had.damaged }, (said told).1)
   said_says (Err (ap_.HardwareDiffers names)) said = said
   said_says (Err ap_.OutOfMemory) said = said
 
@@ -235,21 +280,23 @@ module _ (tells : Type 0) (a : Asked) (old new : HostView) where
 
   -- the settling failed
   pub unsettled_says : IsLawful old.stops → (tells → old.stops.may_leave old.state) → (fault : BackFault) → (fault ≡ ba.NoCheckpoint → ⊥) → ((left : Left) → fault ≡ ba.HostFault left → Rose old.faults new.faults)
-      → ((left : Left) → fault ≡ ba.HostFault left → left ≢ RolledBack) → (IsBefore fault → tells → new.state ≡ old.state) → ((k n : ℕ) (left : Left) → fault ≡ ba.KernelRefused k n left → WasRefused k n old.kernel new.kernel) → ((k n : ℕ) (left : Left) → fault ≡ ba.KernelRefused k n left → left ≡ Pending)
+      → ((left : Left) → fault ≡ ba.HostFault left → left ≢ RolledBack) → (IsBefore fault → tells → new.state ≡ old.state) → BackCounts {A = ⊤} old.kernel new.kernel (Err fault) → ((k n : ℕ) (left : Left) → fault ≡ ba.KernelRefused k n left → left ≡ Pending)
       → (IsBefore fault → Steps Stays old.stops new.stops) → (tells → (area : ℕ) → fault ≡ ba.Damaged area → IsDamaged area old.state) → (tells → (names : List (List ℕ)) → fault ≡ ba.HardwareDiffers names → Differs names new)
       → ApplySays tells a old new (Err (apply_fault fault))
-  unsettled_says lawful reads ba.NoCheckpoint set rose side same refused given_up before damaged differs = absurd (set refl)
-  unsettled_says lawful reads (ba.HostFault NotBegun) set rose side same refused given_up before damaged differs = (rose NotBegun refl, λ told. same tt told)
-  unsettled_says lawful reads (ba.HostFault RolledBack) set rose side same refused given_up before damaged differs = absurd (side RolledBack refl refl)
-  unsettled_says lawful reads (ba.HostFault Pending) set rose side same refused given_up before damaged differs = (rose Pending refl, tt)
-  unsettled_says lawful reads (ba.KernelRefused k n NotBegun) set rose side same refused given_up before damaged differs = let e : NotBegun ≡ Pending = given_up k n NotBegun refl in absurd (cc)
-  unsettled_says lawful reads (ba.KernelRefused k n RolledBack) set rose side same refused given_up before damaged differs = let e : RolledBack ≡ Pending = given_up k n RolledBack refl in absurd (cc)
-  unsettled_says lawful reads (ba.KernelRefused k n Pending) set rose side same refused given_up before damaged differs = (refused k n Pending refl, tt, λ is. cc)
-  unsettled_says lawful reads (ba.Damaged area) set rose side same refused given_up before damaged differs = λ told.
-      let had = since_keeps Stays old.stops.moment area old new (omega arith) (before tt) (since old.stops.moment area old lawful (reads told) (omega arith) (damaged told area refl)) in
-      record { pair = had.pair; left = had.left; damaged = had.damaged }
-  unsettled_says lawful reads (ba.HardwareDiffers names) set rose side same refused given_up before damaged differs = λ told. differs told names refl
-  unsettled_says lawful reads ba.OutOfMemory set rose side same refused given_up before damaged differs = tt
+  unsettled_says lawful reads ba.NoCheckpoint set rose side same counts given_up before damaged differs = absurd (set refl)
+  unsettled_says lawful reads (ba.HostFault NotBegun) set rose side same counts given_up before damaged differs = (rose NotBegun refl, (λ told. same tt told), λ is. let e : NotBegun ≡ RolledBack = is in absurd (cc))
+  unsettled_says lawful reads (ba.HostFault RolledBack) set rose side same counts given_up before damaged differs = absurd (side RolledBack refl refl)
+  unsettled_says lawful reads (ba.HostFault Pending) set rose side same counts given_up before damaged differs = (rose Pending refl, tt, λ is. let e : Pending ≡ RolledBack = is in absurd (cc))
+  unsettled_says lawful reads (ba.KernelRefused k n NotBegun) set rose side same counts given_up before damaged differs = let e : NotBegun ≡ Pending = given_up k n NotBegun refl in absurd (cc)
+  unsettled_says lawful reads (ba.KernelRefused k n RolledBack) set rose side same counts given_up before damaged differs = let e : RolledBack ≡ Pending = given_up k n RolledBack refl in absurd (cc)
+  unsettled_says lawful reads (ba.KernelRefused k n Pending) set rose side same counts given_up before damaged differs = (tt, (λ is. cc), λ is. let e : Pending ≡ RolledBack = is in absurd (cc))
+  unsettled_says lawful reads (ba.Damaged area) set rose side same counts given_up before damaged differs = λ told.
+      let had = since_keeps Stays old.stops.moment area old new (omega arith) (before tt) (since old.stops.moment area old lawful (reads told) (omega arith) (damaged told area refl)) in (
+        record { pair = had.pair; left = had.left; damaged = had.damaged },
+        record { damaged = subst (λ (s : State). IsDamaged area s) (sym (same tt told)) (damaged told area refl); held = inl (inr counts) },
+      )
+  unsettled_says lawful reads (ba.HardwareDiffers names) set rose side same counts given_up before damaged differs = λ told. differs told names refl
+  unsettled_says lawful reads ba.OutOfMemory set rose side same counts given_up before damaged differs = tt
 
   -- what it says of a fault
   pub said_left : (result : Result Applied ApplyFault) (left : Left) → result ≡ Err (ap_.HostFault left) → ApplySays tells a old new result → ApplySays tells a old new (Err (ap_.HostFault left))
@@ -266,7 +313,7 @@ start_since t host = record { state = host.state; faults = host.faults; kernel =
 
 -- what is damaged was left since the beginning
 pub said_damaged : (tells : Type 0) (a : Asked) (start : Start) (new : HostView) (result : Result Applied ApplyFault) (area : ℕ) → result ≡ Err (ap_.Damaged area) → Said tells a start new result → tells → DamagedSince start.moment area new
-said_damaged tells a start new result area is said = subst (λ (r : Result Applied ApplyFault). Said tells a start new r) is said
+said_damaged tells a start new result area is said = λ told. (subst (λ (r : Result Applied ApplyFault). Said tells a start new r) is said told).0
 
 abbrev failed_as : ApplyFault → Result Applied ApplyFault
 failed_as fault = Err fault

@@ -1,15 +1,17 @@
 -- What an apply tried before it says that a change may stand half way, what it dumped, and what it took back.
 use Rattle.std.proofs.Common.{◌≡◌, ◌≢◌, ◌⊎◌, ◌≤◌, ◌∙◌, inl, inr, arith, ℕ, Bool, true, false, refl, sym, ap, subst, Option, Some, None, Result, Ok, Err}
-use Rattle.std.specs.Prelude.{OnOk, OnErr, IfErr}
+use Rattle.std.specs.Prelude.{⊤, OnOk, OnErr, IfErr}
 use Rattle.net_model.specs.NetData.{NetData}
 use Rattle.document_model.specs.declared.Doc.{Doc}
 use Rattle.host_core.specs.Faults.{Rose, RoseTwice}
-use Rattle.host_core.specs.HostView.{State, HostView, WasRefused, NoneRefused}
+use Rattle.host_core.specs.HostView.{State, Kernel, HostView, WasRefused, NoneRefused}
 use Rattle.checkpoint_cell.specs.Cell.{Checkpoint, cell_of, saved_net, in_phase}
 use Rattle.checkpoint_cell.specs.Steps.{EitherPhase}
 use Rattle.checkpoint_cell.specs.declared.Phase.TheVariants.{Applying, Waiting}
 use Rattle.checkpoint_cell.specs.Settled.{Standing, standing, restored_to}
-use Rattle.engine_model.specs.Faults.{Tries, Dumps, Backs}
+use Rattle.engine_model.specs.Refusals.{BackCounts}
+use Rattle.engine_model.specs.Faults.{Tries, FailsTwice, Dumps, Backs}
+use Rattle.engine_model.proofs.lemmas.Refusals.{unmade_quiet}
 use Rattle.engine_model.specs.declared.answers.Left.{Left}
 use Rattle.engine_model.specs.declared.answers.Left.TheVariants.{NotBegun, RolledBack, Pending}
 use Rattle.engine_model.specs.declared.answers.Applied.{Applied}
@@ -20,6 +22,7 @@ use Rattle.engine_model.specs.declared.answers.ApplyFault.TheVariants as ap_
 use Rattle.engine_model.specs.Machine.{apply_fault}
 use Rattle.engine_core.specs.declared.missed.Missed.{Missed}
 use Rattle.engine_core.specs.declared.missed.Missed.TheVariants as missed
+use Rattle.engine_core.specs.Attempts.{IsFault}
 use Rattle.engine_core.specs.Saying.{Start, Why, taken_back_as, pending_as, damaged_as, stopped_as}
 
 twice : (a b c : ℕ) → Rose a b → Rose b c → RoseTwice a c
@@ -27,6 +30,11 @@ twice a b c one two = omega arith
 
 once_more : (a b c : ℕ) → Rose a b → b ≤ c → Rose a c
 once_more a b c rose le = omega arith
+
+host_quiet : (a b : Kernel) (left : Left) → BackCounts {A = ⊤} a b (Err (ba.HostFault left)) → NoneRefused a b
+host_quiet a b NotBegun counts = unmade_quiet a b counts
+host_quiet a b RolledBack counts = counts
+host_quiet a b Pending counts = counts
 
 -- ---- what was tried
 
@@ -39,8 +47,13 @@ taken_tries excuse faults refusals new (missed.Differs found) = tt
 taken_tries excuse faults refusals new missed.OutOfMemory = tt
 
 module _ (tells : Type 0) (doc : Doc) (start : Start) (old new : HostView) (later : old.faults ≤ new.faults) where
-  module _ (excuse : Type 0) (fault : BackFault) (rose : (left : Left) → fault ≡ ba.HostFault left → Rose old.faults new.faults) (unrefused : (left : Left) → fault ≡ ba.HostFault left → NoneRefused old.kernel new.kernel)
-      (refused : (k n : ℕ) (left : Left) → fault ≡ ba.KernelRefused k n left → WasRefused k n old.kernel new.kernel) where
+  module _ (excuse : Type 0) (fault : BackFault) (rose : (left : Left) → fault ≡ ba.HostFault left → Rose old.faults new.faults) (counts : BackCounts {A = ⊤} old.kernel new.kernel (Err fault)) where
+    unrefused : (left : Left) → fault ≡ ba.HostFault left → NoneRefused old.kernel new.kernel
+    unrefused left is = host_quiet old.kernel new.kernel left (subst (λ (f : BackFault). BackCounts {A = ⊤} old.kernel new.kernel (Err f)) is counts)
+
+    refused : (k n : ℕ) (left : Left) → fault ≡ ba.KernelRefused k n left → WasRefused k n old.kernel new.kernel
+    refused k n left is = (subst (λ (f : BackFault). BackCounts {A = ⊤} old.kernel new.kernel (Err f)) is counts).0
+
     -- the host failed, and then the restoring didn't come to its end
     failed_tries : (f : BackFault) → fault ≡ f → Rose start.faults old.faults → Tries excuse start.faults start.kernel.refusals new (Err (pending_as f))
     failed_tries ba.NoCheckpoint is was = tt
@@ -79,7 +92,7 @@ module _ (tells : Type 0) (doc : Doc) (start : Start) (old new : HostView) (late
     -- the restoring didn't come to its end
     pub stopped_tries : (why : Missed) → Why tells doc start old why → ((found : NetData) → why ≡ missed.Differs found → excuse) → Tries excuse start.faults start.kernel.refusals new (Err (stopped_as why fault))
     stopped_tries missed.Failed is compared = failed_tries fault refl is.1
-    stopped_tries (missed.Refused k n) is compared = refused_tries fault refl is.rose
+    stopped_tries (missed.Refused k n) is compared = refused_tries fault refl is.0.rose
     stopped_tries missed.Damaged is compared = damaged_tries fault
     stopped_tries (missed.Differs found) is compared = differs_tries fault (compared found refl)
     stopped_tries missed.OutOfMemory is compared = tt
@@ -127,6 +140,71 @@ unsettled_tries taken second faults refusals new (ba.KernelRefused k n Pending) 
 unsettled_tries taken second faults refusals new (ba.Damaged area) failed refused = tt
 unsettled_tries taken second faults refusals new (ba.HardwareDiffers names) failed refused = tt
 unsettled_tries taken second faults refusals new ba.OutOfMemory failed refused = tt
+
+-- ---- on an honest host, what failed twice
+
+-- the change was taken back
+pub taken_twice : (taken : Type 0) (faults : ℕ) (new : HostView) (why : Missed) → FailsTwice taken faults new (Err (taken_back_as why))
+taken_twice taken faults new missed.Failed = tt
+taken_twice taken faults new (missed.Refused k n) = tt
+taken_twice taken faults new missed.Damaged = tt
+taken_twice taken faults new (missed.Differs found) = tt
+taken_twice taken faults new missed.OutOfMemory = tt
+
+pending_twice : (taken : Type 0) (start old : ℕ) (new : HostView) (fault : BackFault) → Rose start old → ((left : Left) → fault ≡ ba.HostFault left → Rose old new.faults) → FailsTwice taken start new (Err (pending_as fault))
+pending_twice taken start old new ba.NoCheckpoint was rose = tt
+pending_twice taken start old new (ba.HostFault left) was rose = inr (twice start old new.faults was (rose left refl))
+pending_twice taken start old new (ba.KernelRefused k n left) was rose = tt
+pending_twice taken start old new (ba.Damaged area) was rose = tt
+pending_twice taken start old new (ba.HardwareDiffers names) was rose = tt
+pending_twice taken start old new ba.OutOfMemory was rose = tt
+
+-- the restoring didn't come to its end
+pub stopped_twice : (taken : Type 0) (start old : ℕ) (new : HostView) (why : Missed) (fault : BackFault) → IsFault why → (why ≡ missed.Failed → Rose start old) → ((left : Left) → fault ≡ ba.HostFault left → Rose old new.faults)
+    → FailsTwice taken start new (Err (stopped_as why fault))
+stopped_twice taken start old new missed.Failed fault is was rose = pending_twice taken start old new fault (was refl) rose
+stopped_twice taken start old new missed.OutOfMemory fault is was rose = tt
+stopped_twice taken start old new (missed.Refused k n) fault is was rose = absurd is
+stopped_twice taken start old new missed.Damaged fault is was rose = absurd is
+stopped_twice taken start old new (missed.Differs found) fault is was rose = absurd is
+
+-- where the attempt succeeded, only the clearing may fail
+pub finished_twice : (taken : Type 0) (faults : ℕ) (new : HostView) (result : Result Applied ApplyFault) → IfErr result (λ fault. fault ≡ ap_.InDoubt) → FailsTwice taken faults new result
+finished_twice taken faults new (Ok done) doubt = tt
+finished_twice taken faults new (Err fault) doubt = subst (λ (f : ApplyFault). FailsTwice taken faults new (Err f)) (sym doubt) tt
+
+-- a dump failed before anything was changed
+pub left_twice : (taken : Type 0) (faults : ℕ) (new : HostView) (left : Left) → left ≢ Pending → FailsTwice taken faults new (Err (ap_.HostFault left))
+left_twice taken faults new NotBegun is = tt
+left_twice taken faults new RolledBack is = tt
+left_twice taken faults new Pending is = absurd (is refl)
+
+-- the same of a command that began earlier
+pub twice_before : (taken : Type 0) (start faults : ℕ) (new : HostView) (result : Result Applied ApplyFault) → start ≤ faults → FailsTwice ⊥ faults new result → FailsTwice taken start new result
+twice_before taken start faults new (Ok done) le twice = tt
+twice_before taken start faults new (Err (ap_.Pending deadline)) le twice = tt
+twice_before taken start faults new (Err (ap_.MergeRefused refused)) le twice = tt
+twice_before taken start faults new (Err (ap_.HostFault NotBegun)) le twice = tt
+twice_before taken start faults new (Err (ap_.HostFault RolledBack)) le twice = tt
+twice_before taken start faults new (Err (ap_.HostFault Pending)) le (inl none) = absurd none
+twice_before taken start faults new (Err (ap_.HostFault Pending)) le (inr rose) = inr (omega (arith, le, rose))
+twice_before taken start faults new (Err ap_.InDoubt) le twice = tt
+twice_before taken start faults new (Err (ap_.KernelRefused k n left)) le twice = tt
+twice_before taken start faults new (Err (ap_.NotVerified found left)) le twice = tt
+twice_before taken start faults new (Err (ap_.Damaged area)) le twice = tt
+twice_before taken start faults new (Err (ap_.HardwareDiffers names)) le twice = tt
+twice_before taken start faults new (Err ap_.OutOfMemory) le twice = tt
+
+-- the settling didn't come to its end
+pub unsettled_twice : (taken : Type 0) (faults : ℕ) (new : HostView) (fault : BackFault) → (fault ≡ ba.HostFault Pending → taken) → FailsTwice taken faults new (Err (apply_fault fault))
+unsettled_twice taken faults new ba.NoCheckpoint pending = tt
+unsettled_twice taken faults new (ba.HostFault NotBegun) pending = tt
+unsettled_twice taken faults new (ba.HostFault RolledBack) pending = tt
+unsettled_twice taken faults new (ba.HostFault Pending) pending = inl (pending refl)
+unsettled_twice taken faults new (ba.KernelRefused k n left) pending = tt
+unsettled_twice taken faults new (ba.Damaged area) pending = tt
+unsettled_twice taken faults new (ba.HardwareDiffers names) pending = tt
+unsettled_twice taken faults new ba.OutOfMemory pending = tt
 
 -- ---- what was dumped
 

@@ -19,9 +19,10 @@ ghost use Rattle.engine_model.specs.Undone.{stand, undone};
 ghost use Rattle.engine_model.specs.Sound.{Sound};
 ghost use Rattle.engine_model.specs.Stations.{Only, Kept, Ends, AllNear, IsSettled, Waits};
 ghost use Rattle.engine_model.specs.Answers.{IsUndone, IsTaken};
-ghost use Rattle.engine_model.specs.Faults.{ApplySays, ApplyExact, Tries, Dumps, Backs, HasTaken};
+ghost use Rattle.engine_model.specs.Refusals.{NoCallMade, ApplyCounts};
+ghost use Rattle.engine_model.specs.Faults.{ApplySays, ApplyExact, MayStandHalf, Tries, FailsTwice, Dumps, Backs, HasTaken};
 ghost use Rattle.engine_core.specs.Attempts.{sealed, done, IsOnWay, IsEither, IsFault};
-ghost use Rattle.engine_core.specs.Saying.{Start, Follows, DamagedSince, Why, Said, taken_back_as, pending_as, damaged_as, stopped_as};
+ghost use Rattle.engine_core.specs.Saying.{Start, Follows, DamagedSince, Why, SettledBy, Said, taken_back_as, pending_as, damaged_as, stopped_as};
 ghost use Rattle.engine_core.specs.Calm.{CalmSince};
 ghost use Rattle.engine_core.specs.Applying.{GaveUp, Hurt, Exit, Asked, IsStation, IsApplied, ExitApply, asked_of};
 
@@ -103,11 +104,16 @@ fn give_up<H: Host>(host: &mut H, alloc: Global, missed: Missed) -> ApplyFault
     ensures says { (doc : Doc) (opts : ApplyOpts) (made : ℕ) (start : Start) → start.faults ≤ (H.told host.old).faults
         → start.moment ≤ (H.told host.old).stops.moment → Why H.tells doc start (H.told host.old) missed
         → ((found : NetData) → missed ≡ Missed.Differs found → opts.no_verify ≡ false)
+        → (H.tells → cell_of (H.told host.old).state.cell ≡ None → SettledBy H.tells made start (H.told host.old))
         → Said H.tells (asked doc opts made) start (H.told host.new) (Err result) }
+    ensures counts { (doc : Doc) (start : Start) → Why H.tells doc start (H.told host.old) missed
+        → ApplyCounts start.kernel (H.told host.new).kernel (Err result) }
     // Where it says that a change may stand half way, it tried to restore and failed.
     ensures tries { (doc : Doc) (opts : ApplyOpts) (start : Start) → Why H.tells doc start (H.told host.old) missed
         → ((found : NetData) → missed ≡ Missed.Differs found → opts.no_verify ≡ false)
         → Tries (opts.no_verify ≡ false) start.faults start.kernel.refusals (H.told host.new) (Err result) }
+    ensures twice { H.honest → (start : ℕ) → IsFault missed → (missed ≡ Missed.Failed → Rose start (H.told host.old).faults)
+        → FailsTwice ⊥ start (H.told host.new) (Err result) }
     // On an honest host, sound or not, where it says that all is taken back.
     ensures backs { H.honest → (before : Option NetData)
         → (cell_of (H.told host.old).state.cell ≡ None → (H.told host.old).state.net ≡ before)
@@ -188,9 +194,13 @@ fn carry_out<H: Host>(
     ensures value { IfOk result (λ applied. applied.deadline ≡ (if opts.now.no_commit then Some deadline else None)) }
     // On every host.
     ensures says { (doc : Doc) (start : Start) → Follows start (H.told host.old) → (H.told host.old).kernel.calls ≡ 0 → merge from.now doc ≡ Ok to.now
-        → Said H.tells (asked doc opts.now made) start (H.told host.new) result }
+        → SettledBy H.tells made start (H.told host.old) → Said H.tells (asked doc opts.now made) start (H.told host.new) result }
+    ensures counts { (doc : Doc) (start : Start) → Follows start (H.told host.old) → (H.told host.old).kernel.calls ≡ 0 → merge from.now doc ≡ Ok to.now
+        → ApplyCounts start.kernel (H.told host.new).kernel result }
     ensures tries { (doc : Doc) (start : Start) → Follows start (H.told host.old) → (H.told host.old).kernel.calls ≡ 0 → merge from.now doc ≡ Ok to.now
         → Tries (opts.now.no_verify ≡ false) start.faults start.kernel.refusals (H.told host.new) result }
+    ensures twice { H.honest → (H.told host.old).state.net ≡ Some from.now → Runs calls.now from.now to.now
+        → FailsTwice ⊥ (H.told host.old).faults (H.told host.new) result }
     ensures dumps { (H.tells → (H.told host.old).fresh ≡ Some from.now) → Dumps H.tells opts.now.no_verify (H.told host.new) result }
     ensures backs { H.honest → Backs (H.told host.old).state.net (H.told host.new) result }
     ensures begun { IsErrOf result (ApplyFault.HostFault Left.NotBegun) → ⊥ }
@@ -230,10 +240,14 @@ fn change<H: Host>(
         → OnOk result (CalmSince from to t (H.told host.new)) }
     ensures value { IfOk result (λ applied. applied.deadline ≡ (if opts.now.no_commit then Some (asked_of doc.now opts.now now).deadline else None)) }
     // On every host.
-    ensures says { (start : Start) → Follows start (H.told host.old) → (left ≡ Left.NotBegun → H.tells → (H.told host.old).state ≡ start.state)
+    ensures says { (start : Start) → Follows start (H.told host.old) → SettledBy H.tells now start (H.told host.old)
+        → (left ≡ Left.NotBegun → H.tells → (H.told host.old).state ≡ start.state)
         → Said H.tells (asked doc.now opts.now now) start (H.told host.new) result }
+    ensures counts { (start : Start) → Follows start (H.told host.old) → (left ≡ Left.NotBegun → NoCallMade start.kernel (H.told host.old).kernel)
+        → ApplyCounts start.kernel (H.told host.new).kernel result }
     ensures tries { (start : Start) → Follows start (H.told host.old)
         → Tries (opts.now.no_verify ≡ false) start.faults start.kernel.refusals (H.told host.new) result }
+    ensures twice { H.honest → FailsTwice ⊥ (H.told host.old).faults (H.told host.new) result }
     ensures dumps { Dumps H.tells opts.now.no_verify (H.told host.new) result }
     ensures backs { H.honest → Backs (H.told host.old).state.net (H.told host.new) result }
     ensures moment { (H.told host.old).stops.moment ≤ (H.told host.new).stops.moment }
@@ -294,11 +308,13 @@ pub fn settle_and_change<H: Host>(
     ensures value { IfOk result (λ applied. applied.deadline ≡ (if opts.now.no_commit then Some (asked_of doc.now opts.now now).deadline else None)) }
     // On every host.
     ensures says { ApplySays H.tells (asked doc.now opts.now now) (H.told host.old) (H.told host.new) result }
+    ensures counts { ApplyCounts (H.told host.old).kernel (H.told host.new).kernel result }
     ensures damaged { H.tells → (t area : ℕ) → t ≤ (H.told host.old).stops.moment → IsErrOf result (ApplyFault.Damaged area)
         → DamagedSince t area (H.told host.new) }
     // That a change may stand half way is told only where a restoring was tried.
-    ensures tries { Tries ((H.tells → HasTaken now (standing (H.told host.old).state).cell) ⊎ (opts.now.no_verify ≡ false))
+    ensures tries { Tries (MayStandHalf H.tells (asked doc.now opts.now now) (H.told host.old))
         (H.told host.old).faults (H.told host.old).kernel.refusals (H.told host.new) result }
+    ensures twice { H.honest → FailsTwice (HasTaken now (standing (H.told host.old).state).cell) (H.told host.old).faults (H.told host.new) result }
     // What the option to skip verifying skips, by what the host counts and what its last dump gave.
     ensures dumps { Dumps H.tells opts.now.no_verify (H.told host.new) result }
     // On an honest host, sound or not, where it says that all is taken back, the network is the one from before.

@@ -15,7 +15,7 @@ ghost use Rattle.engine_model.specs.Undone.{stand};
 ghost use Rattle.engine_model.specs.Sound.{Sound};
 ghost use Rattle.engine_model.specs.Stations.{Only, Kept, Ends, AllNear};
 ghost use Rattle.engine_core.specs.Attempts.{sealed, IsOnWay, IsFault};
-ghost use Rattle.engine_core.specs.Saying.{Start, Follows, Why};
+ghost use Rattle.engine_core.specs.Saying.{Start, Follows, IsSet, Why};
 ghost use Rattle.engine_core.specs.Calm.{CalmSince};
 
 use crate::missed::Missed;
@@ -54,7 +54,8 @@ fn begin<H: Host>(
     ensures fault { IsErrOf result Missed.Failed → Rose (H.told host.old).faults (H.told host.new).faults }
     // No dump is made. Where no checkpoint stands behind it, no call was made.
     ensures fresh { H.tells → OnOk result (((H.told host.new).fresh ≡ (H.told host.old).fresh) ⊎ ((H.told host.new).fresh ≡ None)) }
-    ensures unset { H.tells → OnErr result (cell_of (H.told host.new).state.cell ≡ None → (H.told host.new).state.net ≡ (H.told host.old).state.net) }
+    ensures unset { H.tells → OnErr result (cell_of (H.told host.new).state.cell ≡ None
+        → ((H.told host.new).state.net ≡ (H.told host.old).state.net) × ((H.told host.new).kernel ≡ (H.told host.old).kernel)) }
     // On every host.
     ensures says { (doc : Doc) (start : Start) → Follows start (H.told host.old) → (H.told host.old).kernel.calls ≡ 0
         → IfErr result (λ missed. Why H.tells doc start (H.told host.new) missed) }
@@ -87,7 +88,7 @@ fn verify<H: Host>(host: &mut H, alloc: Global, to: &Net, no_verify: bool) -> Re
     ensures quiet { NoneRefused (H.told host.old).kernel (H.told host.new).kernel }
     ensures compared { (found : NetData) → IsErrOf result (Missed.Differs found) → no_verify ≡ false }
     ensures says { (doc : Doc) (start : Start) (from : NetData) → Follows start (H.told host.old)
-        → merge from doc ≡ Ok to.now → (H.tells → saved_net (H.told host.old).state.cell ≡ Some from)
+        → merge from doc ≡ Ok to.now → (H.tells → saved_net (H.told host.old).state.cell ≡ Some from) → (H.tells → IsSet (H.told host.old))
         → IfErr result (λ missed. Why H.tells doc start (H.told host.new) missed) }
     ensures dumped { OnOk result (no_verify ≡ false → (H.told host.new).kernel.calls ≡ 0) }
     ensures fresh { H.tells → no_verify ≡ true → (H.told host.new).fresh ≡ (H.told host.old).fresh }
@@ -223,7 +224,8 @@ pub fn attempt<H: Host>(
     ensures dumped { OnOk result (opts.now.no_verify ≡ false → (H.told host.new).kernel.calls ≡ 0) }
     ensures fresh { H.tells → OnOk result (opts.now.no_verify ≡ true → ((H.told host.new).fresh ≡ (H.told host.old).fresh) ⊎ ((H.told host.new).fresh ≡ None)) }
     // Where no checkpoint stands behind it, no call was made.
-    ensures unset { H.tells → OnErr result (cell_of (H.told host.new).state.cell ≡ None → (H.told host.new).state.net ≡ (H.told host.old).state.net) }
+    ensures unset { H.tells → OnErr result (cell_of (H.told host.new).state.cell ≡ None
+        → ((H.told host.new).state.net ≡ (H.told host.old).state.net) × ((H.told host.new).kernel ≡ (H.told host.old).kernel)) }
     ensures moment { (H.told host.old).stops.moment ≤ (H.told host.new).stops.moment }
     ensures later { (H.told host.old).faults ≤ (H.told host.new).faults }
 {

@@ -12,7 +12,8 @@ ghost use Rattle.engine_model.specs.Machine.{asked, apply, commit, recover};
 ghost use Rattle.engine_model.specs.Sound.{Sound};
 ghost use Rattle.engine_model.specs.Stations.{Only, Settled, Either, Kept, at, entry_of, left_by};
 ghost use Rattle.engine_model.specs.Exit.{ApplyExit, CommitExit};
-ghost use Rattle.engine_model.specs.Faults.{ApplyAnswers, ApplyExact, CommitAnswers, ApplySays, Tries, Dumps, Backs, HasTaken};
+ghost use Rattle.engine_model.specs.Refusals.{ApplyCounts};
+ghost use Rattle.engine_model.specs.Faults.{ApplyAnswers, ApplyExact, CommitAnswers, ApplySays, MayStandHalf, Tries, FailsTwice, Dumps, Backs, HasTaken};
 ghost use Rattle.engine_core.specs.Calm.{CalmSince};
 ghost use Rattle.engine_core.specs.Saying.{DamagedSince};
 
@@ -35,6 +36,8 @@ pub fn apply<H: Host>(
     requires { is_document doc.now ≡ true }
     // What is answered: on every host, and on an honest host that is sound.
     ensures says { ApplySays H.tells (asked doc.now opts.now now) (H.told host.old) (H.told host.new) result }
+    // How many calls were refused, or that none was made, which every host counts.
+    ensures counts { ApplyCounts (H.told host.old).kernel (H.told host.new).kernel result }
     ensures answer { H.honest → Sound (H.told host.old) → ApplyAnswers (asked doc.now opts.now now) (H.told host.old) (H.told host.new) result }
     // On an honest host that needn't be sound: but for faults and memory the answer is the machine's, and so is what the host reads as.
     ensures exact { H.honest → ApplyExact (Rose (H.told host.old).faults (H.told host.new).faults)
@@ -68,8 +71,10 @@ pub fn apply<H: Host>(
     ensures damaged { H.tells → (since area : ℕ) → since ≤ (H.told host.old).stops.moment → IsErrOf result (ApplyFault.Damaged area)
         → DamagedSince since area (H.told host.new) }
     // That a change may stand half way is told only where a restoring was tried.
-    ensures tries { Tries ((H.tells → HasTaken now (standing (H.told host.old).state).cell) ⊎ (opts.now.no_verify ≡ false))
+    ensures tries { Tries (MayStandHalf H.tells (asked doc.now opts.now now) (H.told host.old))
         (H.told host.old).faults (H.told host.old).kernel.refusals (H.told host.new) result }
+    // On an honest host, sound or not, of a host fault only where it failed twice, unless a change was to be taken back first.
+    ensures twice { H.honest → FailsTwice (HasTaken now (standing (H.told host.old).state).cell) (H.told host.old).faults (H.told host.new) result }
     // What the option to skip verifying skips, by what the host counts and what its last dump gave.
     ensures dumps { Dumps H.tells opts.now.no_verify (H.told host.new) result }
     // On an honest host, sound or not, where it says that all is taken back, the network is the one from before.

@@ -1,7 +1,8 @@
 -- Counts of calls that were refused, and of calls that were made, over two steps.
 use Rattle.std.proofs.Common.{◌≡◌, ◌⊎◌, inl, inr, ◌∙◌, ◌≤◌, arith, ℕ, refl, sym, ap, subst, Result, Ok, Err}
 use Rattle.host_core.specs.Faults.{Rose, one_more}
-use Rattle.host_core.specs.HostView.{Kernel, WasRefused, NoneRefused, dumped}
+use Rattle.host_core.specs.HostView.{State, Kernel, WasRefused, NoneRefused, dumped}
+use Rattle.engine_model.specs.Faults.{SettlesOnly}
 use Rattle.engine_model.specs.Refusals.{NoCallMade, RefusedOnce, FewRefused, ApplyCounts, BackCounts}
 use Rattle.engine_model.specs.declared.answers.Left.{Left}
 use Rattle.engine_model.specs.declared.answers.Left.TheVariants.{NotBegun, RolledBack, Pending}
@@ -121,3 +122,8 @@ apply_after a b c (Err ap_.InDoubt) one two = quiet_on a b c (unmade_quiet a b o
 apply_after a b c (Err (ap_.Damaged area)) one two = few_after a b c (unmade_quiet a b one) two
 apply_after a b c (Err (ap_.HardwareDiffers names)) one two = few_after a b c (unmade_quiet a b one) two
 apply_after a b c (Err ap_.OutOfMemory) one two = few_after a b c (unmade_quiet a b one) two
+
+-- the settling alone made calls, and then none was made
+pub settled_on : (tells : Type 0) (now : ℕ) (state : State) (a b c : Kernel) → SettlesOnly tells now state a b → NoCallMade b c → SettlesOnly tells now state a c
+settled_on tells now state a b c (inl taken) two = inl taken
+settled_on tells now state a b c (inr one) two = inr (unmade_on a b c one two)

@@ -16,8 +16,10 @@ use Rattle.engine_core.proofs.Exacts.{finished_hurt}
 use Rattle.engine_core.proofs.Gives.{gave_up_exit, sealed_near, way_either, finished_exit}
 use Rattle.engine_model.specs.declared.answers.Left.TheVariants.{NotBegun}
 use Rattle.engine_model.specs.declared.answers.ApplyFault.TheVariants.{HostFault}
-use Rattle.engine_core.proofs.Says.{finished_says, finished_begun, quiet_on, quiet_same}
-use Rattle.engine_core.proofs.Tries.{finished_tries, finished_backs, dumped_as}
+use Rattle.engine_model.proofs.lemmas.Refusals.{quiet_on, quiet_same}
+use Rattle.engine_core.proofs.Says.{finished_says, finished_begun, left_settled}
+use Rattle.engine_core.proofs.Counts.{finished_counts}
+use Rattle.engine_core.proofs.Tries.{finished_tries, finished_twice, finished_backs, dumped_as}
 use Rattle.engine_core.proofs.applying.carry_out.Goals as goal
 use Rattle.engine_core.proofs.applying.carry_out.Goals.{After-attempt, After-finish, After-give_up}
 
@@ -101,18 +103,28 @@ returns-in-Ok-clause-exit g c = λ honest sound ends is runs doc merges.
     (kept_wider (Only (done c.args.opts.now.no_commit c.args.made c.args.deadline c.args.from.now c.args.to.now)) (IsEither c.args.opts.now.no_commit c.args.made c.args.deadline c.args.from.now c.args.to.now) (λ a same. inr same) mid new (finished g at honest sound ends is runs)))
 
 pub returns-in-Ok-clause-says : goal.returns-in-Ok-clause-says
-returns-in-Ok-clause-says g c = λ doc start follows calls merges.
-    let old = g.H.Host.told c.args.host.now in
-    let new = g.H.Host.told c.finish.new.host in
+returns-in-Ok-clause-says g c = λ doc start follows calls merges settled.
     let mid = g.H.Host.told c.attempt.new.host in
     finished_says g.H.Host.tells doc c.args.opts.now c.args.made start c.args.from.now c.args.to.now mid (g.H.Host.told c.finish.new.host) c.finish.result merges (omega (arith, follows.faults, c.attempt.ensures.later))
-    (quiet_on start.kernel old.kernel new.kernel follows.quiet (quiet_on old.kernel mid.kernel new.kernel c.in-Ok.ensures.quiet (quiet_same mid.kernel new.kernel c.finish.ensures.kernel.kernel)))
     c.in-Ok.ensures.verified c.finish.ensures.kernel.fresh (λ tells. c.finish.ensures.saved tells c.args.made c.args.deadline c.args.from.now (c.in-Ok.ensures.set tells)) c.finish.ensures.doubt c.finish.ensures.fault
 
 pub returns-in-Err-clause-says : goal.returns-in-Err-clause-says
-returns-in-Err-clause-says g c = λ doc start follows calls merges.
+returns-in-Err-clause-says g c = λ doc start follows calls merges settled.
+    let old = g.H.Host.told c.args.host.now in
+    let mid = g.H.Host.told c.attempt.new.host in
     c.give_up.ensures.says doc c.args.opts.now c.args.made start (omega (arith, follows.faults, c.attempt.ensures.later)) (omega (arith, follows.moment, c.attempt.ensures.moment)) (c.in-Err.ensures.says doc start follows calls merges)
-    (λ found is. c.in-Err.ensures.compared found (ap (λ e. Err e) is))
+    (λ found is. c.in-Err.ensures.compared found (ap (λ e. Err e) is)) (λ tells none. left_settled g.H.Host.tells c.args.made start old mid settled (inl (c.in-Err.ensures.unset tells none).1))
+
+pub returns-in-Ok-clause-counts : goal.returns-in-Ok-clause-counts
+returns-in-Ok-clause-counts g c = λ doc start follows calls merges.
+    let old = g.H.Host.told c.args.host.now in
+    let mid = g.H.Host.told c.attempt.new.host in
+    let new = g.H.Host.told c.finish.new.host in
+    finished_counts start.kernel new.kernel c.finish.result c.finish.ensures.doubt
+    (quiet_on start.kernel old.kernel new.kernel follows.quiet (quiet_on old.kernel mid.kernel new.kernel c.in-Ok.ensures.quiet (quiet_same mid.kernel new.kernel c.finish.ensures.kernel.kernel)))
+
+pub returns-in-Err-clause-counts : goal.returns-in-Err-clause-counts
+returns-in-Err-clause-counts g c = λ doc start follows calls merges. c.give_up.ensures.counts doc start (c.in-Err.ensures.says doc start follows calls merges)
 
 pub returns-in-Err-clause-begun : goal.returns-in-Err-clause-begun
 returns-in-Err-clause-begun g c = λ is. c.give_up.ensures.begun (let same : c.give_up.result ≡ HostFault NotBegun = cc in same)
@@ -153,6 +165,12 @@ pub returns-in-Err-clause-tries : goal.returns-in-Err-clause-tries
 returns-in-Err-clause-tries g c = λ doc start follows calls merges.
     c.give_up.ensures.tries doc c.args.opts.now start (c.in-Err.ensures.says doc start follows calls merges) (λ found is. c.in-Err.ensures.compared found (ap (λ e. Err e) is))
 
+pub returns-in-Ok-clause-twice : goal.returns-in-Ok-clause-twice
+returns-in-Ok-clause-twice g c = λ honest is runs. finished_twice ⊥ (g.H.Host.told c.args.host.now).faults (g.H.Host.told c.finish.new.host) c.finish.result c.finish.ensures.doubt
+
+pub returns-in-Err-clause-twice : goal.returns-in-Err-clause-twice
+returns-in-Err-clause-twice g c = λ honest is runs. c.give_up.ensures.twice honest (g.H.Host.told c.args.host.now).faults (c.in-Err.ensures.missed honest is runs) (λ failed. c.in-Err.ensures.fault (ap (λ e. Err e) failed))
+
 pub returns-in-Ok-clause-dumps : goal.returns-in-Ok-clause-dumps
 returns-in-Ok-clause-dumps g c = λ was.
     let old = g.H.Host.told c.args.host.now in
@@ -165,4 +183,4 @@ pub returns-in-Ok-clause-backs : goal.returns-in-Ok-clause-backs
 returns-in-Ok-clause-backs g c = λ honest. finished_backs (g.H.Host.told c.args.host.now).state.net (g.H.Host.told c.finish.new.host) c.finish.result c.finish.ensures.doubt
 
 pub returns-in-Err-clause-backs : goal.returns-in-Err-clause-backs
-returns-in-Err-clause-backs g c = λ honest. c.give_up.ensures.backs honest (g.H.Host.told c.args.host.now).state.net (c.in-Err.ensures.unset (g.met.H.Host.honest_tells honest))
+returns-in-Err-clause-backs g c = λ honest. c.give_up.ensures.backs honest (g.H.Host.told c.args.host.now).state.net (λ none. (c.in-Err.ensures.unset (g.met.H.Host.honest_tells honest) none).0)

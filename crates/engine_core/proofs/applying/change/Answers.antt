@@ -1,4 +1,4 @@
-use Rattle.std.proofs.Common.{◌≡◌, ◌∙◌, inl, ℕ, List, Some, None, Err, Ok, arith, ap, subst, sym, refl}
+use Rattle.std.proofs.Common.{◌≡◌, ◌∙◌, inl, inr, ℕ, List, Some, None, Err, Ok, arith, ap, subst, sym, refl}
 use Rattle.std.specs.Prelude.{if◌then◌else◌, IfOk}
 use Rattle.net_model.specs.NetData.{NetData}
 use Rattle.net_model.specs.declared.Call.{Call}
@@ -20,16 +20,20 @@ use Rattle.std.specs.Prelude.{OnOk}
 use Rattle.host_core.specs.Faults.{Rose}
 use Rattle.engine_core.specs.Attempts.{done}
 use Rattle.engine_core.proofs.Exacts.{none_exact, refused_exact, made_exact}
-use Rattle.engine_core.proofs.Says.{quiet_dumped, follows_on, since, since_keeps, left_says, rose_after}
-use Rattle.host_core.specs.HostView.{Kernel}
+use Rattle.engine_model.proofs.lemmas.Refusals.{quiet_same, quiet_dumped, quiet_on}
+use Rattle.engine_core.specs.Saying.{Start, Follows, SettledBy}
+use Rattle.engine_core.proofs.Says.{follows_on, since, since_keeps, left_says, left_settled, rose_after}
+use Rattle.engine_core.proofs.Counts.{left_counts}
+use Rattle.host_core.specs.HostView.{Kernel, NoneRefused}
+use Rattle.checkpoint_cell.specs.Cell.{cell_of}
 use Rattle.host_core.specs.Stops.{Stays}
 use Rattle.engine_model.specs.Machine.{asked}
 use Rattle.engine_model.specs.Faults.{IsDamaged}
 use Rattle.std.proofs.Common.{Option, false}
 use Rattle.engine_model.specs.Faults.{Backs}
-use Rattle.engine_core.proofs.Tries.{left_tries, left_backs}
+use Rattle.engine_core.proofs.Tries.{left_tries, left_twice, twice_before, left_backs}
 use Rattle.engine_core.proofs.applying.change.Goals as goal
-use Rattle.engine_core.proofs.applying.change.Goals.{After-carry_out, After-dump}
+use Rattle.engine_core.proofs.applying.change.Goals.{After-carry_out, After-dump, In-Ok}
 
 record Begun (g : _) (c : After-carry_out g) : Type 0 where
   stood : standing (g.H.Host.told c.args.host.now).state ≡ restored_to c.in-Ok.found
@@ -112,33 +116,91 @@ returns-clause-value g c =
 
 -- ---- on every host
 
+-- the dump made no call
+dumped_settled : (g : _) (c : In-Ok g) (start : Start) → SettledBy g.H.Host.tells c.args.now start (g.H.Host.told c.args.host.now) → SettledBy g.H.Host.tells c.args.now start (g.H.Host.told c.dump.new.self)
+dumped_settled g c start settled = left_settled g.H.Host.tells c.args.now start (g.H.Host.told c.args.host.now) (g.H.Host.told c.dump.new.self) settled (inr c.in-Ok.ensures.calls)
+
+dumped_quiet : (g : _) (c : In-Ok g) (start : Start) → Follows start (g.H.Host.told c.args.host.now) → NoneRefused start.kernel (g.H.Host.told c.dump.new.self).kernel
+dumped_quiet g c start follows =
+    let old = (g.H.Host.told c.args.host.now).kernel in
+    let mid = (g.H.Host.told c.dump.new.self).kernel in
+    quiet_on start.kernel old mid follows.quiet (quiet_dumped old mid c.in-Ok.ensures.calls)
+
+dumped_follows : (g : _) (c : In-Ok g) (start : Start) → Follows start (g.H.Host.told c.args.host.now) → Follows start (g.H.Host.told c.dump.new.self)
+dumped_follows g c start follows =
+    let old = g.H.Host.told c.args.host.now in
+    let mid = g.H.Host.told c.dump.new.self in
+    follows_on start old mid follows c.dump.ensures.cause.later c.dump.ensures.stops.later (quiet_dumped old.kernel mid.kernel c.in-Ok.ensures.calls)
+
 pub returns-in-Err-Failed-clause-says : goal.returns-in-Err-Failed-clause-says
-returns-in-Err-Failed-clause-says g c = λ start follows was.
+returns-in-Err-Failed-clause-says g c = λ start follows settled was.
     let old = g.H.Host.told c.args.host.now in
     let mid = g.H.Host.told c.dump.new.self in
     left_says g.H.Host.tells (asked c.args.doc.now c.args.opts.now c.args.now) start old mid c.args.left c.requires.left
     (rose_after start.faults old.faults mid.faults follows.faults (c.in-Err-Failed.ensures.cause.failed (ap (λ e. Err e) c.in-Err-Failed.field-0-is))) c.dump.ensures.state was (λ tells. (c.requires.none tells).cell)
+    (left_settled g.H.Host.tells c.args.now start old mid settled (inl c.in-Err-Failed.ensures.kernel))
 
 pub returns-in-Err-Damaged-clause-says : goal.returns-in-Err-Damaged-clause-says
-returns-in-Err-Damaged-clause-says g c = λ start follows was tells.
+returns-in-Err-Damaged-clause-says g c = λ start follows settled was tells.
     let old = g.H.Host.told c.args.host.now in
     let mid = g.H.Host.told c.dump.new.self in
-    let damaged : IsDamaged 0 old.state = inl (refl, c.in-Err-Damaged.ensures.damaged tells (ap (λ e. Err e) c.in-Err-Damaged.field-0-is)) in
-    since_keeps Stays start.moment 0 old mid follows.moment c.dump.ensures.stops (since start.moment 0 old (g.met.H.Host.lawful c.args.host.now).stops ((g.met.H.Host.lawful c.args.host.now).reads tells) follows.moment damaged)
+    let damaged : IsDamaged 0 old.state = inl (refl, c.in-Err-Damaged.ensures.damaged tells (ap (λ e. Err e) c.in-Err-Damaged.field-0-is)) in (
+      since_keeps Stays start.moment 0 old mid follows.moment c.dump.ensures.stops (since start.moment 0 old (g.met.H.Host.lawful c.args.host.now).stops ((g.met.H.Host.lawful c.args.host.now).reads tells) follows.moment damaged),
+      record {
+        damaged = subst (λ (s : State). IsDamaged 0 s) (sym (c.dump.ensures.state tells)) damaged;
+        held = inl (left_settled g.H.Host.tells c.args.now start old mid settled (inl c.in-Err-Damaged.ensures.kernel));
+      },
+    )
 
 pub returns-in-Err-Refused-clause-says : goal.returns-in-Err-Refused-clause-says
-returns-in-Err-Refused-clause-says g c = λ start follows was tells.
+returns-in-Err-Refused-clause-says g c = λ start follows settled was.
     let broken : merge c.in-Ok.found c.args.doc.now ≡ Err c.in-Err-Refused.r = c.in-Err-Refused.ensures.refused c.in-Err-Refused.r (ap (λ e. Err e) c.in-Err-Refused.field-0-is) in
-    let same = c.in-Err-Refused.r-is in
-    (c.in-Ok.found, c.in-Ok.ensures.fresh tells, cc)
+    let same = c.in-Err-Refused.r-is in (
+      dumped_settled g (goal.at.returns-in-Err-Refused-clause-says g c).In-Ok start settled,
+      λ tells. record {
+        from = c.in-Ok.found;
+        is_fresh = c.in-Ok.ensures.fresh tells;
+        breaks = cc;
+        none = ap (λ (s : State). cell_of s.cell) (c.dump.ensures.state tells) ∙ (c.requires.none tells).cell;
+      },
+    )
 
 pub returns-clause-says : goal.returns-clause-says
-returns-clause-says g c = λ start follows was.
-    let old = g.H.Host.told c.args.host.now in
-    let mid = g.H.Host.told c.dump.new.self in
-    c.carry_out.ensures.says c.args.doc.now start
-    (follows_on start old mid follows c.dump.ensures.cause.later c.dump.ensures.stops.later (quiet_dumped old.kernel mid.kernel c.in-Ok.ensures.calls))
-    (ap (λ (k : Kernel). k.calls) c.in-Ok.ensures.calls) c.in-Ok-merge.ensures.merged
+returns-clause-says g c = λ start follows settled was.
+    let at = (goal.at.returns-clause-says g c).In-Ok in
+    c.carry_out.ensures.says c.args.doc.now start (dumped_follows g at start follows) (ap (λ (k : Kernel). k.calls) c.in-Ok.ensures.calls) c.in-Ok-merge.ensures.merged (dumped_settled g at start settled)
+
+-- ---- what every host counts
+
+pub returns-in-Err-Failed-clause-counts : goal.returns-in-Err-Failed-clause-counts
+returns-in-Err-Failed-clause-counts g c = λ start follows unmade.
+    left_counts start.kernel (g.H.Host.told c.args.host.now).kernel (g.H.Host.told c.dump.new.self).kernel c.args.left c.requires.left follows.quiet unmade c.in-Err-Failed.ensures.kernel
+
+pub returns-in-Err-Damaged-clause-counts : goal.returns-in-Err-Damaged-clause-counts
+returns-in-Err-Damaged-clause-counts g c = λ start follows unmade.
+    let old = (g.H.Host.told c.args.host.now).kernel in
+    let mid = (g.H.Host.told c.dump.new.self).kernel in
+    inl (quiet_on start.kernel old mid follows.quiet (quiet_same old mid c.in-Err-Damaged.ensures.kernel))
+
+pub returns-in-Err-OutOfMemory-clause-counts : goal.returns-in-Err-OutOfMemory-clause-counts
+returns-in-Err-OutOfMemory-clause-counts g c = λ start follows unmade.
+    let old = (g.H.Host.told c.args.host.now).kernel in
+    let mid = (g.H.Host.told c.dump.new.self).kernel in
+    inl (quiet_on start.kernel old mid follows.quiet (quiet_same old mid c.in-Err-OutOfMemory.ensures.kernel))
+
+pub returns-in-Err-Refused-clause-counts : goal.returns-in-Err-Refused-clause-counts
+returns-in-Err-Refused-clause-counts g c = λ start follows unmade. dumped_quiet g (goal.at.returns-in-Err-Refused-clause-counts g c).In-Ok start follows
+
+pub returns-in-Err-OutOfMemory-merge-clause-counts : goal.returns-in-Err-OutOfMemory-merge-clause-counts
+returns-in-Err-OutOfMemory-merge-clause-counts g c = λ start follows unmade. inl (dumped_quiet g (goal.at.returns-in-Err-OutOfMemory-merge-clause-counts g c).In-Ok start follows)
+
+pub returns-in-Err-clause-counts : goal.returns-in-Err-clause-counts
+returns-in-Err-clause-counts g c = λ start follows unmade. inl (dumped_quiet g (goal.at.returns-in-Err-clause-counts g c).In-Ok start follows)
+
+pub returns-clause-counts : goal.returns-clause-counts
+returns-clause-counts g c = λ start follows unmade.
+    let at = (goal.at.returns-clause-counts g c).In-Ok in
+    c.carry_out.ensures.counts c.args.doc.now start (dumped_follows g at start follows) (ap (λ (k : Kernel). k.calls) c.in-Ok.ensures.calls) c.in-Ok-merge.ensures.merged
 
 pub returns-clause-unbegun : goal.returns-clause-unbegun
 returns-clause-unbegun g c = λ is. absurd (c.carry_out.ensures.begun is)
@@ -209,11 +271,16 @@ returns-in-Err-Failed-clause-tries g c = λ start follows. left_tries (c.args.op
 
 pub returns-clause-tries : goal.returns-clause-tries
 returns-clause-tries g c = λ start follows.
-    let old = g.H.Host.told c.args.host.now in
-    let mid = g.H.Host.told c.dump.new.self in
-    c.carry_out.ensures.tries c.args.doc.now start
-    (follows_on start old mid follows c.dump.ensures.cause.later c.dump.ensures.stops.later (quiet_dumped old.kernel mid.kernel c.in-Ok.ensures.calls))
-    (ap (λ (k : Kernel). k.calls) c.in-Ok.ensures.calls) c.in-Ok-merge.ensures.merged
+    c.carry_out.ensures.tries c.args.doc.now start (dumped_follows g (goal.at.returns-clause-tries g c).In-Ok start follows) (ap (λ (k : Kernel). k.calls) c.in-Ok.ensures.calls) c.in-Ok-merge.ensures.merged
+
+pub returns-in-Err-Failed-clause-twice : goal.returns-in-Err-Failed-clause-twice
+returns-in-Err-Failed-clause-twice g c = λ honest. left_twice ⊥ (g.H.Host.told c.args.host.now).faults (g.H.Host.told c.dump.new.self) c.args.left c.requires.left
+
+pub returns-clause-twice : goal.returns-clause-twice
+returns-clause-twice g c = λ honest.
+    let net = ap (λ (s : State). s.net) (c.dump.ensures.state (g.met.H.Host.honest_tells honest)) ∙ c.in-Ok.ensures.net honest in
+    twice_before ⊥ (g.H.Host.told c.args.host.now).faults (g.H.Host.told c.dump.new.self).faults (g.H.Host.told c.carry_out.new.host) c.carry_out.result c.dump.ensures.cause.later
+    (c.carry_out.ensures.twice honest net (subst (λ (l : List Call). Runs l c.in-Ok.found c.in-Ok-merge.to) (sym c.deref.ensures.value) c.in-Ok-plan.ensures.run))
 
 pub returns-clause-dumps : goal.returns-clause-dumps
 returns-clause-dumps g c = c.carry_out.ensures.dumps c.in-Ok.ensures.fresh

@@ -19,9 +19,13 @@ use Rattle.engine_core.proofs.Exacts.{taken_hurt, never_refused, stopped_hurt}
 use Rattle.engine_core.specs.Saying.{Said, taken_back_as, stopped_as}
 use Rattle.engine_core.specs.declared.missed.Missed.{Missed}
 use Rattle.engine_core.proofs.Gives.{one_way, taken_exit, stopped_exit}
-use Rattle.engine_core.proofs.Says.{taken_says, stopped_says, begun_taken, begun_stopped}
-use Rattle.engine_model.specs.Faults.{Tries, Backs}
-use Rattle.engine_core.proofs.Tries.{taken_tries, stopped_tries, taken_backs, stopped_backs, back_or}
+use Rattle.engine_core.proofs.Says.{taken_says, stopped_says, returned, begun_taken, begun_stopped}
+use Rattle.engine_core.proofs.Counts.{taken_counts, stopped_counts}
+use Rattle.std.specs.Prelude.{⊤}
+use Rattle.engine_model.specs.Refusals.{ApplyCounts}
+use Rattle.engine_model.proofs.lemmas.Refusals.{back_as}
+use Rattle.engine_model.specs.Faults.{Tries, FailsTwice, Backs}
+use Rattle.engine_core.proofs.Tries.{taken_tries, stopped_tries, taken_twice, stopped_twice, taken_backs, stopped_backs, back_or}
 use Rattle.engine_core.proofs.applying.give_up.Goals as goal
 use Rattle.engine_core.proofs.applying.give_up.Goals.{After-go_back}
 
@@ -54,20 +58,34 @@ pub returns-in-Err-clause-memory : goal.returns-in-Err-clause-memory
 returns-in-Err-clause-memory g c = λ is. c.stopped.ensures ∙ ap (λ (m : Missed). stopped_as m c.in-Err.fault) is
 
 pub returns-in-Ok-clause-says : goal.returns-in-Ok-clause-says
-returns-in-Ok-clause-says g c = λ doc opts made start faults moment why compared.
+returns-in-Ok-clause-says g c = λ doc opts made start faults moment why compared settled.
     let old = g.H.Host.told c.args.host.now in
     let new = g.H.Host.told c.go_back.new.host in
     subst (λ (a : ApplyFault). Said g.H.Host.tells (asked doc opts made) start new (Err a)) (sym c.taken_back.ensures)
-    (taken_says g.H.Host.tells doc opts made start old new faults moment c.args.missed why compared c.in-Ok.ensures.quiet c.go_back.ensures.later c.go_back.ensures.moves (λ tells. (c.in-Ok.ensures.cleared tells).cell) c.in-Ok.ensures.saved)
+    (taken_says g.H.Host.tells doc opts made start old new faults moment c.go_back.ensures.bare c.args.missed why compared c.go_back.ensures.later c.go_back.ensures.moves (λ tells. (c.in-Ok.ensures.cleared tells).cell) c.in-Ok.ensures.saved
+    (returned g.H.Host.tells old new c.in-Ok.field-0 c.in-Ok.ensures.gave c.in-Ok.ensures.empty c.in-Ok.ensures.unmade) settled)
 
 pub returns-in-Err-clause-says : goal.returns-in-Err-clause-says
-returns-in-Err-clause-says g c = λ doc opts made start faults moment why compared.
+returns-in-Err-clause-says g c = λ doc opts made start faults moment why compared settled.
     let old = g.H.Host.told c.args.host.now in
     let new = g.H.Host.told c.go_back.new.host in
     subst (λ (a : ApplyFault). Said g.H.Host.tells (asked doc opts made) start new (Err a)) (sym c.stopped.ensures)
-    (stopped_says g.H.Host.tells doc opts made start old new faults moment (g.met.H.Host.lawful c.args.host.now).stops (g.met.H.Host.lawful c.args.host.now).reads c.args.missed c.in-Err.fault why c.go_back.ensures.moves
-    (λ is. c.in-Err.ensures.set_there (ap (λ e. Err e) is)) (λ left is. c.in-Err.ensures.fault left (ap (λ e. Err e) is)) (λ k n left is. c.in-Err.ensures.refused k n left (ap (λ e. Err e) is))
-    c.in-Err.ensures.before (λ tells area is. c.in-Err.ensures.damaged tells area (ap (λ e. Err e) is)) (λ tells names is. c.in-Err.ensures.differs tells names (ap (λ e. Err e) is)))
+    (stopped_says g.H.Host.tells doc opts made start old new faults moment c.go_back.ensures.bare (g.met.H.Host.lawful c.args.host.now).stops (g.met.H.Host.lawful c.args.host.now).reads c.args.missed c.in-Err.fault why c.go_back.ensures.moves
+    (λ is. c.in-Err.ensures.set_there (ap (λ e. Err e) is)) (λ left is. c.in-Err.ensures.fault left (ap (λ e. Err e) is)) c.in-Err.ensures.before c.in-Err.ensures.same c.in-Err.ensures.unset
+    (λ tells area is. c.in-Err.ensures.damaged tells area (ap (λ e. Err e) is)) (λ tells names is. c.in-Err.ensures.differs tells names (ap (λ e. Err e) is)))
+
+pub returns-in-Ok-clause-counts : goal.returns-in-Ok-clause-counts
+returns-in-Ok-clause-counts g c = λ doc start why.
+    let old = g.H.Host.told c.args.host.now in
+    let new = g.H.Host.told c.go_back.new.host in
+    subst (λ (a : ApplyFault). ApplyCounts start.kernel new.kernel (Err a)) (sym c.taken_back.ensures) (taken_counts g.H.Host.tells doc start old new c.args.missed why c.in-Ok.ensures.counts)
+
+pub returns-in-Err-clause-counts : goal.returns-in-Err-clause-counts
+returns-in-Err-clause-counts g c = λ doc start why.
+    let old = g.H.Host.told c.args.host.now in
+    let new = g.H.Host.told c.go_back.new.host in
+    subst (λ (a : ApplyFault). ApplyCounts start.kernel new.kernel (Err a)) (sym c.stopped.ensures)
+    (stopped_counts g.H.Host.tells doc start old new c.args.missed c.in-Err.fault why (back_as Bool ⊤ old.kernel new.kernel c.in-Err.fault c.in-Err.ensures.counts))
 
 pub returns-in-Ok-clause-begun : goal.returns-in-Ok-clause-begun
 returns-in-Ok-clause-begun g c = λ is. begun_taken c.args.missed (sym c.taken_back.ensures ∙ is)
@@ -104,8 +122,19 @@ returns-in-Err-clause-tries g c = λ doc opts start why compared.
     let old = g.H.Host.told c.args.host.now in
     let new = g.H.Host.told c.go_back.new.host in
     subst (λ (a : ApplyFault). Tries (opts.no_verify ≡ false) start.faults start.kernel.refusals new (Err a)) (sym c.stopped.ensures)
-    (stopped_tries g.H.Host.tells doc start old new c.go_back.ensures.later (opts.no_verify ≡ false) c.in-Err.fault (λ left is. c.in-Err.ensures.fault left (ap (λ e. Err e) is)) (λ left is. c.in-Err.ensures.unrefused left (ap (λ e. Err e) is))
-    (λ k n left is. c.in-Err.ensures.refused k n left (ap (λ e. Err e) is)) c.args.missed why compared)
+    (stopped_tries g.H.Host.tells doc start old new c.go_back.ensures.later (opts.no_verify ≡ false) c.in-Err.fault (λ left is. c.in-Err.ensures.fault left (ap (λ e. Err e) is))
+    (back_as Bool ⊤ old.kernel new.kernel c.in-Err.fault c.in-Err.ensures.counts) c.args.missed why compared)
+
+pub returns-in-Ok-clause-twice : goal.returns-in-Ok-clause-twice
+returns-in-Ok-clause-twice g c = λ honest start is rose.
+    let new = g.H.Host.told c.go_back.new.host in
+    subst (λ (a : ApplyFault). FailsTwice ⊥ start new (Err a)) (sym c.taken_back.ensures) (taken_twice ⊥ start new c.args.missed)
+
+pub returns-in-Err-clause-twice : goal.returns-in-Err-clause-twice
+returns-in-Err-clause-twice g c = λ honest start is rose.
+    let old = g.H.Host.told c.args.host.now in
+    let new = g.H.Host.told c.go_back.new.host in
+    subst (λ (a : ApplyFault). FailsTwice ⊥ start new (Err a)) (sym c.stopped.ensures) (stopped_twice ⊥ start old.faults new c.args.missed c.in-Err.fault is rose (λ left is. c.in-Err.ensures.fault left (ap (λ e. Err e) is)))
 
 pub returns-in-Ok-clause-backs : goal.returns-in-Ok-clause-backs
 returns-in-Ok-clause-backs g c = λ honest before unset.

@@ -8,7 +8,7 @@ use Rattle.engine_model.proofs.lemmas.Leading.{kept_wider}
 use Rattle.engine_model.specs.Machine.{asked}
 use Rattle.engine_model.specs.Faults.{ApplySays}
 use Rattle.engine_model.specs.declared.answers.Left.TheVariants.{NotBegun, RolledBack}
-use Rattle.engine_core.specs.Saying.{start_of, Follows}
+use Rattle.engine_core.specs.Saying.{start_of, Follows, SettledBy}
 use Rattle.engine_core.proofs.Says.{start_since, said_damaged, unsettled_damaged}
 use Rattle.engine_core.proofs.Gives.{unsettled_exit, after_exit, after_kept, now_ends}
 use Rattle.checkpoint_cell.specs.Cell.{cell_of}
@@ -20,7 +20,7 @@ use Rattle.engine_model.specs.Machine.{apply, change, saved_on}
 use Rattle.engine_model.specs.Answers.{Finds}
 use Rattle.engine_model.specs.Faults.{ApplyExact}
 use Rattle.engine_model.specs.declared.answers.Recovered.{Recovered}
-use Rattle.engine_model.specs.declared.answers.Recovered.TheVariants.{Restored}
+use Rattle.engine_model.specs.declared.answers.Recovered.TheVariants.{Nothing, Waiting as Waits_for, Restored}
 use Rattle.engine_model.specs.declared.answers.BackFault.{BackFault}
 use Rattle.engine_model.proofs.lemmas.Finding.{recover_exact, found_saved}
 use Rattle.engine_core.proofs.Exacts.{exact_from, nothing_is, restored_is, unsettled_exact}
@@ -28,13 +28,18 @@ use Rattle.engine_core.proofs.Says.{said_says, waits_says, unsettled_says}
 use Rattle.host_core.specs.HostView.{NoneRefused}
 use Rattle.std.proofs.Common.{Option, false}
 use Rattle.net_model.specs.NetData.{NetData}
-use Rattle.engine_model.specs.Faults.{Tries, Backs, HasTaken}
+use Rattle.std.specs.Prelude.{⊤}
+use Rattle.std.proofs.Common.{inr}
+use Rattle.engine_model.specs.Refusals.{ApplyCounts}
+use Rattle.engine_model.proofs.lemmas.Refusals.{back_as}
+use Rattle.engine_core.proofs.Counts.{unsettled_counts}
+use Rattle.engine_model.specs.Faults.{Tries, FailsTwice, Backs, HasTaken}
 use Rattle.engine_model.proofs.lemmas.Backs.{has_taken}
 use Rattle.engine_model.specs.Machine.{recover}
 use Rattle.engine_core.proofs.Exacts.{nothing_after, restored_after}
-use Rattle.engine_core.proofs.Tries.{tries_more, unsettled_tries, unsettled_backs}
+use Rattle.engine_core.proofs.Tries.{tries_more, unsettled_tries, twice_before, unsettled_twice, unsettled_backs}
 use Rattle.engine_core.proofs.applying.settle_and_change.Goals as goal
-use Rattle.engine_core.proofs.applying.settle_and_change.Goals.{After-take_back}
+use Rattle.engine_core.proofs.applying.settle_and_change.Goals.{After-take_back, In-Ok-Nothing, In-Ok-Restored}
 
 pub returns-in-Ok-Waiting-clause-kept : goal.returns-in-Ok-Waiting-clause-kept
 returns-in-Ok-Waiting-clause-kept g c = λ honest sound. kept_wider (IsSettled c.args.now (g.H.Host.told c.args.host.now).state) (IsApplied (asked_of c.args.doc.now c.args.opts.now c.args.now) (g.H.Host.told c.args.host.now).state) (λ a is. inl is) (g.H.Host.told c.args.host.now) (g.H.Host.told c.take_back.new.host) (c.take_back.ensures.kept honest sound)
@@ -95,18 +100,32 @@ returns-in-Ok-Waiting-clause-says g c =
     (λ tells. c.take_back.ensures.waiting tells c.in-Ok-Waiting.deadline (c.in-Ok-Waiting.is ∙ ap (λ r. Ok r) c.in-Ok-Waiting.field-0-is))
     (λ tells. c.take_back.ensures.waiting_same tells c.in-Ok-Waiting.deadline (c.in-Ok-Waiting.is ∙ ap (λ r. Ok r) c.in-Ok-Waiting.field-0-is))
 
+-- nothing was to be taken back
+nothing_made : (g : _) (c : In-Ok-Nothing g) → (g.H.Host.told c.take_back.new.host).kernel ≡ (g.H.Host.told c.args.host.now).kernel
+nothing_made g c = c.in-Ok-Nothing.ensures.unmade (λ is. let e : Nothing ≡ Restored = sym c.in-Ok-Nothing.field-0-is ∙ is in absurd (cc))
+
+nothing_settled : (g : _) (c : In-Ok-Nothing g) (t : ℕ) → SettledBy g.H.Host.tells c.args.now (start_since t (g.H.Host.told c.args.host.now)) (g.H.Host.told c.take_back.new.host)
+nothing_settled g c t = inr (inl (nothing_made g c))
+
+-- something was
+restored_settled : (g : _) (c : In-Ok-Restored g) (t : ℕ) → SettledBy g.H.Host.tells c.args.now (start_since t (g.H.Host.told c.args.host.now)) (g.H.Host.told c.take_back.new.host)
+restored_settled g c t =
+    inl (λ tells. has_taken c.args.now (cell_of (g.H.Host.told c.args.host.now).state.cell) (c.take_back.ensures.restored tells (c.in-Ok-Restored.is ∙ ap (λ r. Ok r) c.in-Ok-Restored.field-0-is)))
+
 pub returns-in-Ok-Nothing-clause-says : goal.returns-in-Ok-Nothing-clause-says
 returns-in-Ok-Nothing-clause-says g c =
     let old = g.H.Host.told c.args.host.now in
     said_says g.H.Host.tells (asked c.args.doc.now c.args.opts.now c.args.now) old (g.H.Host.told c.change.new.host) c.change.result
-    (c.change.ensures.says (start_of old) (begun g (goal.at.returns-in-Ok-Nothing-clause-says g c).After-take_back c.in-Ok-Nothing.ensures.quiet)
+    (c.change.ensures.says (start_of old) (begun g (goal.at.returns-in-Ok-Nothing-clause-says g c).After-take_back c.in-Ok-Nothing.ensures.counts)
+    (nothing_settled g (goal.at.returns-in-Ok-Nothing-clause-says g c).In-Ok-Nothing old.stops.moment)
     (λ is tells. c.take_back.ensures.nothing_same tells (c.in-Ok-Nothing.is ∙ ap (λ r. Ok r) c.in-Ok-Nothing.field-0-is)))
 
 pub returns-in-Ok-Restored-clause-says : goal.returns-in-Ok-Restored-clause-says
 returns-in-Ok-Restored-clause-says g c =
     let old = g.H.Host.told c.args.host.now in
     said_says g.H.Host.tells (asked c.args.doc.now c.args.opts.now c.args.now) old (g.H.Host.told c.change-in-Ok-Restored.new.host) c.change-in-Ok-Restored.result
-    (c.change-in-Ok-Restored.ensures.says (start_of old) (begun g (goal.at.returns-in-Ok-Restored-clause-says g c).After-take_back c.in-Ok-Restored.ensures.quiet)
+    (c.change-in-Ok-Restored.ensures.says (start_of old) (begun g (goal.at.returns-in-Ok-Restored-clause-says g c).After-take_back c.in-Ok-Restored.ensures.counts)
+    (restored_settled g (goal.at.returns-in-Ok-Restored-clause-says g c).In-Ok-Restored old.stops.moment)
     (λ is. let e : RolledBack ≡ NotBegun = is in absurd (cc)))
 
 pub returns-in-Err-clause-says : goal.returns-in-Err-clause-says
@@ -116,7 +135,29 @@ returns-in-Err-clause-says g c =
     subst (λ (a : ApplyFault). ApplySays g.H.Host.tells (asked c.args.doc.now c.args.opts.now c.args.now) old new (Err a)) (sym c.unsettled.ensures)
     (unsettled_says g.H.Host.tells (asked c.args.doc.now c.args.opts.now c.args.now) old new (g.met.H.Host.lawful c.args.host.now).stops (g.met.H.Host.lawful c.args.host.now).reads c.in-Err.fault
     (λ is. c.in-Err.ensures.set_there (ap (λ e. Err e) is)) (λ left is. c.in-Err.ensures.fault left (ap (λ e. Err e) is)) (λ left is. c.in-Err.ensures.side left (ap (λ e. Err e) is)) c.in-Err.ensures.same
-    (λ k n left is. c.in-Err.ensures.refused k n left (ap (λ e. Err e) is)) (λ k n left is. c.in-Err.ensures.given_up k n left (ap (λ e. Err e) is)) c.in-Err.ensures.before (λ tells area is. c.in-Err.ensures.damaged tells area (ap (λ e. Err e) is)) (λ tells names is. c.in-Err.ensures.differs tells names (ap (λ e. Err e) is)))
+    (back_as Recovered ⊤ old.kernel new.kernel c.in-Err.fault c.in-Err.ensures.counts) (λ k n left is. c.in-Err.ensures.given_up k n left (ap (λ e. Err e) is)) c.in-Err.ensures.before (λ tells area is. c.in-Err.ensures.damaged tells area (ap (λ e. Err e) is)) (λ tells names is. c.in-Err.ensures.differs tells names (ap (λ e. Err e) is)))
+
+-- ---- what every host counts
+
+pub returns-in-Ok-Waiting-clause-counts : goal.returns-in-Ok-Waiting-clause-counts
+returns-in-Ok-Waiting-clause-counts g c = inl (c.in-Ok-Waiting.ensures.unmade (λ is. let e : Waits_for c.in-Ok-Waiting.deadline ≡ Restored = sym c.in-Ok-Waiting.field-0-is ∙ is in absurd (cc)))
+
+pub returns-in-Ok-Nothing-clause-counts : goal.returns-in-Ok-Nothing-clause-counts
+returns-in-Ok-Nothing-clause-counts g c =
+    let old = g.H.Host.told c.args.host.now in
+    c.change.ensures.counts (start_of old) (begun g (goal.at.returns-in-Ok-Nothing-clause-counts g c).After-take_back c.in-Ok-Nothing.ensures.counts)
+    (λ is. inl (nothing_made g (goal.at.returns-in-Ok-Nothing-clause-counts g c).In-Ok-Nothing))
+
+pub returns-in-Ok-Restored-clause-counts : goal.returns-in-Ok-Restored-clause-counts
+returns-in-Ok-Restored-clause-counts g c =
+    let old = g.H.Host.told c.args.host.now in
+    c.change-in-Ok-Restored.ensures.counts (start_of old) (begun g (goal.at.returns-in-Ok-Restored-clause-counts g c).After-take_back c.in-Ok-Restored.ensures.counts) (λ is. let e : RolledBack ≡ NotBegun = is in absurd (cc))
+
+pub returns-in-Err-clause-counts : goal.returns-in-Err-clause-counts
+returns-in-Err-clause-counts g c =
+    let old = (g.H.Host.told c.args.host.now).kernel in
+    let new = (g.H.Host.told c.take_back.new.host).kernel in
+    subst (λ (a : ApplyFault). ApplyCounts old new (Err a)) (sym c.unsettled.ensures) (unsettled_counts old new c.in-Err.fault (back_as Recovered ⊤ old new c.in-Err.fault c.in-Err.ensures.counts))
 
 -- ---- what isn't touched
 
@@ -146,14 +187,16 @@ pub returns-in-Ok-Nothing-clause-damaged : goal.returns-in-Ok-Nothing-clause-dam
 returns-in-Ok-Nothing-clause-damaged g c = λ tells t area le is.
     let start = start_since t (g.H.Host.told c.args.host.now) in
     said_damaged g.H.Host.tells (asked c.args.doc.now c.args.opts.now c.args.now) start (g.H.Host.told c.change.new.host) c.change.result area is
-    (c.change.ensures.says start (since_then g (goal.at.returns-in-Ok-Nothing-clause-damaged g c).After-take_back t le c.in-Ok-Nothing.ensures.quiet)
+    (c.change.ensures.says start (since_then g (goal.at.returns-in-Ok-Nothing-clause-damaged g c).After-take_back t le c.in-Ok-Nothing.ensures.counts)
+    (nothing_settled g (goal.at.returns-in-Ok-Nothing-clause-damaged g c).In-Ok-Nothing t)
     (λ same told. c.take_back.ensures.nothing_same told (c.in-Ok-Nothing.is ∙ ap (λ r. Ok r) c.in-Ok-Nothing.field-0-is))) tells
 
 pub returns-in-Ok-Restored-clause-damaged : goal.returns-in-Ok-Restored-clause-damaged
 returns-in-Ok-Restored-clause-damaged g c = λ tells t area le is.
     let start = start_since t (g.H.Host.told c.args.host.now) in
     said_damaged g.H.Host.tells (asked c.args.doc.now c.args.opts.now c.args.now) start (g.H.Host.told c.change-in-Ok-Restored.new.host) c.change-in-Ok-Restored.result area is
-    (c.change-in-Ok-Restored.ensures.says start (since_then g (goal.at.returns-in-Ok-Restored-clause-damaged g c).After-take_back t le c.in-Ok-Restored.ensures.quiet)
+    (c.change-in-Ok-Restored.ensures.says start (since_then g (goal.at.returns-in-Ok-Restored-clause-damaged g c).After-take_back t le c.in-Ok-Restored.ensures.counts)
+    (restored_settled g (goal.at.returns-in-Ok-Restored-clause-damaged g c).In-Ok-Restored t)
     (λ same. let e : RolledBack ≡ NotBegun = same in absurd (cc))) tells
 
 pub returns-in-Err-clause-damaged : goal.returns-in-Err-clause-damaged
@@ -212,14 +255,14 @@ returns-in-Ok-Nothing-clause-tries g c =
     let old = g.H.Host.told c.args.host.now in
     let at = (goal.at.returns-in-Ok-Nothing-clause-tries g c).After-take_back in
     tries_more (Taken g at) (c.args.opts.now.no_verify ≡ false) old.faults old.kernel.refusals (g.H.Host.told c.change.new.host) c.change.result
-    (c.change.ensures.tries (start_of old) (begun g at c.in-Ok-Nothing.ensures.quiet))
+    (c.change.ensures.tries (start_of old) (begun g at c.in-Ok-Nothing.ensures.counts))
 
 pub returns-in-Ok-Restored-clause-tries : goal.returns-in-Ok-Restored-clause-tries
 returns-in-Ok-Restored-clause-tries g c =
     let old = g.H.Host.told c.args.host.now in
     let at = (goal.at.returns-in-Ok-Restored-clause-tries g c).After-take_back in
     tries_more (Taken g at) (c.args.opts.now.no_verify ≡ false) old.faults old.kernel.refusals (g.H.Host.told c.change-in-Ok-Restored.new.host) c.change-in-Ok-Restored.result
-    (c.change-in-Ok-Restored.ensures.tries (start_of old) (begun g at c.in-Ok-Restored.ensures.quiet))
+    (c.change-in-Ok-Restored.ensures.tries (start_of old) (begun g at c.in-Ok-Restored.ensures.counts))
 
 pub returns-in-Err-clause-tries : goal.returns-in-Err-clause-tries
 returns-in-Err-clause-tries g c =
@@ -229,6 +272,25 @@ returns-in-Err-clause-tries g c =
     subst (λ (a : ApplyFault). Tries (taken ⊎ (c.args.opts.now.no_verify ≡ false)) old.faults old.kernel.refusals new (Err a)) (sym c.unsettled.ensures)
     (unsettled_tries taken (c.args.opts.now.no_verify ≡ false) old.faults old.kernel.refusals new c.in-Err.fault
     (λ is tells. has_taken c.args.now (cell_of old.state.cell) (c.in-Err.ensures.pending tells (ap (λ e. Err e) is))) (λ k n left is tells. has_taken c.args.now (cell_of old.state.cell) (c.in-Err.ensures.unaccepted tells k n left (ap (λ e. Err e) is))))
+
+pub returns-in-Ok-Nothing-clause-twice : goal.returns-in-Ok-Nothing-clause-twice
+returns-in-Ok-Nothing-clause-twice g c = λ honest.
+    let old = g.H.Host.told c.args.host.now in
+    twice_before (HasTaken c.args.now (standing old.state).cell) old.faults (g.H.Host.told c.take_back.new.host).faults (g.H.Host.told c.change.new.host) c.change.result c.take_back.ensures.later (c.change.ensures.twice honest)
+
+pub returns-in-Ok-Restored-clause-twice : goal.returns-in-Ok-Restored-clause-twice
+returns-in-Ok-Restored-clause-twice g c = λ honest.
+    let old = g.H.Host.told c.args.host.now in
+    twice_before (HasTaken c.args.now (standing old.state).cell) old.faults (g.H.Host.told c.take_back.new.host).faults (g.H.Host.told c.change-in-Ok-Restored.new.host) c.change-in-Ok-Restored.result c.take_back.ensures.later
+    (c.change-in-Ok-Restored.ensures.twice honest)
+
+pub returns-in-Err-clause-twice : goal.returns-in-Err-clause-twice
+returns-in-Err-clause-twice g c = λ honest.
+    let old = g.H.Host.told c.args.host.now in
+    let new = g.H.Host.told c.take_back.new.host in
+    let taken = HasTaken c.args.now (standing old.state).cell in
+    subst (λ (a : ApplyFault). FailsTwice taken old.faults new (Err a)) (sym c.unsettled.ensures)
+    (unsettled_twice taken old.faults new c.in-Err.fault (λ is. has_taken c.args.now (cell_of old.state.cell) (c.in-Err.ensures.pending (g.met.H.Host.honest_tells honest) (ap (λ e. Err e) is))))
 
 pub returns-in-Ok-Nothing-clause-backs : goal.returns-in-Ok-Nothing-clause-backs
 returns-in-Ok-Nothing-clause-backs g c = λ honest.

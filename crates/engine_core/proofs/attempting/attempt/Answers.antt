@@ -6,7 +6,8 @@ use Rattle.checkpoint_cell.specs.Settled.{restored_to}
 use Rattle.engine_core.specs.Attempts.{IsOnWay}
 use Rattle.checkpoint_cell.specs.Cell.{applying}
 use Rattle.checkpoint_cell.proofs.lemmas.Saved.{saved_is}
-use Rattle.engine_core.proofs.Says.{follows_on, quiet_on}
+use Rattle.engine_model.proofs.lemmas.Refusals.{quiet_on}
+use Rattle.engine_core.proofs.Says.{follows_on}
 use Rattle.engine_model.proofs.lemmas.Leading.{kept_on, kept_wider, near_kept, near_ends, kept_stays}
 use Rattle.engine_core.proofs.Tries.{fresh_on, ok_any, err_any}
 use Rattle.engine_core.proofs.attempting.attempt.Goals as goal

@@ -12,7 +12,8 @@ use Rattle.engine_core.proofs.Attempts.{putting, filled}
 use Rattle.host_core.specs.HostView.{Kernel, NoneRefused}
 use Rattle.engine_core.specs.Saying.{Start, Follows}
 use Rattle.engine_core.proofs.Calms.{calm_on, calm_runs}
-use Rattle.engine_core.proofs.Says.{quiet_same, quiet_on, refused_after, rose_after}
+use Rattle.engine_model.proofs.lemmas.Refusals.{quiet_same, quiet_on, refused_after, once_after}
+use Rattle.engine_core.proofs.Says.{set_as, rose_after}
 use Rattle.engine_core.proofs.attempting.begin.Goals as goal
 use Rattle.engine_core.proofs.attempting.begin.Goals.{After-put, After-run}
 
@@ -70,6 +71,9 @@ returns-in-Ok-run-clause-set g c = λ tells. held _ (g.H.Host.told c.put.new.hos
 
 -- ---- on every host
 
+held_cell : (g : _) (c : After-run g) → g.H.Host.tells → cell_of (g.H.Host.told c.run.new.host).state.cell ≡ Some (applying c.args.made c.args.deadline c.args.from.now)
+held_cell g c tells = ap cell_of (c.run.ensures.cell tells) ∙ (c.in-Ok.ensures.put tells).cell
+
 unrefused : (g : _) (c : After-put g) → NoneRefused (g.H.Host.told c.args.host.now).kernel (g.H.Host.told c.put.new.host).kernel
 unrefused g c = quiet_same (g.H.Host.told c.args.host.now).kernel (g.H.Host.told c.put.new.host).kernel c.put.ensures.kernel.kernel
 
@@ -87,8 +91,14 @@ returns-in-Err-OutOfMemory-clause-says g c = λ doc start follows calls. since_s
 
 pub returns-in-Err-Refused-clause-says : goal.returns-in-Err-Refused-clause-says
 returns-in-Err-Refused-clause-says g c = λ doc start follows calls.
-    refused_after _ _ start.kernel (g.H.Host.told c.put.new.host).kernel (g.H.Host.told c.run.new.host).kernel (since_start g (goal.at.returns-in-Err-Refused-clause-says g c).After-put start follows)
-    (c.in-Err-Refused.ensures.refused _ _ (ap (λ e. Err e) c.in-Err-Refused.field-0-is) (ap (λ (k : Kernel). k.calls) c.put.ensures.kernel.kernel ∙ calls))
+    let mid = (g.H.Host.told c.put.new.host).kernel in
+    let new = (g.H.Host.told c.run.new.host).kernel in
+    let quiet = since_start g (goal.at.returns-in-Err-Refused-clause-says g c).After-put start follows in
+    let refused = ap (λ e. Err e) c.in-Err-Refused.field-0-is in (
+      refused_after _ _ start.kernel mid new quiet (c.in-Err-Refused.ensures.refused _ _ refused (ap (λ (k : Kernel). k.calls) c.put.ensures.kernel.kernel ∙ calls)),
+      once_after start.kernel mid new quiet (c.in-Err-Refused.ensures.once _ _ refused),
+      λ tells. set_as (g.H.Host.told c.run.new.host) (applying c.args.made c.args.deadline c.args.from.now) (held_cell g (goal.at.returns-in-Err-Refused-clause-says g c).After-run tells),
+    )
 
 pub returns-in-Err-Failed-run-clause-says : goal.returns-in-Err-Failed-run-clause-says
 returns-in-Err-Failed-run-clause-says g c = λ doc start follows calls. (
@@ -121,8 +131,11 @@ returns-in-Ok-run-clause-calm g c = λ honest to t le is plan calm.
 
 -- ---- where no checkpoint stands, no call was made
 
-held_cell : (g : _) (c : After-run g) → g.H.Host.tells → cell_of (g.H.Host.told c.run.new.host).state.cell ≡ Some (applying c.args.made c.args.deadline c.args.from.now)
-held_cell g c tells = ap cell_of (c.run.ensures.cell tells) ∙ (c.in-Ok.ensures.put tells).cell
+pub returns-in-Err-Failed-clause-unset : goal.returns-in-Err-Failed-clause-unset
+returns-in-Err-Failed-clause-unset g c = λ tells none. (c.put.ensures.kernel.net tells, c.put.ensures.kernel.kernel)
+
+pub returns-in-Err-OutOfMemory-clause-unset : goal.returns-in-Err-OutOfMemory-clause-unset
+returns-in-Err-OutOfMemory-clause-unset g c = λ tells none. (c.put.ensures.kernel.net tells, c.put.ensures.kernel.kernel)
 
 pub returns-in-Err-Refused-clause-unset : goal.returns-in-Err-Refused-clause-unset
 returns-in-Err-Refused-clause-unset g c = λ tells none. let e : Some (applying c.args.made c.args.deadline c.args.from.now) ≡ None = sym (held_cell g (goal.at.returns-in-Err-Refused-clause-unset g c).After-run tells) ∙ none in absurd (cc)

@@ -3,7 +3,8 @@ use Rattle.checkpoint_cell.specs.Cell.{applying, cell_of}
 use Rattle.host_core.specs.HostView.{State}
 use Rattle.engine_core.specs.Attempts.{IsOnWay}
 use Rattle.engine_core.proofs.Calms.{stays_nets}
-use Rattle.engine_core.proofs.Says.{quiet_same, quiet_on, rose_after}
+use Rattle.engine_model.proofs.lemmas.Refusals.{quiet_same, quiet_on}
+use Rattle.engine_core.proofs.Says.{set_as, rose_after}
 use Rattle.engine_model.proofs.lemmas.Leading.{kept_stays, kept_on, ends_stays, sound_stays}
 use Rattle.engine_model.proofs.lemmas.Restores.{held_stays}
 use Rattle.engine_core.proofs.attempting.seal.Goals as goal
@@ -48,6 +49,10 @@ returns-in-Err-mark-clause-kept g c = λ honest sound made deadline from holds e
     let there = held_stays _ old mid holds c.verify.ensures.stops (ap (λ (s : State). s.cell) (c.verify.ensures.state tells)) in
     kept_on (IsOnWay c.args.no_commit made deadline from c.args.to.now) old mid _ (kept_stays (IsOnWay c.args.no_commit made deadline from c.args.to.now) old mid sound c.verify.ensures.stops)
     (c.mark.ensures.kept tells (sound_stays old mid sound c.verify.ensures.stops) made deadline from c.args.to.now there (ends_stays _ old mid ends c.verify.ensures.stops))
+
+pub returns-in-Err-clause-says : goal.returns-in-Err-clause-says
+returns-in-Err-clause-says g c = λ doc start from follows merges saved.
+    c.in-Err.ensures.says doc start from follows merges saved (λ tells. let was = c.requires tells in set_as (g.H.Host.told c.args.host.now) (applying was.0 was.1 was.2) was.3.cell)
 
 pub returns-in-Err-mark-clause-says : goal.returns-in-Err-mark-clause-says
 returns-in-Err-mark-clause-says g c = λ doc start from follows merges saved.
