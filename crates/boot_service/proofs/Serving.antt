@@ -104,6 +104,7 @@ module _ (take : Taking File) (first : NetData) (all : List File) (net : NetData
 pub applies_done : (honest tells : Type 0) (doc : Doc) (now : ℕ) (old new : HostView) (x : Applied) → Applies honest tells (asked_of doc now) old new (Ok x) → Applies honest tells (asked_of doc now) old new (Ok done)
 applies_done honest tells doc now old new x a = record {
   says = a.says;
+  counts = a.counts;
   answer = λ h s. plain (a.answer h s);
   exact = λ h. plain (a.exact h);
   unbegun = λ e. absurd cc;
@@ -112,6 +113,7 @@ applies_done honest tells doc now old new x a = record {
   kept = a.kept;
   undisturbed = λ h s from to reads merges quiet memory. a.undisturbed h s from to reads merges quiet (λ e. cc);
   tries = a.tries;
+  twice = a.twice;
   dumps = a.dumps;
   backs = a.backs;
   moment = a.moment;

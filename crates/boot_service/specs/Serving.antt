@@ -1,5 +1,5 @@
 -- The serving of one document: an apply, and then the marking of its file.
-use Rattle.std.specs.Prelude.{◌≡◌, ◌≢◌, ◌⊎◌, ◌≤◌, ⊤, ℕ, List, false, Some, None, Result, Ok, Err}
+use Rattle.std.specs.Prelude.{◌≡◌, ◌≢◌, ◌≤◌, ⊤, ℕ, List, false, Some, None, Result, Ok, Err}
 use Rattle.net_model.specs.NetData.{NetData}
 use Rattle.document_model.specs.declared.Doc.{Doc}
 use Rattle.host_core.specs.Faults.{Rose, RoseTwice}
@@ -13,7 +13,8 @@ use Rattle.engine_model.specs.Machine.{Asked, asked, apply, recover}
 use Rattle.engine_model.specs.Sound.{Sound}
 use Rattle.engine_model.specs.Stations.{Only, Settled, Either, Kept, at, entry_of, left_by}
 use Rattle.engine_model.specs.Exit.{ApplyExit}
-use Rattle.engine_model.specs.Faults.{ApplySays, ApplyAnswers, ApplyExact, Tries, Dumps, Backs, HasTaken}
+use Rattle.engine_model.specs.Refusals.{ApplyCounts}
+use Rattle.engine_model.specs.Faults.{ApplySays, ApplyAnswers, ApplyExact, MayStandHalf, Tries, FailsTwice, Dumps, Backs, HasTaken}
 use Rattle.engine_model.specs.declared.answers.Left.TheVariants.{NotBegun}
 use Rattle.engine_model.specs.declared.answers.ApplyOpts.{ApplyOpts}
 use Rattle.engine_model.specs.declared.answers.Applied.{Applied}
@@ -66,8 +67,10 @@ Marks untouched tells name old new (Err (Apply fault)) = untouched
 
 -- of the host all is as after an apply with this answer
 pub record Applies (honest tells : Type 0) (a : Asked) (old new : HostView) (result : Result Applied ApplyFault) : Type 0 where
-  -- what is answered: on every host, on an honest host that is sound, and on an honest host that needn't be
+  -- what is answered: on every host, with the calls that every host counts, on an honest host that is sound, and on an honest host
+  -- that needn't be
   pub says : ApplySays tells a old new result
+  pub counts : ApplyCounts old.kernel new.kernel result
   pub answer : honest → Sound old → ApplyAnswers a old new result
   pub exact : honest → ApplyExact (Rose old.faults new.faults) (apply a (standing old.state)) new result
   -- on every host no more can be left than before, where it says that nothing was begun
@@ -81,7 +84,9 @@ pub record Applies (honest tells : Type 0) (a : Asked) (old new : HostView) (res
       → (Rose old.faults new.faults → ⊥) → result ≢ Err ap.OutOfMemory
       → (s : State) → new.stops.left_since old.stops.moment s → (net : NetData) × (s.net ≡ Some net) × IsUndisturbed from to net
   -- that a change may stand half way is told only where a restoring was tried
-  pub tries : Tries ((tells → HasTaken a.now (standing old.state).cell) ⊎ (a.opts.no_verify ≡ false)) old.faults old.kernel.refusals new result
+  pub tries : Tries (MayStandHalf tells a old) old.faults old.kernel.refusals new result
+  -- and of a host fault only where the host failed twice, unless a change was to be taken back first
+  pub twice : honest → FailsTwice (HasTaken a.now (standing old.state).cell) old.faults new result
   -- a change was dumped after its last call
   pub dumps : Dumps tells a.opts.no_verify new result
   -- where it says that all is taken back, the network is the one from before

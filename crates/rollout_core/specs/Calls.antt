@@ -9,6 +9,7 @@ use Rattle.engine_model.specs.Checks.{check, CheckSays, CheckAnswers, CheckExit}
 use Rattle.engine_model.specs.Sound.{Sound}
 use Rattle.engine_model.specs.Stations.{Only, Settled, Either, Kept, at, entry_of, left_by}
 use Rattle.engine_model.specs.Exit.{ApplyExit, CommitExit, BackExit}
+use Rattle.engine_model.specs.Refusals.{ApplyCounts, BackCounts}
 use Rattle.engine_model.specs.Faults.{ApplyAnswers, ApplySays, CommitAnswers, BackAnswers, BackSays, HasSet}
 use Rattle.engine_model.specs.declared.answers.Applied.{Applied}
 use Rattle.engine_model.specs.declared.answers.ApplyFault.{ApplyFault}
@@ -21,6 +22,7 @@ module _ (tells honest : Type 0) (old new : HostView) where
   -- a change was tried
   pub record Applies (a : Asked) (answer : Result Applied ApplyFault) : Type 0 where
     pub says : ApplySays tells a old new answer
+    pub counts : ApplyCounts old.kernel new.kernel answer
     pub answers : honest → Sound old → ApplyAnswers a old new answer
     pub exit : honest → Sound old → ApplyExit a (entry_of old) (left_by new) (Rose old.faults new.faults) (RoseTwice old.faults new.faults) answer
     pub reads : honest → Sound old → ApplyExit a (at (standing old.state)) (Only (standing new.state)) (Rose old.faults new.faults) (RoseTwice old.faults new.faults) answer
@@ -47,6 +49,7 @@ module _ (tells honest : Type 0) (old new : HostView) where
   -- a rollback was tried
   pub record TakesBack (answer : Result ⊤ BackFault) : Type 0 where
     pub says : BackSays tells (rollback (standing old.state)).answer old new answer
+    pub counts : BackCounts old.kernel new.kernel answer
     pub answers : honest → Sound old → BackAnswers (HasSet (standing old.state).cell) (rollback (standing old.state)) old new answer
     pub exit : honest → Sound old → BackExit (rollback (standing old.state)).after (entry_of old) (left_by new) answer
     pub reads : honest → Sound old → BackExit (rollback (standing old.state)).after (at (standing old.state)) (Only (standing new.state)) answer

@@ -16,7 +16,7 @@ use Rattle.host_core.specs.declared.DumpFault.TheVariants as du
 use Rattle.host_core.proofs.lemmas.Counts.{rose_after}
 use Rattle.merge_model.specs.MergedNet.{merge}
 use Rattle.engine_model.specs.Machine.{Asked}
-use Rattle.engine_model.specs.Faults.{ApplySays, BackSays, LeftSays}
+use Rattle.engine_model.specs.Faults.{ApplySays, BackSays, LeftSays, HadDamaged}
 use Rattle.engine_model.specs.declared.Left.{Left}
 use Rattle.engine_model.specs.declared.Left.TheVariants.{NotBegun, RolledBack, Pending}
 use Rattle.engine_model.specs.declared.ApplyFault.{ApplyFault}
@@ -48,10 +48,10 @@ module _ (tells : Type 0) (first second : Doc) (a b : Past) (le : IsPast tells a
   step_says_from (Dump du.Failed) s = rose_after a.faults b.faults new.faults le.faults s
   step_says_from (Dump du.Damaged) s = s
   step_says_from (Dump du.OutOfMemory) s = tt
-  step_says_from (Apply f) s = record { asked = s.asked; is = s.is; past = s.past; later = past_on tells a b s.past le s.later; says = s.says }
+  step_says_from (Apply f) s = record { asked = s.asked; is = s.is; past = s.past; later = past_on tells a b s.past le s.later; says = s.says; counts = s.counts }
   step_says_from (Merge (me.Refused r)) s = s
   step_says_from (Merge me.OutOfMemory) s = tt
-  step_says_from (Back f) s = record { past = s.past; later = past_on tells a b s.past le s.later; says = s.says }
+  step_says_from (Back f) s = record { past = s.past; later = past_on tells a b s.past le s.later; says = s.says; counts = s.counts }
   step_says_from OutOfMemory s = tt
 
   -- the same of the answer of a run
@@ -66,15 +66,18 @@ left_past tells old new NotBegun s = s
 left_past tells old new RolledBack s = s
 left_past tells old new Pending s = s
 
+had_past : (area : ℕ) (old new : HostView) → HadDamaged area old new → HadDamaged area (host_at (past_of old)) new
+had_past area old new had = record { pair = had.pair; left = had.left; damaged = had.damaged }
+
 -- what a change's answer says needs no more of the host before it
 pub apply_past : (tells : Type 0) (a : Asked) (old new : HostView) (fault : ApplyFault) → ApplySays tells a old new (Err fault) → ApplySays tells a (host_at (past_of old)) new (Err fault)
 apply_past tells a old new (ap_.Pending deadline) s = s
 apply_past tells a old new (ap_.MergeRefused r) s = s
-apply_past tells a old new (ap_.HostFault left) s = (s.0, left_past tells old new left s.1)
+apply_past tells a old new (ap_.HostFault left) s = (s.0, left_past tells old new left s.1, s.2)
 apply_past tells a old new ap_.InDoubt s = s
-apply_past tells a old new (ap_.KernelRefused k n left) s = s
+apply_past tells a old new (ap_.KernelRefused k n left) s = (left_past tells old new left s.0, s.1, s.2)
 apply_past tells a old new (ap_.NotVerified found left) s = s
-apply_past tells a old new (ap_.Damaged area) s = λ t. let had = s t in record { pair = had.pair; left = had.left; damaged = had.damaged }
+apply_past tells a old new (ap_.Damaged area) s = λ t. (had_past area old new (s t).0, (s t).1)
 apply_past tells a old new (ap_.HardwareDiffers names) s = s
 apply_past tells a old new ap_.OutOfMemory s = tt
 
@@ -83,7 +86,7 @@ pub back_past : (tells : Type 0) (machine : Result ⊤ BackFault) (old new : Hos
 back_past tells machine old new ba.NoCheckpoint s = s
 back_past tells machine old new (ba.HostFault left) s = (s.0, left_past tells old new left s.1, s.2)
 back_past tells machine old new (ba.KernelRefused k n left) s = s
-back_past tells machine old new (ba.Damaged area) s = λ t. let had = s t in record { pair = had.pair; left = had.left; damaged = had.damaged }
+back_past tells machine old new (ba.Damaged area) s = λ t. (had_past area old new (s t).0, (s t).1)
 back_past tells machine old new (ba.HardwareDiffers names) s = s
 back_past tells machine old new ba.OutOfMemory s = tt
 

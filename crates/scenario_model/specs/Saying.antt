@@ -1,5 +1,5 @@
 -- What the answer of a run says on every host, of which some tell what they hold: each fault by the clause of its call.
-use Rattle.std.specs.Prelude.{◌≡◌, ◌≤◌, ◌⊎◌, ℕ, Some, None, IsSome, Result, Ok, Err}
+use Rattle.std.specs.Prelude.{◌≡◌, ◌≤◌, ◌⊎◌, ⊤, ℕ, Some, None, IsSome, Result, Ok, Err}
 use Rattle.net_model.specs.NetData.{NetData}
 use Rattle.document_model.specs.declared.Doc.{Doc}
 use Rattle.document_model.specs.declared.Refused.{Refused as Refusal}
@@ -14,6 +14,7 @@ use Rattle.host_core.specs.declared.DumpFault.TheVariants as du
 use Rattle.checkpoint_cell.specs.Settled.{standing}
 use Rattle.merge_model.specs.MergedNet.{merge}
 use Rattle.engine_model.specs.Machine.{Asked, rollback}
+use Rattle.engine_model.specs.Refusals.{ApplyCounts, BackCounts}
 use Rattle.engine_model.specs.Faults.{ApplySays, BackSays}
 use Rattle.engine_model.specs.declared.answers.ApplyFault.{ApplyFault}
 use Rattle.engine_model.specs.declared.answers.BackFault.{BackFault}
@@ -62,12 +63,14 @@ pub record ChangeSays (tells : Type 0) (first second : Doc) (start : Past) (new 
   pub past : Past
   pub later : IsPast tells start past
   pub says : ApplySays tells asked (host_at past) new (Err fault)
+  pub counts : ApplyCounts past.kernel new.kernel (Err fault)
 
 -- the taking back was answered so
 pub record ReturnSays (tells : Type 0) (start : Past) (new : HostView) (fault : BackFault) : Type 0 where
   pub past : Past
   pub later : IsPast tells start past
   pub says : BackSays tells (rollback (standing past.state)).answer (host_at past) new (Err fault)
+  pub counts : BackCounts {A = ⊤} past.kernel new.kernel (Err fault)
 
 -- one of the documents breaks a rule on what was dumped last
 pub record MergeSays (tells : Type 0) (first second : Doc) (new : HostView) (refused : Refusal) : Type 0 where

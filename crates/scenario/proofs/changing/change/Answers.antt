@@ -17,6 +17,7 @@ returns-in-Err-clause-says g c = λ first second is. record {
   past = past_of (g.H.Host.told c.args.host.now);
   later = past_here g.H.Host.tells (past_of (g.H.Host.told c.args.host.now));
   says = apply_past g.H.Host.tells (asked c.args.doc.now c.args.opts.now c.args.now) (g.H.Host.told c.args.host.now) (g.H.Host.told c.apply.new.host) c.in-Err.fault c.in-Err.ensures.says;
+  counts = c.in-Err.ensures.counts;
 }
 
 pub returns-in-Err-clause-answer : goal.returns-in-Err-clause-answer
@@ -24,4 +25,4 @@ returns-in-Err-clause-answer g c = λ h from at.
     change_answers (asked c.args.doc.now c.args.opts.now c.args.now) from (g.H.Host.told c.apply.new.host) (g.H.Host.told c.args.host.now) at.reads c.in-Err.fault (c.in-Err.ensures.answer h at.sound)
 
 pub returns-in-Ok-clause-follows : goal.returns-in-Ok-clause-follows
-returns-in-Ok-clause-follows g c = record { faults = c.apply.ensures.later; quiet = c.in-Ok.ensures.says.0; moment = λ told. c.apply.ensures.moment }
+returns-in-Ok-clause-follows g c = record { faults = c.apply.ensures.later; quiet = c.in-Ok.ensures.counts; moment = λ told. c.apply.ensures.moment }

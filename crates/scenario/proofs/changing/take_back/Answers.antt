@@ -18,6 +18,7 @@ returns-in-Err-clause-says g c = λ first second. record {
   past = past_of (g.H.Host.told c.args.host.now);
   later = past_here g.H.Host.tells (past_of (g.H.Host.told c.args.host.now));
   says = back_past g.H.Host.tells (rollback (standing (g.H.Host.told c.args.host.now).state)).answer (g.H.Host.told c.args.host.now) (g.H.Host.told c.rollback.new.host) c.in-Err.fault c.in-Err.ensures.says;
+  counts = c.in-Err.ensures.counts;
 }
 
 pub returns-in-Err-clause-answer : goal.returns-in-Err-clause-answer
@@ -25,4 +26,4 @@ returns-in-Err-clause-answer g c = λ h ck from to saved at made.
     back_answers from to ck saved (g.H.Host.told c.args.host.now) (g.H.Host.told c.rollback.new.host) at.reads made _ _ c.in-Err.fault (c.in-Err.ensures.answer h at.sound) (c.in-Err.ensures.exit h at.sound)
 
 pub returns-in-Ok-clause-follows : goal.returns-in-Ok-clause-follows
-returns-in-Ok-clause-follows g c = record { faults = c.rollback.ensures.later; quiet = c.in-Ok.ensures.says; moment = λ told. c.rollback.ensures.moment }
+returns-in-Ok-clause-follows g c = record { faults = c.rollback.ensures.later; quiet = c.in-Ok.ensures.counts; moment = λ told. c.rollback.ensures.moment }
