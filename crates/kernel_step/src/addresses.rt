@@ -10,9 +10,8 @@ ghost use Rattle.kernel_model.specs.Addresses.{has_block, with_address, without_
 
 use crate::places::address_gap;
 use crate::refuse::same_block;
-use crate::routes::route_on_link;
-use link_step::{find_link, place_of};
-use net_model::{Items, Link, Name, OutOfMemory, Parts, Prefix, Route};
+use link_step::place_of;
+use net_model::{Items, Link, Name, OutOfMemory, Parts, Prefix, Route, find_link, route_on_link};
 use std::mem;
 
 fn insert_at(addrs: &mut Vec<Prefix>, i: usize, addr: Prefix) -> Result<(), OutOfMemory>

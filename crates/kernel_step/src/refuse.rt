@@ -20,8 +20,8 @@ use kernel_model::refusal::{
 };
 use link_step::has_link;
 use net_model::{
-    Dns, Kind, Link, MAX_ADDRESSES, MAX_LINK_ADDRESSES, MAX_ROUTES, MAX_RULES, MAX_SEARCH,
-    MAX_SERVERS, Name, Net, Prefix, Route, Rule, find_link, is_bond_or_bridge, route_on_link,
+    Dns, Link, MAX_ADDRESSES, MAX_LINK_ADDRESSES, MAX_ROUTES, MAX_RULES, MAX_SEARCH, MAX_SERVERS,
+    Name, Net, Prefix, Route, Rule, find_link, is_bond_or_bridge, route_on_link,
 };
 
 #[tactic(auto, using(net_model::proofs::lemmas::Found::named_passes_found))]

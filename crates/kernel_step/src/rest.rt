@@ -8,7 +8,6 @@ ghost use Rattle.kernel_model.specs.Rest.{after_add_rule, after_del_rule, after_
 
 use crate::places::rule_gap;
 use net_model::{Dns, OutOfMemory, Parts, Rule};
-use std::alloc::AllocError;
 
 fn insert_rule(parts: &mut Parts, i: usize, rule: Rule) -> Result<(), OutOfMemory>
     requires { i ≤ length parts.old.rules }

@@ -7,7 +7,7 @@ ghost use Rattle.net_model.specs.Valid.{same_key};
 ghost use Rattle.kernel_model.specs.Routes.{same_route, after_add_route, after_del_route};
 
 use crate::places::route_gap;
-use net_model::{Addr, Link, OutOfMemory, Parts, Prefix, Route};
+use net_model::{OutOfMemory, Parts, Route};
 
 pub(crate) fn same_route(a: &Route, b: &Route) -> bool
     ensures { result ≡ same_route a.now b.now }

@@ -24,5 +24,5 @@ mod refuse_port;
 // One call on links.
 mod step;
 
-pub use lookup::{find_link, place_of};
+pub use lookup::{has_link, place_of};
 pub use step::step_link;

@@ -16,7 +16,6 @@ use base_model::OutOfMemory;
 use document_model::Doc;
 use host_core::Host;
 use merge_core::merge;
-use merge_model::MergeFault;
 use net_model::Net;
 use plan_core::plan;
 use scenario_model::WorkFault;
