@@ -10,7 +10,9 @@ use Rattle.checkpoint_cell.specs.Settled.{Standing, standing, restored_to}
 use Rattle.merge_model.specs.MergedNet.{merge}
 use Rattle.engine_model.specs.Machine.{Asked, Outcome, apply, apply_step, apply_settled, apply_fault, change, changed, merged_as, deadline_of, recover, saved_on, stays}
 use Rattle.engine_model.specs.Stations.{Ends}
-use Rattle.engine_model.specs.Answers.{IsTaken, IsBefore, Finds}
+use Rattle.engine_model.specs.Answers.{IsTaken, Finds}
+use Rattle.engine_model.specs.Failing.{Fails}
+use Rattle.engine_model.proofs.lemmas.Failing.{fails_rose}
 use Rattle.engine_model.specs.Faults.{ApplyExact, IsOutcome, IsMade, BackExact}
 use Rattle.engine_model.specs.declared.answers.Left.{Left}
 use Rattle.engine_model.specs.declared.answers.Left.TheVariants.{NotBegun, RolledBack, Pending}
@@ -189,11 +191,11 @@ module _ (a : Asked) (old : State) where
       let there = ap (apply_step a) (fails_cell (cell_of old.cell) fault is) in
       record { answer = ap (λ (o : Made). o.answer) there; after = ap standing same ∙ sym (ap (λ (o : Made). o.after) there) }
 
-  pub unsettled_exact : (start : ℕ) (new : HostView) (fault : BackFault) → (fault ≡ ba.NoCheckpoint → ⊥) → ((left : Left) → fault ≡ ba.HostFault left → Rose start new.faults) → (IsBefore fault → new.state ≡ old)
-      → BackExact (recover a.now (standing old)).answer (Err fault) → ApplyExact (Rose start new.faults) (apply a (standing old)) new (Err (apply_fault fault))
-  unsettled_exact start new ba.NoCheckpoint set rose same exact = absurd (set refl)
-  unsettled_exact start new (ba.HostFault left) set rose same exact = rose left refl
-  unsettled_exact start new (ba.KernelRefused k n left) set rose same exact = exact
-  unsettled_exact start new (ba.Damaged area) set rose same exact = inr (fault_is (ba.Damaged area) new exact (same tt))
-  unsettled_exact start new (ba.HardwareDiffers names) set rose same exact = inr (fault_is (ba.HardwareDiffers names) new exact (same tt))
-  unsettled_exact start new ba.OutOfMemory set rose same exact = tt
+  pub unsettled_exact : (tells : Type 0) → tells → (from new : HostView) → from.state ≡ old → (fault : BackFault) → Fails tells from new fault → BackExact (recover a.now (standing old)).answer (Err fault)
+      → ApplyExact (Rose from.faults new.faults) (apply a (standing old)) new (Err (apply_fault fault))
+  unsettled_exact tells told from new is ba.NoCheckpoint fails exact = absurd fails
+  unsettled_exact tells told from new is (ba.HostFault left) fails exact = fails_rose tells from new left fails
+  unsettled_exact tells told from new is (ba.KernelRefused k n left) fails exact = exact
+  unsettled_exact tells told from new is (ba.Damaged area) fails exact = inr (fault_is (ba.Damaged area) new exact (fails.0.same told ∙ is))
+  unsettled_exact tells told from new is (ba.HardwareDiffers names) fails exact = inr (fault_is (ba.HardwareDiffers names) new exact (fails.0.same told ∙ is))
+  unsettled_exact tells told from new is ba.OutOfMemory fails exact = tt

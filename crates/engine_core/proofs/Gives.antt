@@ -13,6 +13,8 @@ use Rattle.checkpoint_cell.specs.Cell.{saved_net, cell_of}
 use Rattle.checkpoint_cell.specs.Steps.{Holds}
 use Rattle.checkpoint_cell.proofs.lemmas.Saved.{saved_is}
 use Rattle.engine_model.specs.Machine.{apply_fault}
+use Rattle.engine_model.specs.Failing.{Fails}
+use Rattle.engine_model.proofs.lemmas.Failing.{fails_rose}
 use Rattle.engine_core.specs.Attempts.{sealed, done, IsEither, IsFault, IsOnWay}
 use Rattle.engine_core.specs.Saying.{taken_back_as, pending_as, stopped_as}
 use Rattle.engine_core.specs.Applying.{GaveUp, Exit, Asked, Change, IsStation, IsApplied, AfterSettling, Unsettled, ExitApply}
@@ -40,22 +42,21 @@ taken_exit from faults (missed.Refused k n) new is ends = absurd is
 taken_exit from faults missed.Damaged new is ends = absurd is
 taken_exit from faults (missed.Differs found) new is ends = absurd is
 
-pending_exit : (from : NetData) (faults : ℕ) (fault : BackFault) (new : HostView) → IsHealthy fault → (fault ≡ back.NoCheckpoint → ⊥) → ((left : Left) → fault ≡ back.HostFault left → Rose faults new.faults) → GaveUp from faults (pending_as fault) new
-pending_exit from faults back.NoCheckpoint new healthy there rose = absurd (there refl)
-pending_exit from faults (back.HostFault left) new healthy there rose = rose left refl
-pending_exit from faults (back.KernelRefused k n left) new healthy there rose = absurd healthy
-pending_exit from faults (back.Damaged area) new healthy there rose = absurd healthy
-pending_exit from faults (back.HardwareDiffers names) new healthy there rose = absurd healthy
-pending_exit from faults back.OutOfMemory new healthy there rose = tt
+pending_exit : (tells : Type 0) (from : NetData) (old new : HostView) (fault : BackFault) → IsHealthy fault → Fails tells old new fault → GaveUp from old.faults (pending_as fault) new
+pending_exit tells from old new back.NoCheckpoint healthy fails = absurd fails
+pending_exit tells from old new (back.HostFault left) healthy fails = fails_rose tells old new left fails
+pending_exit tells from old new (back.KernelRefused k n left) healthy fails = absurd healthy
+pending_exit tells from old new (back.Damaged area) healthy fails = absurd healthy
+pending_exit tells from old new (back.HardwareDiffers names) healthy fails = absurd healthy
+pending_exit tells from old new back.OutOfMemory healthy fails = tt
 
 -- where its restoring fails
-pub stopped_exit : (from : NetData) (faults : ℕ) (why : Missed) (fault : BackFault) (new : HostView) → IsFault why → IsHealthy fault → (fault ≡ back.NoCheckpoint → ⊥)
-    → ((left : Left) → fault ≡ back.HostFault left → Rose faults new.faults) → GaveUp from faults (stopped_as why fault) new
-stopped_exit from faults missed.OutOfMemory fault new is healthy there rose = tt
-stopped_exit from faults missed.Failed fault new is healthy there rose = pending_exit from faults fault new healthy there rose
-stopped_exit from faults (missed.Refused k n) fault new is healthy there rose = absurd is
-stopped_exit from faults missed.Damaged fault new is healthy there rose = absurd is
-stopped_exit from faults (missed.Differs found) fault new is healthy there rose = absurd is
+pub stopped_exit : (tells : Type 0) (from : NetData) (old new : HostView) (why : Missed) (fault : BackFault) → IsFault why → IsHealthy fault → Fails tells old new fault → GaveUp from old.faults (stopped_as why fault) new
+stopped_exit tells from old new missed.OutOfMemory fault is healthy fails = tt
+stopped_exit tells from old new missed.Failed fault is healthy fails = pending_exit tells from old new fault healthy fails
+stopped_exit tells from old new (missed.Refused k n) fault is healthy fails = absurd is
+stopped_exit tells from old new missed.Damaged fault is healthy fails = absurd is
+stopped_exit tells from old new (missed.Differs found) fault is healthy fails = absurd is
 
 -- the network that was saved stands in its place
 pub sealed_net : (no_commit : Bool) (made deadline : ℕ) (from : NetData) (host : HostView) → Holds (sealed no_commit made deadline from) host → saved_net host.state.cell ≡ Some from
@@ -145,17 +146,16 @@ module _ (asked : Asked) (entry new : HostView) (during : Steps (Leads (IsSettle
   on_way : IsTaken asked.made (cell_of entry.state.cell) → FromRead (IsSettled asked.made entry.state) entry new → Unsettled asked entry new
   on_way taken going = record { taken = taken; during = during; going = going }
 
-  pub unsettled_exit : (why : BackFault) → IsHealthy why → (why ≡ back.NoCheckpoint → ⊥) → (IsBefore why → Steps Stays entry.stops new.stops)
-      → (why ≡ back.HostFault Pending → IsTaken asked.made (cell_of entry.state.cell)) → (why ≡ back.OutOfMemory → IsTaken asked.made (cell_of entry.state.cell))
+  pub unsettled_exit : (tells : Type 0) (why : BackFault) → IsHealthy why → Fails tells entry new why → (why ≡ back.HostFault Pending → IsTaken asked.made (cell_of entry.state.cell)) → (why ≡ back.OutOfMemory → IsTaken asked.made (cell_of entry.state.cell))
       → ((IsBefore why → ⊥) → FromRead (IsSettled asked.made entry.state) entry new) → ExitApply asked entry (Err (apply_fault why)) new
-  unsettled_exit back.NoCheckpoint healthy there before pending memory going = absurd (there refl)
-  unsettled_exit (back.HostFault NotBegun) healthy there before pending memory going = inl (before tt)
-  unsettled_exit (back.HostFault RolledBack) healthy there before pending memory going = absurd healthy
-  unsettled_exit (back.HostFault Pending) healthy there before pending memory going = inl (on_way (pending refl) (going (λ x. x)))
-  unsettled_exit (back.KernelRefused k n left) healthy there before pending memory going = absurd healthy
-  unsettled_exit (back.Damaged area) healthy there before pending memory going = absurd healthy
-  unsettled_exit (back.HardwareDiffers names) healthy there before pending memory going = absurd healthy
-  unsettled_exit back.OutOfMemory healthy there before pending memory going = inl (on_way (memory refl) (going (λ x. x)))
+  unsettled_exit tells back.NoCheckpoint healthy fails pending memory going = absurd fails
+  unsettled_exit tells (back.HostFault NotBegun) healthy fails pending memory going = inl fails.1.stops
+  unsettled_exit tells (back.HostFault RolledBack) healthy fails pending memory going = absurd healthy
+  unsettled_exit tells (back.HostFault Pending) healthy fails pending memory going = inl (on_way (pending refl) (going (λ x. x)))
+  unsettled_exit tells (back.KernelRefused k n left) healthy fails pending memory going = absurd healthy
+  unsettled_exit tells (back.Damaged area) healthy fails pending memory going = absurd healthy
+  unsettled_exit tells (back.HardwareDiffers names) healthy fails pending memory going = absurd healthy
+  unsettled_exit tells back.OutOfMemory healthy fails pending memory going = inl (on_way (memory refl) (going (λ x. x)))
 
 pub change_exit : (asked given : Asked) (before stood : Standing) (old mid : ℕ) (result : Result Applied ApplyFault) (new : HostView) → given ≡ asked → before ≡ stood → old ≤ mid → Exit given stood mid result new → Exit asked before old result new
 change_exit asked given before stood old mid result new same is le exit =

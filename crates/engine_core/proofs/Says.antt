@@ -1,6 +1,6 @@
 -- What the answers of an apply say on every host, carried through its parts.
-use Rattle.std.proofs.Common.{◌≡◌, ◌≢◌, ◌⊎◌, ◌≤◌, inl, inr, arith, ℕ, Bool, refl, sym, ap, ◌∙◌, subst, true, false, Option, Some, None, Result, Ok, Err, List}
-use Rattle.std.specs.Prelude.{⊤, OnOk, OnErr, IfErr, IsSome}
+use Rattle.std.proofs.Common.{◌≡◌, ◌≢◌, ◌⊎◌, ◌≤◌, inl, inr, arith, ℕ, Bool, refl, sym, ap, ◌∙◌, subst, true, false, Option, Some, None, Result, Ok, Err}
+use Rattle.std.specs.Prelude.{OnOk, OnErr, IfErr, IsSome}
 use Rattle.net_model.specs.NetData.{NetData}
 use Rattle.document_model.specs.declared.Doc.{Doc}
 use Rattle.document_model.specs.declared.Refused.{Refused}
@@ -13,9 +13,9 @@ use Rattle.checkpoint_cell.specs.declared.Phase.{Phase}
 use Rattle.merge_model.specs.MergedNet.{merge}
 use Rattle.engine_model.specs.Machine.{Asked, asked, apply, apply_step, apply_fault, Outcome, stays}
 use Rattle.engine_model.specs.Stations.{Any, Waits}
-use Rattle.engine_model.specs.Answers.{IsBefore}
-use Rattle.engine_model.specs.Refusals.{NoCallMade, BackCounts}
-use Rattle.engine_model.specs.Faults.{IsDamaged, Differs, ApplySays, GaveSaved, GaveBack, StandsDamaged}
+use Rattle.engine_model.specs.Refusals.{NoCallMade}
+use Rattle.engine_model.specs.Failing.{Fails}
+use Rattle.engine_model.specs.Faults.{IsDamaged, ApplySays, GaveSaved, GaveBack, StandsDamaged}
 use Rattle.engine_model.specs.declared.answers.Left.{Left}
 use Rattle.engine_model.specs.declared.answers.Left.TheVariants.{NotBegun, RolledBack, Pending}
 use Rattle.engine_model.specs.declared.answers.Applied.{Applied}
@@ -26,6 +26,7 @@ use Rattle.engine_model.specs.declared.answers.ApplyFault.{ApplyFault}
 use Rattle.engine_model.specs.declared.answers.ApplyFault.TheVariants as ap_
 use Rattle.engine_model.proofs.lemmas.Backs.{recover_waits}
 use Rattle.engine_model.proofs.lemmas.Refusals.{quiet_on, settled_on}
+use Rattle.engine_model.proofs.lemmas.Failing.{fails_rose}
 use Rattle.engine_core.specs.declared.missed.Missed.{Missed}
 use Rattle.engine_core.specs.declared.missed.Missed.TheVariants as missed
 use Rattle.engine_core.specs.Saying.{Start, start_of, Follows, DamagedSince, IsSet, Why, SettledBy, Said, taken_back_as, pending_as, damaged_as, stopped_as}
@@ -151,18 +152,18 @@ module _ (tells : Type 0) (doc : Doc) (opts : ApplyOpts) (made : ℕ) (start : S
   taken_says missed.OutOfMemory is compared later steps none saved back settled = tt
 
   module _ (lawful : IsLawful old.stops) (reads : tells → old.stops.may_leave old.state) where
-    pending_says : (fault : BackFault) → (fault ≡ ba.NoCheckpoint → ⊥) → ((left : Left) → fault ≡ ba.HostFault left → Rose old.faults new.faults) → (IsBefore fault → Steps Stays old.stops new.stops)
-        → (IsBefore fault → tells → new.state ≡ old.state) → (tells → cell_of old.state.cell ≡ None → fault ≡ ba.HostFault NotBegun) → (tells → (area : ℕ) → fault ≡ ba.Damaged area → IsDamaged area old.state)
-        → (tells → (names : List (List ℕ)) → fault ≡ ba.HardwareDiffers names → Differs names new) → Said tells (asked doc opts made) start new (Err (pending_as fault))
-    pending_says ba.NoCheckpoint set rose before same unset damaged differs = absurd (set refl)
-    pending_says (ba.HostFault left) set rose before same unset damaged differs = (rose_after start.faults old.faults new.faults faults (rose left refl), tt, λ is. let e : Pending ≡ RolledBack = is in absurd (cc))
-    pending_says (ba.KernelRefused k n left) set rose before same unset damaged differs = (tt, (λ is. cc), λ is. let e : Pending ≡ RolledBack = is in absurd (cc))
-    pending_says (ba.Damaged area) set rose before same unset damaged differs = λ told.
+    pending_says : (fault : BackFault) → Fails tells old new fault → (tells → cell_of old.state.cell ≡ None → fault ≡ ba.HostFault NotBegun) → Said tells (asked doc opts made) start new (Err (pending_as fault))
+    pending_says ba.NoCheckpoint fails unset = absurd fails
+    pending_says (ba.HostFault left) fails unset = (rose_after start.faults old.faults new.faults faults (fails_rose tells old new left fails), tt, λ is. let e : Pending ≡ RolledBack = is in absurd (cc))
+    pending_says (ba.KernelRefused k n left) fails unset = (tt, (λ is. cc), λ is. let e : Pending ≡ RolledBack = is in absurd (cc))
+    pending_says (ba.Damaged area) fails unset = λ told.
         let there : IsSet old = unless_none (cell_of old.state.cell) (λ none. let e : ba.Damaged area ≡ ba.HostFault NotBegun = unset told none in cc) in
-        let had = damaged told area refl in
-        (since_keeps Stays start.moment area old new moment (before tt) (since start.moment area old lawful (reads told) moment had), still_damaged tells area made start old new (same tt told) there had)
-    pending_says (ba.HardwareDiffers names) set rose before same unset damaged differs = λ told. differs told names refl
-    pending_says ba.OutOfMemory set rose before same unset damaged differs = tt
+        let had = fails.1 told in (
+          since_keeps Stays start.moment area old new moment fails.0.stops (since start.moment area old lawful (reads told) moment had),
+          still_damaged tells area made start old new (fails.0.same told) there had,
+        )
+    pending_says (ba.HardwareDiffers names) fails unset = fails.1
+    pending_says ba.OutOfMemory fails unset = tt
 
     bare_says : Steps Any old.stops new.stops → tells → DamagedSince start.moment 0 old × (old.state.net ≡ None) × IsSet old → DamagedSince start.moment 0 new × StandsDamaged tells 0 made start.state start.kernel new
     bare_says steps told had = (since_keeps Any start.moment 0 old new moment steps had.0, still_damaged tells 0 made start old new (bare told had.1) had.2 (inl (refl, had.1)))
@@ -176,15 +177,13 @@ module _ (tells : Type 0) (doc : Doc) (opts : ApplyOpts) (made : ℕ) (start : S
     damaged_says ba.OutOfMemory steps had = tt
 
     -- it wasn't
-    pub stopped_says : (why : Missed) (fault : BackFault) → Why tells doc start old why → Steps Any old.stops new.stops → (fault ≡ ba.NoCheckpoint → ⊥) → ((left : Left) → fault ≡ ba.HostFault left → Rose old.faults new.faults)
-        → (IsBefore fault → Steps Stays old.stops new.stops) → (IsBefore fault → tells → new.state ≡ old.state) → (tells → cell_of old.state.cell ≡ None → fault ≡ ba.HostFault NotBegun)
-        → (tells → (area : ℕ) → fault ≡ ba.Damaged area → IsDamaged area old.state) → (tells → (names : List (List ℕ)) → fault ≡ ba.HardwareDiffers names → Differs names new)
+    pub stopped_says : (why : Missed) (fault : BackFault) → Why tells doc start old why → Steps Any old.stops new.stops → Fails tells old new fault → (tells → cell_of old.state.cell ≡ None → fault ≡ ba.HostFault NotBegun)
         → Said tells (asked doc opts made) start new (Err (stopped_as why fault))
-    stopped_says missed.Failed fault is steps set rose before same unset damaged differs = pending_says fault set rose before same unset damaged differs
-    stopped_says (missed.Refused k n) fault is steps set rose before same unset damaged differs = pending_says fault set rose before same unset damaged differs
-    stopped_says missed.Damaged fault is steps set rose before same unset damaged differs = damaged_says fault steps is.1
-    stopped_says (missed.Differs found) fault is steps set rose before same unset damaged differs = pending_says fault set rose before same unset damaged differs
-    stopped_says missed.OutOfMemory fault is steps set rose before same unset damaged differs = tt
+    stopped_says missed.Failed fault is steps fails unset = pending_says fault fails unset
+    stopped_says (missed.Refused k n) fault is steps fails unset = pending_says fault fails unset
+    stopped_says missed.Damaged fault is steps fails unset = damaged_says fault steps is.1
+    stopped_says (missed.Differs found) fault is steps fails unset = pending_says fault fails unset
+    stopped_says missed.OutOfMemory fault is steps fails unset = tt
 
 -- none of it says that nothing was begun
 pub begun_taken : (why : Missed) → taken_back_as why ≡ ap_.HostFault NotBegun → ⊥
@@ -279,24 +278,21 @@ module _ (tells : Type 0) (a : Asked) (old new : HostView) where
       }
 
   -- the settling failed
-  pub unsettled_says : IsLawful old.stops → (tells → old.stops.may_leave old.state) → (fault : BackFault) → (fault ≡ ba.NoCheckpoint → ⊥) → ((left : Left) → fault ≡ ba.HostFault left → Rose old.faults new.faults)
-      → ((left : Left) → fault ≡ ba.HostFault left → left ≢ RolledBack) → (IsBefore fault → tells → new.state ≡ old.state) → BackCounts {A = ⊤} old.kernel new.kernel (Err fault) → ((k n : ℕ) (left : Left) → fault ≡ ba.KernelRefused k n left → left ≡ Pending)
-      → (IsBefore fault → Steps Stays old.stops new.stops) → (tells → (area : ℕ) → fault ≡ ba.Damaged area → IsDamaged area old.state) → (tells → (names : List (List ℕ)) → fault ≡ ba.HardwareDiffers names → Differs names new)
-      → ApplySays tells a old new (Err (apply_fault fault))
-  unsettled_says lawful reads ba.NoCheckpoint set rose side same counts given_up before damaged differs = absurd (set refl)
-  unsettled_says lawful reads (ba.HostFault NotBegun) set rose side same counts given_up before damaged differs = (rose NotBegun refl, (λ told. same tt told), λ is. let e : NotBegun ≡ RolledBack = is in absurd (cc))
-  unsettled_says lawful reads (ba.HostFault RolledBack) set rose side same counts given_up before damaged differs = absurd (side RolledBack refl refl)
-  unsettled_says lawful reads (ba.HostFault Pending) set rose side same counts given_up before damaged differs = (rose Pending refl, tt, λ is. let e : Pending ≡ RolledBack = is in absurd (cc))
-  unsettled_says lawful reads (ba.KernelRefused k n NotBegun) set rose side same counts given_up before damaged differs = let e : NotBegun ≡ Pending = given_up k n NotBegun refl in absurd (cc)
-  unsettled_says lawful reads (ba.KernelRefused k n RolledBack) set rose side same counts given_up before damaged differs = let e : RolledBack ≡ Pending = given_up k n RolledBack refl in absurd (cc)
-  unsettled_says lawful reads (ba.KernelRefused k n Pending) set rose side same counts given_up before damaged differs = (tt, (λ is. cc), λ is. let e : Pending ≡ RolledBack = is in absurd (cc))
-  unsettled_says lawful reads (ba.Damaged area) set rose side same counts given_up before damaged differs = λ told.
-      let had = since_keeps Stays old.stops.moment area old new (omega arith) (before tt) (since old.stops.moment area old lawful (reads told) (omega arith) (damaged told area refl)) in (
+  pub unsettled_says : IsLawful old.stops → (tells → old.stops.may_leave old.state) → (fault : BackFault) → Fails tells old new fault → ApplySays tells a old new (Err (apply_fault fault))
+  unsettled_says lawful reads ba.NoCheckpoint fails = absurd fails
+  unsettled_says lawful reads (ba.HostFault NotBegun) fails = (fails.0, fails.1.same, λ is. let e : NotBegun ≡ RolledBack = is in absurd (cc))
+  unsettled_says lawful reads (ba.HostFault RolledBack) fails = absurd fails
+  unsettled_says lawful reads (ba.HostFault Pending) fails = (fails.0, tt, λ is. let e : Pending ≡ RolledBack = is in absurd (cc))
+  unsettled_says lawful reads (ba.KernelRefused k n NotBegun) fails = let e : NotBegun ≡ Pending = fails.0 in absurd (cc)
+  unsettled_says lawful reads (ba.KernelRefused k n RolledBack) fails = let e : RolledBack ≡ Pending = fails.0 in absurd (cc)
+  unsettled_says lawful reads (ba.KernelRefused k n Pending) fails = (tt, (λ is. cc), λ is. let e : Pending ≡ RolledBack = is in absurd (cc))
+  unsettled_says lawful reads (ba.Damaged area) fails = λ told.
+      let had = since_keeps Stays old.stops.moment area old new (omega arith) fails.0.stops (since old.stops.moment area old lawful (reads told) (omega arith) (fails.1 told)) in (
         record { pair = had.pair; left = had.left; damaged = had.damaged },
-        record { damaged = subst (λ (s : State). IsDamaged area s) (sym (same tt told)) (damaged told area refl); held = inl (inr counts) },
+        record { damaged = subst (λ (s : State). IsDamaged area s) (sym (fails.0.same told)) (fails.1 told); held = inl (inr fails.0.unmade) },
       )
-  unsettled_says lawful reads (ba.HardwareDiffers names) set rose side same counts given_up before damaged differs = λ told. differs told names refl
-  unsettled_says lawful reads ba.OutOfMemory set rose side same counts given_up before damaged differs = tt
+  unsettled_says lawful reads (ba.HardwareDiffers names) fails = fails.1
+  unsettled_says lawful reads ba.OutOfMemory fails = tt
 
   -- what it says of a fault
   pub said_left : (result : Result Applied ApplyFault) (left : Left) → result ≡ Err (ap_.HostFault left) → ApplySays tells a old new result → ApplySays tells a old new (Err (ap_.HostFault left))
@@ -321,20 +317,33 @@ failed_as fault = Err fault
 same_fault : (a b : ApplyFault) → failed_as a ≡ failed_as b → a ≡ b
 same_fault a b is = cc
 
-module _ (t area : ℕ) (old new : HostView) (lawful : IsLawful old.stops) (here : old.stops.may_leave old.state) (le : t ≤ old.stops.moment) where
-  settling_damaged : (fault : BackFault) → apply_fault fault ≡ ap_.Damaged area → (fault ≡ ba.NoCheckpoint → ⊥) → (IsBefore fault → Steps Stays old.stops new.stops) → ((area : ℕ) → fault ≡ ba.Damaged area → IsDamaged area old.state)
-      → DamagedSince t area new
-  settling_damaged ba.NoCheckpoint is set before damaged = absurd (set refl)
-  settling_damaged (ba.HostFault left) is set before damaged = let e : ap_.HostFault left ≡ ap_.Damaged area = is in absurd (cc)
-  settling_damaged (ba.KernelRefused k n left) is set before damaged = let e : ap_.KernelRefused k n left ≡ ap_.Damaged area = is in absurd (cc)
-  settling_damaged (ba.Damaged found) is set before damaged =
+module _ (tells : Type 0) (told : tells) (t area : ℕ) (old new : HostView) (lawful : IsLawful old.stops) (here : old.stops.may_leave old.state) (le : t ≤ old.stops.moment) where
+  settling_damaged : (fault : BackFault) → apply_fault fault ≡ ap_.Damaged area → Fails tells old new fault → DamagedSince t area new
+  settling_damaged ba.NoCheckpoint is fails = absurd fails
+  settling_damaged (ba.HostFault left) is fails = let e : ap_.HostFault left ≡ ap_.Damaged area = is in absurd (cc)
+  settling_damaged (ba.KernelRefused k n left) is fails = let e : ap_.KernelRefused k n left ≡ ap_.Damaged area = is in absurd (cc)
+  settling_damaged (ba.Damaged found) is fails =
       let e : ap_.Damaged found ≡ ap_.Damaged area = is in
       let same : found ≡ area = cc in
-      since_keeps Stays t area old new le (before tt) (since t area old lawful here le (damaged area (ap (λ (n : ℕ). ba.Damaged n) same)))
-  settling_damaged (ba.HardwareDiffers names) is set before damaged = let e : ap_.HardwareDiffers names ≡ ap_.Damaged area = is in absurd (cc)
-  settling_damaged ba.OutOfMemory is set before damaged = let e : ap_.OutOfMemory ≡ ap_.Damaged area = is in absurd (cc)
+      since_keeps Stays t area old new le fails.0.stops (since t area old lawful here le (subst (λ (n : ℕ). IsDamaged n old.state) same (fails.1 told)))
+  settling_damaged (ba.HardwareDiffers names) is fails = let e : ap_.HardwareDiffers names ≡ ap_.Damaged area = is in absurd (cc)
+  settling_damaged ba.OutOfMemory is fails = let e : ap_.OutOfMemory ≡ ap_.Damaged area = is in absurd (cc)
 
   -- what the settling found damaged was left since that moment
-  pub unsettled_damaged : (answer : ApplyFault) (fault : BackFault) → answer ≡ apply_fault fault → failed_as answer ≡ failed_as (ap_.Damaged area) → (fault ≡ ba.NoCheckpoint → ⊥) → (IsBefore fault → Steps Stays old.stops new.stops)
-      → ((area : ℕ) → fault ≡ ba.Damaged area → IsDamaged area old.state) → DamagedSince t area new
-  unsettled_damaged answer fault told is = settling_damaged fault (sym told ∙ same_fault answer (ap_.Damaged area) is)
+  pub unsettled_damaged : (answer : ApplyFault) (fault : BackFault) → answer ≡ apply_fault fault → failed_as answer ≡ failed_as (ap_.Damaged area) → Fails tells old new fault → DamagedSince t area new
+  unsettled_damaged answer fault as_is is = settling_damaged fault (sym as_is ∙ same_fault answer (ap_.Damaged area) is)
+
+-- the settling began nothing where it says so
+settling_unbegun : (tells : Type 0) (old new : HostView) (fault : BackFault) → apply_fault fault ≡ ap_.HostFault NotBegun → Fails tells old new fault → Steps Stays old.stops new.stops
+settling_unbegun tells old new ba.NoCheckpoint is fails = absurd fails
+settling_unbegun tells old new (ba.HostFault left) is fails =
+    let e : ap_.HostFault left ≡ ap_.HostFault NotBegun = is in
+    let same : left ≡ NotBegun = cc in
+    (subst (λ (l : Left). Fails tells old new (ba.HostFault l)) same fails).1.stops
+settling_unbegun tells old new (ba.KernelRefused k n left) is fails = let e : ap_.KernelRefused k n left ≡ ap_.HostFault NotBegun = is in absurd (cc)
+settling_unbegun tells old new (ba.Damaged area) is fails = let e : ap_.Damaged area ≡ ap_.HostFault NotBegun = is in absurd (cc)
+settling_unbegun tells old new (ba.HardwareDiffers names) is fails = let e : ap_.HardwareDiffers names ≡ ap_.HostFault NotBegun = is in absurd (cc)
+settling_unbegun tells old new ba.OutOfMemory is fails = let e : ap_.OutOfMemory ≡ ap_.HostFault NotBegun = is in absurd (cc)
+
+pub unsettled_unbegun : (tells : Type 0) (old new : HostView) (answer : ApplyFault) (fault : BackFault) → answer ≡ apply_fault fault → failed_as answer ≡ failed_as (ap_.HostFault NotBegun) → Fails tells old new fault → Steps Stays old.stops new.stops
+unsettled_unbegun tells old new answer fault as_is is = settling_unbegun tells old new fault (sym as_is ∙ same_fault answer (ap_.HostFault NotBegun) is)

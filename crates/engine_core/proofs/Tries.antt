@@ -1,17 +1,17 @@
 -- What an apply tried before it says that a change may stand half way, what it dumped, and what it took back.
 use Rattle.std.proofs.Common.{◌≡◌, ◌≢◌, ◌⊎◌, ◌≤◌, ◌∙◌, inl, inr, arith, ℕ, Bool, true, false, refl, sym, ap, subst, Option, Some, None, Result, Ok, Err}
-use Rattle.std.specs.Prelude.{⊤, OnOk, OnErr, IfErr}
+use Rattle.std.specs.Prelude.{OnOk, OnErr, IfErr}
 use Rattle.net_model.specs.NetData.{NetData}
 use Rattle.document_model.specs.declared.Doc.{Doc}
 use Rattle.host_core.specs.Faults.{Rose, RoseTwice}
-use Rattle.host_core.specs.HostView.{State, Kernel, HostView, WasRefused, NoneRefused}
+use Rattle.host_core.specs.HostView.{State, HostView}
 use Rattle.checkpoint_cell.specs.Cell.{Checkpoint, cell_of, saved_net, in_phase}
 use Rattle.checkpoint_cell.specs.Steps.{EitherPhase}
 use Rattle.checkpoint_cell.specs.declared.Phase.TheVariants.{Applying, Waiting}
 use Rattle.checkpoint_cell.specs.Settled.{Standing, standing, restored_to}
-use Rattle.engine_model.specs.Refusals.{BackCounts}
+use Rattle.engine_model.specs.Failing.{Fails}
 use Rattle.engine_model.specs.Faults.{Tries, FailsTwice, Dumps, Backs}
-use Rattle.engine_model.proofs.lemmas.Refusals.{unmade_quiet}
+use Rattle.engine_model.proofs.lemmas.Failing.{fails_rose, fails_quiet}
 use Rattle.engine_model.specs.declared.answers.Left.{Left}
 use Rattle.engine_model.specs.declared.answers.Left.TheVariants.{NotBegun, RolledBack, Pending}
 use Rattle.engine_model.specs.declared.answers.Applied.{Applied}
@@ -31,11 +31,6 @@ twice a b c one two = omega arith
 once_more : (a b c : ℕ) → Rose a b → b ≤ c → Rose a c
 once_more a b c rose le = omega arith
 
-host_quiet : (a b : Kernel) (left : Left) → BackCounts {A = ⊤} a b (Err (ba.HostFault left)) → NoneRefused a b
-host_quiet a b NotBegun counts = unmade_quiet a b counts
-host_quiet a b RolledBack counts = counts
-host_quiet a b Pending counts = counts
-
 -- ---- what was tried
 
 -- the change was taken back
@@ -47,30 +42,24 @@ taken_tries excuse faults refusals new (missed.Differs found) = tt
 taken_tries excuse faults refusals new missed.OutOfMemory = tt
 
 module _ (tells : Type 0) (doc : Doc) (start : Start) (old new : HostView) (later : old.faults ≤ new.faults) where
-  module _ (excuse : Type 0) (fault : BackFault) (rose : (left : Left) → fault ≡ ba.HostFault left → Rose old.faults new.faults) (counts : BackCounts {A = ⊤} old.kernel new.kernel (Err fault)) where
-    unrefused : (left : Left) → fault ≡ ba.HostFault left → NoneRefused old.kernel new.kernel
-    unrefused left is = host_quiet old.kernel new.kernel left (subst (λ (f : BackFault). BackCounts {A = ⊤} old.kernel new.kernel (Err f)) is counts)
-
-    refused : (k n : ℕ) (left : Left) → fault ≡ ba.KernelRefused k n left → WasRefused k n old.kernel new.kernel
-    refused k n left is = (subst (λ (f : BackFault). BackCounts {A = ⊤} old.kernel new.kernel (Err f)) is counts).0
-
+  module _ (excuse : Type 0) where
     -- the host failed, and then the restoring didn't come to its end
-    failed_tries : (f : BackFault) → fault ≡ f → Rose start.faults old.faults → Tries excuse start.faults start.kernel.refusals new (Err (pending_as f))
-    failed_tries ba.NoCheckpoint is was = tt
-    failed_tries (ba.HostFault left) is was = inr (inl (twice start.faults old.faults new.faults was (rose left is)))
-    failed_tries (ba.KernelRefused k n left) is was = inr (inr (once_more start.faults old.faults new.faults was later))
-    failed_tries (ba.Damaged area) is was = tt
-    failed_tries (ba.HardwareDiffers names) is was = tt
-    failed_tries ba.OutOfMemory is was = tt
+    failed_tries : (fault : BackFault) → Fails tells old new fault → Rose start.faults old.faults → Tries excuse start.faults start.kernel.refusals new (Err (pending_as fault))
+    failed_tries ba.NoCheckpoint fails was = tt
+    failed_tries (ba.HostFault left) fails was = inr (inl (twice start.faults old.faults new.faults was (fails_rose tells old new left fails)))
+    failed_tries (ba.KernelRefused k n left) fails was = inr (inr (once_more start.faults old.faults new.faults was later))
+    failed_tries (ba.Damaged area) fails was = tt
+    failed_tries (ba.HardwareDiffers names) fails was = tt
+    failed_tries ba.OutOfMemory fails was = tt
 
     -- a call was refused, and then it didn't
-    refused_tries : (f : BackFault) → fault ≡ f → Rose start.kernel.refusals old.kernel.refusals → Tries excuse start.faults start.kernel.refusals new (Err (pending_as f))
-    refused_tries ba.NoCheckpoint is was = tt
-    refused_tries (ba.HostFault left) is was = inr (inr (subst (λ (r : ℕ). Rose start.kernel.refusals r) (sym (unrefused left is).refusals) was))
-    refused_tries (ba.KernelRefused k n left) is was = inr (inl (twice start.kernel.refusals old.kernel.refusals new.kernel.refusals was (refused k n left is).rose))
-    refused_tries (ba.Damaged area) is was = tt
-    refused_tries (ba.HardwareDiffers names) is was = tt
-    refused_tries ba.OutOfMemory is was = tt
+    refused_tries : (fault : BackFault) → Fails tells old new fault → Rose start.kernel.refusals old.kernel.refusals → Tries excuse start.faults start.kernel.refusals new (Err (pending_as fault))
+    refused_tries ba.NoCheckpoint fails was = tt
+    refused_tries (ba.HostFault left) fails was = inr (inr (subst (λ (r : ℕ). Rose start.kernel.refusals r) (sym (fails_quiet tells old new left fails).refusals) was))
+    refused_tries (ba.KernelRefused k n left) fails was = inr (inl (twice start.kernel.refusals old.kernel.refusals new.kernel.refusals was fails.1.rose))
+    refused_tries (ba.Damaged area) fails was = tt
+    refused_tries (ba.HardwareDiffers names) fails was = tt
+    refused_tries ba.OutOfMemory fails was = tt
 
     -- the network that was made was compared
     differs_tries : (f : BackFault) → excuse → Tries excuse start.faults start.kernel.refusals new (Err (pending_as f))
@@ -90,12 +79,12 @@ module _ (tells : Type 0) (doc : Doc) (start : Start) (old new : HostView) (late
     damaged_tries ba.OutOfMemory = tt
 
     -- the restoring didn't come to its end
-    pub stopped_tries : (why : Missed) → Why tells doc start old why → ((found : NetData) → why ≡ missed.Differs found → excuse) → Tries excuse start.faults start.kernel.refusals new (Err (stopped_as why fault))
-    stopped_tries missed.Failed is compared = failed_tries fault refl is.1
-    stopped_tries (missed.Refused k n) is compared = refused_tries fault refl is.0.rose
-    stopped_tries missed.Damaged is compared = damaged_tries fault
-    stopped_tries (missed.Differs found) is compared = differs_tries fault (compared found refl)
-    stopped_tries missed.OutOfMemory is compared = tt
+    pub stopped_tries : (why : Missed) (fault : BackFault) → Why tells doc start old why → Fails tells old new fault → ((found : NetData) → why ≡ missed.Differs found → excuse) → Tries excuse start.faults start.kernel.refusals new (Err (stopped_as why fault))
+    stopped_tries missed.Failed fault is fails compared = failed_tries fault fails is.1
+    stopped_tries (missed.Refused k n) fault is fails compared = refused_tries fault fails is.0.rose
+    stopped_tries missed.Damaged fault is fails compared = damaged_tries fault
+    stopped_tries (missed.Differs found) fault is fails compared = differs_tries fault (compared found refl)
+    stopped_tries missed.OutOfMemory fault is fails compared = tt
 
 -- where the attempt succeeded, only the clearing may fail
 pub finished_tries : (excuse : Type 0) (faults refusals : ℕ) (new : HostView) (result : Result Applied ApplyFault) → IfErr result (λ fault. fault ≡ ap_.InDoubt) → Tries excuse faults refusals new result
@@ -151,22 +140,21 @@ taken_twice taken faults new missed.Damaged = tt
 taken_twice taken faults new (missed.Differs found) = tt
 taken_twice taken faults new missed.OutOfMemory = tt
 
-pending_twice : (taken : Type 0) (start old : ℕ) (new : HostView) (fault : BackFault) → Rose start old → ((left : Left) → fault ≡ ba.HostFault left → Rose old new.faults) → FailsTwice taken start new (Err (pending_as fault))
-pending_twice taken start old new ba.NoCheckpoint was rose = tt
-pending_twice taken start old new (ba.HostFault left) was rose = inr (twice start old new.faults was (rose left refl))
-pending_twice taken start old new (ba.KernelRefused k n left) was rose = tt
-pending_twice taken start old new (ba.Damaged area) was rose = tt
-pending_twice taken start old new (ba.HardwareDiffers names) was rose = tt
-pending_twice taken start old new ba.OutOfMemory was rose = tt
+pending_twice : (taken tells : Type 0) (start : ℕ) (old new : HostView) (fault : BackFault) → Rose start old.faults → Fails tells old new fault → FailsTwice taken start new (Err (pending_as fault))
+pending_twice taken tells start old new ba.NoCheckpoint was fails = tt
+pending_twice taken tells start old new (ba.HostFault left) was fails = inr (twice start old.faults new.faults was (fails_rose tells old new left fails))
+pending_twice taken tells start old new (ba.KernelRefused k n left) was fails = tt
+pending_twice taken tells start old new (ba.Damaged area) was fails = tt
+pending_twice taken tells start old new (ba.HardwareDiffers names) was fails = tt
+pending_twice taken tells start old new ba.OutOfMemory was fails = tt
 
 -- the restoring didn't come to its end
-pub stopped_twice : (taken : Type 0) (start old : ℕ) (new : HostView) (why : Missed) (fault : BackFault) → IsFault why → (why ≡ missed.Failed → Rose start old) → ((left : Left) → fault ≡ ba.HostFault left → Rose old new.faults)
-    → FailsTwice taken start new (Err (stopped_as why fault))
-stopped_twice taken start old new missed.Failed fault is was rose = pending_twice taken start old new fault (was refl) rose
-stopped_twice taken start old new missed.OutOfMemory fault is was rose = tt
-stopped_twice taken start old new (missed.Refused k n) fault is was rose = absurd is
-stopped_twice taken start old new missed.Damaged fault is was rose = absurd is
-stopped_twice taken start old new (missed.Differs found) fault is was rose = absurd is
+pub stopped_twice : (taken tells : Type 0) (start : ℕ) (old new : HostView) (why : Missed) (fault : BackFault) → IsFault why → (why ≡ missed.Failed → Rose start old.faults) → Fails tells old new fault → FailsTwice taken start new (Err (stopped_as why fault))
+stopped_twice taken tells start old new missed.Failed fault is was fails = pending_twice taken tells start old new fault (was refl) fails
+stopped_twice taken tells start old new missed.OutOfMemory fault is was fails = tt
+stopped_twice taken tells start old new (missed.Refused k n) fault is was fails = absurd is
+stopped_twice taken tells start old new missed.Damaged fault is was fails = absurd is
+stopped_twice taken tells start old new (missed.Differs found) fault is was fails = absurd is
 
 -- where the attempt succeeded, only the clearing may fail
 pub finished_twice : (taken : Type 0) (faults : ℕ) (new : HostView) (result : Result Applied ApplyFault) → IfErr result (λ fault. fault ≡ ap_.InDoubt) → FailsTwice taken faults new result
@@ -293,12 +281,12 @@ left_backs before new NotBegun is = tt
 left_backs before new RolledBack is = inr is
 left_backs before new Pending is = tt
 
-pub unsettled_backs : (before : Option NetData) (new : HostView) (fault : BackFault) → ((left : Left) → fault ≡ ba.HostFault left → left ≢ RolledBack) → Backs before new (Err (apply_fault fault))
-unsettled_backs before new ba.NoCheckpoint side = tt
-unsettled_backs before new (ba.HostFault NotBegun) side = tt
-unsettled_backs before new (ba.HostFault RolledBack) side = absurd (side RolledBack refl refl)
-unsettled_backs before new (ba.HostFault Pending) side = tt
-unsettled_backs before new (ba.KernelRefused k n left) side = tt
-unsettled_backs before new (ba.Damaged area) side = tt
-unsettled_backs before new (ba.HardwareDiffers names) side = tt
-unsettled_backs before new ba.OutOfMemory side = tt
+pub unsettled_backs : (tells : Type 0) (before : Option NetData) (old new : HostView) (fault : BackFault) → Fails tells old new fault → Backs before new (Err (apply_fault fault))
+unsettled_backs tells before old new ba.NoCheckpoint fails = tt
+unsettled_backs tells before old new (ba.HostFault NotBegun) fails = tt
+unsettled_backs tells before old new (ba.HostFault RolledBack) fails = absurd fails
+unsettled_backs tells before old new (ba.HostFault Pending) fails = tt
+unsettled_backs tells before old new (ba.KernelRefused k n left) fails = tt
+unsettled_backs tells before old new (ba.Damaged area) fails = tt
+unsettled_backs tells before old new (ba.HardwareDiffers names) fails = tt
+unsettled_backs tells before old new ba.OutOfMemory fails = tt

@@ -5,5 +5,6 @@ pub mod Restores
 pub mod Settles
 pub mod Machines
 pub mod Refusals
+pub mod Failing
 pub mod Backs
 pub mod Finding

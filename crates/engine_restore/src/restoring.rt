@@ -3,7 +3,7 @@ ghost use Rattle.net_model.specs.NetData.{NetData, IsNet};
 ghost use Rattle.kernel_model.specs.Runs.{Runs};
 ghost use Rattle.host_core.specs.Faults.{Rose, HasCause, HasFault};
 ghost use Rattle.host_core.specs.Stops.{Steps, Stays};
-ghost use Rattle.host_core.specs.HostView.{State, HasNet, SameKernel};
+ghost use Rattle.host_core.specs.HostView.{State, HasNet, SameKernel, NoneRefused};
 ghost use Rattle.checkpoint_cell.specs.Cell.{Checkpoint, cell_of, saved_net, is_due, applying, in_phase};
 ghost use Rattle.checkpoint_cell.specs.Steps.{Holds};
 ghost use Rattle.checkpoint_cell.specs.Loaded.{IsBad};
@@ -14,8 +14,9 @@ ghost use Rattle.engine_model.specs.Sound.{Sound};
 ghost use Rattle.engine_model.specs.Stations.{Only, Kept, Ends, IsSettled, Waits, FromRead, Any};
 ghost use Rattle.checkpoint_cell.specs.Settled.{restored_to};
 ghost use Rattle.engine_model.specs.Answers.{IsBefore, IsHealthy, IsClear, IsTaken, IsUndone, Finds};
-ghost use Rattle.engine_model.specs.Refusals.{NoCallMade, BackCounts};
-ghost use Rattle.engine_model.specs.Faults.{IsDamaged, Differs, GaveSaved};
+ghost use Rattle.engine_model.specs.Failing.{Fails};
+ghost use Rattle.engine_model.specs.Refusals.{NoCallMade};
+ghost use Rattle.engine_model.specs.Faults.{GaveSaved};
 ghost use Rattle.engine_restore.specs.Given.{IsGiven};
 
 use crate::devices::differing;
@@ -41,16 +42,10 @@ fn ready<H: Host>(host: &mut H, alloc: Global) -> Result<Vec<Call>, BackFault>
     ensures calls { OnOk result ((H.told host.new).kernel.calls ≡ 0) }
     ensures found { H.tells → OnOk result (IsSome (H.told host.old).state.net) }
     ensures gives { H.tells → IfOk result (λ calls. IsGiven calls.items (H.told host.new)) }
-    ensures refused { (k n : ℕ) (left : Left) → IsErrOf result (BackFault.KernelRefused k n left) → ⊥ }
+    ensures fails { IfErr result (λ fault. Fails H.tells (H.told host.old) (H.told host.new) fault) }
     ensures healthy { H.honest → Sound (H.told host.old) → IfErr result (λ fault. IsHealthy fault) }
     ensures exact { H.honest → (checkpoint : Checkpoint) → Holds (Some checkpoint) (H.told host.old)
         → Finds (saved_on checkpoint.net (H.told host.old).state.net) result }
-    ensures begun { IsErrOf result (BackFault.HostFault Left.Pending) → ⊥ }
-    ensures fault { (left : Left) → IsErrOf result (BackFault.HostFault left) → Rose (H.told host.old).faults (H.told host.new).faults }
-    ensures set_there { IsErrOf result BackFault.NoCheckpoint → ⊥ }
-    ensures side { (left : Left) → IsErrOf result (BackFault.HostFault left) → left ≢ Left.RolledBack }
-    ensures damaged { H.tells → (area : ℕ) → IsErrOf result (BackFault.Damaged area) → IsDamaged area (H.told host.old).state }
-    ensures differs { H.tells → (names : List (List ℕ)) → IsErrOf result (BackFault.HardwareDiffers names) → Differs names (H.told host.new) }
     ensures later { (H.told host.old).faults ≤ (H.told host.new).faults }
 {
     let pending = match load(host, alloc) {
@@ -115,13 +110,10 @@ fn undo<H: Host>(host: &mut H, alloc: Global, calls: &[Call]) -> Result<(), Back
     ensures healthy { H.honest → (from saved : NetData) → (H.told host.old).state.net ≡ Some from
         → Runs calls.now from saved → IfErr result (λ fault. IsHealthy fault) }
     ensures begun { IfErr result (λ fault. IsBefore fault → ⊥) }
-    ensures counts { (H.told host.old).kernel.calls ≡ 0 → BackCounts (H.told host.old).kernel (H.told host.new).kernel result }
-    ensures given_up { (k n : ℕ) (left : Left) → IsErrOf result (BackFault.KernelRefused k n left) → left ≡ Left.Pending }
+    ensures fails { (H.told host.old).kernel.calls ≡ 0 → IfErr result (λ fault. Fails H.tells (H.told host.old) (H.told host.new) fault) }
+    ensures quiet { OnOk result (NoneRefused (H.told host.old).kernel (H.told host.new).kernel) }
     ensures made { OnOk result ((H.told host.old).kernel.calls ≡ 0 → (H.told host.new).kernel.calls ≡ length calls.now) }
     ensures idle { H.tells → OnOk result (calls.now ≡ [] → (H.told host.new).fresh ≡ (H.told host.old).fresh) }
-    ensures fault { (left : Left) → IsErrOf result (BackFault.HostFault left) → Rose (H.told host.old).faults (H.told host.new).faults }
-    ensures set_there { IsErrOf result BackFault.NoCheckpoint → ⊥ }
-    ensures side { (left : Left) → IsErrOf result (BackFault.HostFault left) → left ≢ Left.RolledBack }
     ensures moves { Steps Any (H.told host.old).stops (H.told host.new).stops }
     ensures saved { H.tells → OnOk result (saved_net (H.told host.new).state.cell ≡ saved_net (H.told host.old).state.cell) }
     ensures later { (H.told host.old).faults ≤ (H.told host.new).faults }
@@ -150,18 +142,11 @@ fn restore<H: Host>(host: &mut H, alloc: Global, phase: Phase) -> Result<(), Bac
     ensures healthy { H.honest → Sound (H.told host.old) → IfErr result (λ fault. IsHealthy fault) }
     ensures exact { H.honest → (checkpoint : Checkpoint) → Holds (Some checkpoint) (H.told host.old)
         → Finds (saved_on checkpoint.net (H.told host.old).state.net) result }
-    ensures before { IfErr result (λ fault. IsBefore fault → Steps Stays (H.told host.old).stops (H.told host.new).stops) }
-    // What every host counts, and by what calls the saved network was given. Without a network nothing is done.
-    ensures counts { BackCounts (H.told host.old).kernel (H.told host.new).kernel result }
+    // What its faults say on every host, and by what calls the saved network was given. Without a network nothing is done.
+    ensures fails { IfErr result (λ fault. Fails H.tells (H.told host.old) (H.told host.new) fault) }
+    ensures quiet { OnOk result (NoneRefused (H.told host.old).kernel (H.told host.new).kernel) }
     ensures gave { H.tells → OnOk result (GaveSaved (H.told host.new)) }
     ensures bare { H.tells → (H.told host.old).state.net ≡ None → (H.told host.new).state ≡ (H.told host.old).state }
-    ensures given_up { (k n : ℕ) (left : Left) → IsErrOf result (BackFault.KernelRefused k n left) → left ≡ Left.Pending }
-    ensures fault { (left : Left) → IsErrOf result (BackFault.HostFault left) → Rose (H.told host.old).faults (H.told host.new).faults }
-    ensures set_there { IsErrOf result BackFault.NoCheckpoint → ⊥ }
-    ensures side { (left : Left) → IsErrOf result (BackFault.HostFault left) → left ≢ Left.RolledBack }
-    ensures damaged { H.tells → (area : ℕ) → IsErrOf result (BackFault.Damaged area) → IsDamaged area (H.told host.old).state }
-    ensures differs { H.tells → (names : List (List ℕ)) → IsErrOf result (BackFault.HardwareDiffers names) → Differs names (H.told host.new) }
-    ensures same { IfErr result (λ fault. IsBefore fault → H.tells → (H.told host.new).state ≡ (H.told host.old).state) }
     ensures moves { Steps Any (H.told host.old).stops (H.told host.new).stops }
     ensures saved { H.tells → OnOk result (saved_net (H.told host.new).state.cell ≡ saved_net (H.told host.old).state.cell) }
     // On an honest host, sound or not, the network is the saved one.
@@ -197,20 +182,13 @@ pub fn go_back<H: Host>(host: &mut H, alloc: Global) -> Result<bool, BackFault>
     ensures exact { H.honest → (checkpoint : Checkpoint) → cell_of (H.told host.old).state.cell ≡ Some checkpoint
         → Finds (saved_on checkpoint.net (H.told host.old).state.net) result }
     ensures unset { H.tells → cell_of (H.told host.old).state.cell ≡ None → IfErr result (λ fault. fault ≡ BackFault.HostFault Left.NotBegun) }
-    ensures before { IfErr result (λ fault. IsBefore fault → Steps Stays (H.told host.old).stops (H.told host.new).stops) }
     ensures memory { H.tells → IsErrOf result BackFault.OutOfMemory → IsSome (cell_of (H.told host.old).state.cell) }
-    // What every host counts, and by what calls the saved network was given. Without a network nothing is done.
-    ensures counts { BackCounts (H.told host.old).kernel (H.told host.new).kernel result }
+    // What its faults say on every host, and by what calls the saved network was given. Without a network nothing is done.
+    ensures fails { IfErr result (λ fault. Fails H.tells (H.told host.old) (H.told host.new) fault) }
+    ensures quiet { OnOk result (NoneRefused (H.told host.old).kernel (H.told host.new).kernel) }
     ensures gave { H.tells → IfOk result (λ was. was ≡ true → GaveSaved (H.told host.new)) }
     ensures unmade { IfOk result (λ was. was ≡ false → (H.told host.new).kernel ≡ (H.told host.old).kernel) }
     ensures bare { H.tells → (H.told host.old).state.net ≡ None → (H.told host.new).state ≡ (H.told host.old).state }
-    ensures given_up { (k n : ℕ) (left : Left) → IsErrOf result (BackFault.KernelRefused k n left) → left ≡ Left.Pending }
-    ensures fault { (left : Left) → IsErrOf result (BackFault.HostFault left) → Rose (H.told host.old).faults (H.told host.new).faults }
-    ensures set_there { IsErrOf result BackFault.NoCheckpoint → ⊥ }
-    ensures side { (left : Left) → IsErrOf result (BackFault.HostFault left) → left ≢ Left.RolledBack }
-    ensures damaged { H.tells → (area : ℕ) → IsErrOf result (BackFault.Damaged area) → IsDamaged area (H.told host.old).state }
-    ensures differs { H.tells → (names : List (List ℕ)) → IsErrOf result (BackFault.HardwareDiffers names) → Differs names (H.told host.new) }
-    ensures same { IfErr result (λ fault. IsBefore fault → H.tells → (H.told host.new).state ≡ (H.told host.old).state) }
     ensures none_same { H.tells → IfOk result (λ was. was ≡ false → (H.told host.new).state ≡ (H.told host.old).state) }
     ensures going { H.honest → Sound (H.told host.old)
         → IfErr result (λ fault. (IsBefore fault → ⊥)
@@ -267,22 +245,15 @@ pub fn take_back<H: Host>(host: &mut H, alloc: Global, now: u64) -> Result<Recov
     ensures exact { H.honest → (taken : IsTaken now (cell_of (H.told host.old).state.cell))
         → Finds (saved_on taken.checkpoint.net (H.told host.old).state.net) result }
     ensures untaken { H.tells → (IsTaken now (cell_of (H.told host.old).state.cell) → ⊥) → IfErr result (λ fault. fault ≡ BackFault.HostFault Left.NotBegun) }
-    ensures before { IfErr result (λ fault. IsBefore fault → Steps Stays (H.told host.old).stops (H.told host.new).stops) }
     ensures memory { H.tells → IsErrOf result BackFault.OutOfMemory → IsTaken now (cell_of (H.told host.old).state.cell) }
     ensures pending { H.tells → IsErrOf result (BackFault.HostFault Left.Pending) → IsTaken now (cell_of (H.told host.old).state.cell) }
     ensures unaccepted { H.tells → (k n : ℕ) (left : Left) → IsErrOf result (BackFault.KernelRefused k n left)
         → IsTaken now (cell_of (H.told host.old).state.cell) }
-    // What every host counts, and by what calls the saved network was given.
-    ensures counts { BackCounts (H.told host.old).kernel (H.told host.new).kernel result }
+    // What its faults say on every host, and by what calls the saved network was given.
+    ensures fails { IfErr result (λ fault. Fails H.tells (H.told host.old) (H.told host.new) fault) }
+    ensures quiet { OnOk result (NoneRefused (H.told host.old).kernel (H.told host.new).kernel) }
     ensures gave { H.tells → result ≡ Ok Recovered.Restored → GaveSaved (H.told host.new) }
     ensures unmade { IfOk result (λ done. done ≢ Recovered.Restored → (H.told host.new).kernel ≡ (H.told host.old).kernel) }
-    ensures given_up { (k n : ℕ) (left : Left) → IsErrOf result (BackFault.KernelRefused k n left) → left ≡ Left.Pending }
-    ensures fault { (left : Left) → IsErrOf result (BackFault.HostFault left) → Rose (H.told host.old).faults (H.told host.new).faults }
-    ensures set_there { IsErrOf result BackFault.NoCheckpoint → ⊥ }
-    ensures side { (left : Left) → IsErrOf result (BackFault.HostFault left) → left ≢ Left.RolledBack }
-    ensures damaged { H.tells → (area : ℕ) → IsErrOf result (BackFault.Damaged area) → IsDamaged area (H.told host.old).state }
-    ensures differs { H.tells → (names : List (List ℕ)) → IsErrOf result (BackFault.HardwareDiffers names) → Differs names (H.told host.new) }
-    ensures same { IfErr result (λ fault. IsBefore fault → H.tells → (H.told host.new).state ≡ (H.told host.old).state) }
     ensures going { H.honest → Sound (H.told host.old)
         → IfErr result (λ fault. (IsBefore fault → ⊥)
         → FromRead (IsSettled now (H.told host.old).state) (H.told host.old) (H.told host.new)) }

@@ -63,29 +63,6 @@ few_before a b c (inr one) two = inr (once_before a b c one two)
 
 -- ---- the tables
 
--- what a restoring's answer says, from before a step that made no call
-pub back_after : {A : Type 0} (a b c : Kernel) (result : Result A BackFault) → NoCallMade a b → BackCounts b c result → BackCounts a c result
-back_after a b c (Ok done) one two = quiet_on a b c (unmade_quiet a b one) two
-back_after a b c (Err ba.NoCheckpoint) one two = unmade_on a b c one two
-back_after a b c (Err (ba.HostFault NotBegun)) one two = unmade_on a b c one two
-back_after a b c (Err (ba.HostFault RolledBack)) one two = quiet_on a b c (unmade_quiet a b one) two
-back_after a b c (Err (ba.HostFault Pending)) one two = quiet_on a b c (unmade_quiet a b one) two
-back_after a b c (Err (ba.KernelRefused k n left)) one two = (refused_after k n a b c (unmade_quiet a b one) two.0, once_after a b c (unmade_quiet a b one) two.1)
-back_after a b c (Err (ba.Damaged area)) one two = unmade_on a b c one two
-back_after a b c (Err (ba.HardwareDiffers names)) one two = unmade_on a b c one two
-back_after a b c (Err ba.OutOfMemory) one two = quiet_on a b c (unmade_quiet a b one) two
-
--- where no call was made, any fault but a refused call may be told
-pub back_unmade : {A : Type 0} (a b : Kernel) (fault : BackFault) → NoCallMade a b → ((k n : ℕ) (left : Left) → fault ≡ ba.KernelRefused k n left → ⊥) → BackCounts {A = A} a b (Err fault)
-back_unmade a b ba.NoCheckpoint unmade never = unmade
-back_unmade a b (ba.HostFault NotBegun) unmade never = unmade
-back_unmade a b (ba.HostFault RolledBack) unmade never = unmade_quiet a b unmade
-back_unmade a b (ba.HostFault Pending) unmade never = unmade_quiet a b unmade
-back_unmade a b (ba.KernelRefused k n left) unmade never = absurd (never k n left refl)
-back_unmade a b (ba.Damaged area) unmade never = unmade
-back_unmade a b (ba.HardwareDiffers names) unmade never = unmade
-back_unmade a b ba.OutOfMemory unmade never = unmade_quiet a b unmade
-
 -- the same fault of another call that takes a change back
 pub back_as : (A B : Type 0) (a b : Kernel) (fault : BackFault) → BackCounts {A = A} a b (Err fault) → BackCounts {A = B} a b (Err fault)
 back_as A B a b ba.NoCheckpoint is = is
@@ -96,17 +73,6 @@ back_as A B a b (ba.KernelRefused k n left) is = is
 back_as A B a b (ba.Damaged area) is = is
 back_as A B a b (ba.HardwareDiffers names) is = is
 back_as A B a b ba.OutOfMemory is = is
-
--- where none was refused, or one where the fault tells of it
-pub back_few : {A : Type 0} (a b : Kernel) (fault : BackFault) → BackCounts {A = A} a b (Err fault) → FewRefused a b
-back_few a b ba.NoCheckpoint is = inl (unmade_quiet a b is)
-back_few a b (ba.HostFault NotBegun) is = inl (unmade_quiet a b is)
-back_few a b (ba.HostFault RolledBack) is = inl is
-back_few a b (ba.HostFault Pending) is = inl is
-back_few a b (ba.KernelRefused k n left) is = inr is.1
-back_few a b (ba.Damaged area) is = inl (unmade_quiet a b is)
-back_few a b (ba.HardwareDiffers names) is = inl (unmade_quiet a b is)
-back_few a b ba.OutOfMemory is = inl is
 
 -- what an apply's answer says, from before a step that made no call
 pub apply_after : (a b c : Kernel) (result : Result Applied ApplyFault) → NoCallMade a b → ApplyCounts b c result → ApplyCounts a c result

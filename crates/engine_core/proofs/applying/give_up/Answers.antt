@@ -21,9 +21,7 @@ use Rattle.engine_core.specs.declared.missed.Missed.{Missed}
 use Rattle.engine_core.proofs.Gives.{one_way, taken_exit, stopped_exit}
 use Rattle.engine_core.proofs.Says.{taken_says, stopped_says, returned, begun_taken, begun_stopped}
 use Rattle.engine_core.proofs.Counts.{taken_counts, stopped_counts}
-use Rattle.std.specs.Prelude.{⊤}
 use Rattle.engine_model.specs.Refusals.{ApplyCounts}
-use Rattle.engine_model.proofs.lemmas.Refusals.{back_as}
 use Rattle.engine_model.specs.Faults.{Tries, FailsTwice, Backs}
 use Rattle.engine_core.proofs.Tries.{taken_tries, stopped_tries, taken_twice, stopped_twice, taken_backs, stopped_backs, back_or}
 use Rattle.engine_core.proofs.applying.give_up.Goals as goal
@@ -49,7 +47,7 @@ pub returns-in-Err-clause-exit : goal.returns-in-Err-clause-exit
 returns-in-Err-clause-exit g c = λ honest sound from all fault.
     let new = g.H.Host.told c.go_back.new.host in
     subst (λ (a : ApplyFault). GaveUp from (g.H.Host.told c.args.host.now).faults a new) (sym c.stopped.ensures)
-    (stopped_exit from _ c.args.missed c.in-Err.fault new fault (c.in-Err.ensures.healthy honest sound) (λ none. c.in-Err.ensures.set_there (ap (λ e. Err e) none)) (λ left is. c.in-Err.ensures.fault left (ap (λ e. Err e) is)))
+    (stopped_exit g.H.Host.tells from (g.H.Host.told c.args.host.now) new c.args.missed c.in-Err.fault fault (c.in-Err.ensures.healthy honest sound) c.in-Err.ensures.fails)
 
 pub returns-in-Ok-clause-memory : goal.returns-in-Ok-clause-memory
 returns-in-Ok-clause-memory g c = λ is. c.taken_back.ensures ∙ ap taken_back_as is
@@ -71,21 +69,20 @@ returns-in-Err-clause-says g c = λ doc opts made start faults moment why compar
     let new = g.H.Host.told c.go_back.new.host in
     subst (λ (a : ApplyFault). Said g.H.Host.tells (asked doc opts made) start new (Err a)) (sym c.stopped.ensures)
     (stopped_says g.H.Host.tells doc opts made start old new faults moment c.go_back.ensures.bare (g.met.H.Host.lawful c.args.host.now).stops (g.met.H.Host.lawful c.args.host.now).reads c.args.missed c.in-Err.fault why c.go_back.ensures.moves
-    (λ is. c.in-Err.ensures.set_there (ap (λ e. Err e) is)) (λ left is. c.in-Err.ensures.fault left (ap (λ e. Err e) is)) c.in-Err.ensures.before c.in-Err.ensures.same c.in-Err.ensures.unset
-    (λ tells area is. c.in-Err.ensures.damaged tells area (ap (λ e. Err e) is)) (λ tells names is. c.in-Err.ensures.differs tells names (ap (λ e. Err e) is)))
+    c.in-Err.ensures.fails c.in-Err.ensures.unset)
 
 pub returns-in-Ok-clause-counts : goal.returns-in-Ok-clause-counts
 returns-in-Ok-clause-counts g c = λ doc start why.
     let old = g.H.Host.told c.args.host.now in
     let new = g.H.Host.told c.go_back.new.host in
-    subst (λ (a : ApplyFault). ApplyCounts start.kernel new.kernel (Err a)) (sym c.taken_back.ensures) (taken_counts g.H.Host.tells doc start old new c.args.missed why c.in-Ok.ensures.counts)
+    subst (λ (a : ApplyFault). ApplyCounts start.kernel new.kernel (Err a)) (sym c.taken_back.ensures) (taken_counts g.H.Host.tells doc start old new c.args.missed why c.in-Ok.ensures.quiet)
 
 pub returns-in-Err-clause-counts : goal.returns-in-Err-clause-counts
 returns-in-Err-clause-counts g c = λ doc start why.
     let old = g.H.Host.told c.args.host.now in
     let new = g.H.Host.told c.go_back.new.host in
     subst (λ (a : ApplyFault). ApplyCounts start.kernel new.kernel (Err a)) (sym c.stopped.ensures)
-    (stopped_counts g.H.Host.tells doc start old new c.args.missed c.in-Err.fault why (back_as Bool ⊤ old.kernel new.kernel c.in-Err.fault c.in-Err.ensures.counts))
+    (stopped_counts g.H.Host.tells doc start old new c.args.missed c.in-Err.fault why c.in-Err.ensures.fails)
 
 pub returns-in-Ok-clause-begun : goal.returns-in-Ok-clause-begun
 returns-in-Ok-clause-begun g c = λ is. begun_taken c.args.missed (sym c.taken_back.ensures ∙ is)
@@ -122,8 +119,7 @@ returns-in-Err-clause-tries g c = λ doc opts start why compared.
     let old = g.H.Host.told c.args.host.now in
     let new = g.H.Host.told c.go_back.new.host in
     subst (λ (a : ApplyFault). Tries (opts.no_verify ≡ false) start.faults start.kernel.refusals new (Err a)) (sym c.stopped.ensures)
-    (stopped_tries g.H.Host.tells doc start old new c.go_back.ensures.later (opts.no_verify ≡ false) c.in-Err.fault (λ left is. c.in-Err.ensures.fault left (ap (λ e. Err e) is))
-    (back_as Bool ⊤ old.kernel new.kernel c.in-Err.fault c.in-Err.ensures.counts) c.args.missed why compared)
+    (stopped_tries g.H.Host.tells doc start old new c.go_back.ensures.later (opts.no_verify ≡ false) c.args.missed c.in-Err.fault why c.in-Err.ensures.fails compared)
 
 pub returns-in-Ok-clause-twice : goal.returns-in-Ok-clause-twice
 returns-in-Ok-clause-twice g c = λ honest start is rose.
@@ -134,7 +130,7 @@ pub returns-in-Err-clause-twice : goal.returns-in-Err-clause-twice
 returns-in-Err-clause-twice g c = λ honest start is rose.
     let old = g.H.Host.told c.args.host.now in
     let new = g.H.Host.told c.go_back.new.host in
-    subst (λ (a : ApplyFault). FailsTwice ⊥ start new (Err a)) (sym c.stopped.ensures) (stopped_twice ⊥ start old.faults new c.args.missed c.in-Err.fault is rose (λ left is. c.in-Err.ensures.fault left (ap (λ e. Err e) is)))
+    subst (λ (a : ApplyFault). FailsTwice ⊥ start new (Err a)) (sym c.stopped.ensures) (stopped_twice ⊥ g.H.Host.tells start old new c.args.missed c.in-Err.fault is rose c.in-Err.ensures.fails)
 
 pub returns-in-Ok-clause-backs : goal.returns-in-Ok-clause-backs
 returns-in-Ok-clause-backs g c = λ honest before unset.

@@ -24,14 +24,12 @@ use Rattle.engine_model.specs.declared.answers.Recovered.TheVariants.{Nothing, W
 use Rattle.engine_model.specs.declared.answers.BackFault.{BackFault}
 use Rattle.engine_model.proofs.lemmas.Finding.{recover_exact, found_saved}
 use Rattle.engine_core.proofs.Exacts.{exact_from, nothing_is, restored_is, unsettled_exact}
-use Rattle.engine_core.proofs.Says.{said_says, waits_says, unsettled_says}
+use Rattle.engine_core.proofs.Says.{said_says, waits_says, unsettled_says, unsettled_unbegun}
 use Rattle.host_core.specs.HostView.{NoneRefused}
 use Rattle.std.proofs.Common.{Option, false}
 use Rattle.net_model.specs.NetData.{NetData}
-use Rattle.std.specs.Prelude.{⊤}
 use Rattle.std.proofs.Common.{inr}
 use Rattle.engine_model.specs.Refusals.{ApplyCounts}
-use Rattle.engine_model.proofs.lemmas.Refusals.{back_as}
 use Rattle.engine_core.proofs.Counts.{unsettled_counts}
 use Rattle.engine_model.specs.Faults.{Tries, FailsTwice, Backs, HasTaken}
 use Rattle.engine_model.proofs.lemmas.Backs.{has_taken}
@@ -53,8 +51,8 @@ pub returns-in-Err-clause-exit : goal.returns-in-Err-clause-exit
 returns-in-Err-clause-exit g c = λ honest sound.
     let tells = g.met.H.Host.honest_tells honest in
     subst (λ (a : ApplyFault). ExitApply (asked_of c.args.doc.now c.args.opts.now c.args.now) (g.H.Host.told c.args.host.now) (Err a) (g.H.Host.told c.take_back.new.host)) (sym c.unsettled.ensures)
-    (unsettled_exit (asked_of c.args.doc.now c.args.opts.now c.args.now) (g.H.Host.told c.args.host.now) (g.H.Host.told c.take_back.new.host) (c.take_back.ensures.kept honest sound).during c.in-Err.fault (c.in-Err.ensures.healthy honest sound) (λ is. c.in-Err.ensures.set_there (ap (λ e. Err e) is)) c.in-Err.ensures.before
-    (λ is. c.in-Err.ensures.pending tells (ap (λ e. Err e) is)) (λ is. c.in-Err.ensures.memory tells (ap (λ e. Err e) is)) (c.in-Err.ensures.going honest sound))
+    (unsettled_exit (asked_of c.args.doc.now c.args.opts.now c.args.now) (g.H.Host.told c.args.host.now) (g.H.Host.told c.take_back.new.host) (c.take_back.ensures.kept honest sound).during g.H.Host.tells c.in-Err.fault (c.in-Err.ensures.healthy honest sound)
+    c.in-Err.ensures.fails (λ is. c.in-Err.ensures.pending tells (ap (λ e. Err e) is)) (λ is. c.in-Err.ensures.memory tells (ap (λ e. Err e) is)) (c.in-Err.ensures.going honest sound))
 
 pub returns-in-Err-clause-kept : goal.returns-in-Err-clause-kept
 returns-in-Err-clause-kept g c = λ honest sound. kept_wider (IsSettled c.args.now (g.H.Host.told c.args.host.now).state) (IsApplied (asked_of c.args.doc.now c.args.opts.now c.args.now) (g.H.Host.told c.args.host.now).state) (λ a is. inl is) (g.H.Host.told c.args.host.now) (g.H.Host.told c.take_back.new.host) (c.take_back.ensures.kept honest sound)
@@ -116,7 +114,7 @@ pub returns-in-Ok-Nothing-clause-says : goal.returns-in-Ok-Nothing-clause-says
 returns-in-Ok-Nothing-clause-says g c =
     let old = g.H.Host.told c.args.host.now in
     said_says g.H.Host.tells (asked c.args.doc.now c.args.opts.now c.args.now) old (g.H.Host.told c.change.new.host) c.change.result
-    (c.change.ensures.says (start_of old) (begun g (goal.at.returns-in-Ok-Nothing-clause-says g c).After-take_back c.in-Ok-Nothing.ensures.counts)
+    (c.change.ensures.says (start_of old) (begun g (goal.at.returns-in-Ok-Nothing-clause-says g c).After-take_back c.in-Ok-Nothing.ensures.quiet)
     (nothing_settled g (goal.at.returns-in-Ok-Nothing-clause-says g c).In-Ok-Nothing old.stops.moment)
     (λ is tells. c.take_back.ensures.nothing_same tells (c.in-Ok-Nothing.is ∙ ap (λ r. Ok r) c.in-Ok-Nothing.field-0-is)))
 
@@ -124,7 +122,7 @@ pub returns-in-Ok-Restored-clause-says : goal.returns-in-Ok-Restored-clause-says
 returns-in-Ok-Restored-clause-says g c =
     let old = g.H.Host.told c.args.host.now in
     said_says g.H.Host.tells (asked c.args.doc.now c.args.opts.now c.args.now) old (g.H.Host.told c.change-in-Ok-Restored.new.host) c.change-in-Ok-Restored.result
-    (c.change-in-Ok-Restored.ensures.says (start_of old) (begun g (goal.at.returns-in-Ok-Restored-clause-says g c).After-take_back c.in-Ok-Restored.ensures.counts)
+    (c.change-in-Ok-Restored.ensures.says (start_of old) (begun g (goal.at.returns-in-Ok-Restored-clause-says g c).After-take_back c.in-Ok-Restored.ensures.quiet)
     (restored_settled g (goal.at.returns-in-Ok-Restored-clause-says g c).In-Ok-Restored old.stops.moment)
     (λ is. let e : RolledBack ≡ NotBegun = is in absurd (cc)))
 
@@ -133,9 +131,11 @@ returns-in-Err-clause-says g c =
     let old = g.H.Host.told c.args.host.now in
     let new = g.H.Host.told c.take_back.new.host in
     subst (λ (a : ApplyFault). ApplySays g.H.Host.tells (asked c.args.doc.now c.args.opts.now c.args.now) old new (Err a)) (sym c.unsettled.ensures)
-    (unsettled_says g.H.Host.tells (asked c.args.doc.now c.args.opts.now c.args.now) old new (g.met.H.Host.lawful c.args.host.now).stops (g.met.H.Host.lawful c.args.host.now).reads c.in-Err.fault
-    (λ is. c.in-Err.ensures.set_there (ap (λ e. Err e) is)) (λ left is. c.in-Err.ensures.fault left (ap (λ e. Err e) is)) (λ left is. c.in-Err.ensures.side left (ap (λ e. Err e) is)) c.in-Err.ensures.same
-    (back_as Recovered ⊤ old.kernel new.kernel c.in-Err.fault c.in-Err.ensures.counts) (λ k n left is. c.in-Err.ensures.given_up k n left (ap (λ e. Err e) is)) c.in-Err.ensures.before (λ tells area is. c.in-Err.ensures.damaged tells area (ap (λ e. Err e) is)) (λ tells names is. c.in-Err.ensures.differs tells names (ap (λ e. Err e) is)))
+    (unsettled_says g.H.Host.tells (asked c.args.doc.now c.args.opts.now c.args.now) old new (g.met.H.Host.lawful c.args.host.now).stops (g.met.H.Host.lawful c.args.host.now).reads c.in-Err.fault c.in-Err.ensures.fails)
+
+pub returns-in-Err-clause-unbegun : goal.returns-in-Err-clause-unbegun
+returns-in-Err-clause-unbegun g c = λ is.
+    unsettled_unbegun g.H.Host.tells (g.H.Host.told c.args.host.now) (g.H.Host.told c.take_back.new.host) c.unsettled.result c.in-Err.fault c.unsettled.ensures is c.in-Err.ensures.fails
 
 -- ---- what every host counts
 
@@ -145,19 +145,19 @@ returns-in-Ok-Waiting-clause-counts g c = inl (c.in-Ok-Waiting.ensures.unmade (�
 pub returns-in-Ok-Nothing-clause-counts : goal.returns-in-Ok-Nothing-clause-counts
 returns-in-Ok-Nothing-clause-counts g c =
     let old = g.H.Host.told c.args.host.now in
-    c.change.ensures.counts (start_of old) (begun g (goal.at.returns-in-Ok-Nothing-clause-counts g c).After-take_back c.in-Ok-Nothing.ensures.counts)
+    c.change.ensures.counts (start_of old) (begun g (goal.at.returns-in-Ok-Nothing-clause-counts g c).After-take_back c.in-Ok-Nothing.ensures.quiet)
     (λ is. inl (nothing_made g (goal.at.returns-in-Ok-Nothing-clause-counts g c).In-Ok-Nothing))
 
 pub returns-in-Ok-Restored-clause-counts : goal.returns-in-Ok-Restored-clause-counts
 returns-in-Ok-Restored-clause-counts g c =
     let old = g.H.Host.told c.args.host.now in
-    c.change-in-Ok-Restored.ensures.counts (start_of old) (begun g (goal.at.returns-in-Ok-Restored-clause-counts g c).After-take_back c.in-Ok-Restored.ensures.counts) (λ is. let e : RolledBack ≡ NotBegun = is in absurd (cc))
+    c.change-in-Ok-Restored.ensures.counts (start_of old) (begun g (goal.at.returns-in-Ok-Restored-clause-counts g c).After-take_back c.in-Ok-Restored.ensures.quiet) (λ is. let e : RolledBack ≡ NotBegun = is in absurd (cc))
 
 pub returns-in-Err-clause-counts : goal.returns-in-Err-clause-counts
 returns-in-Err-clause-counts g c =
-    let old = (g.H.Host.told c.args.host.now).kernel in
-    let new = (g.H.Host.told c.take_back.new.host).kernel in
-    subst (λ (a : ApplyFault). ApplyCounts old new (Err a)) (sym c.unsettled.ensures) (unsettled_counts old new c.in-Err.fault (back_as Recovered ⊤ old new c.in-Err.fault c.in-Err.ensures.counts))
+    let old = g.H.Host.told c.args.host.now in
+    let new = g.H.Host.told c.take_back.new.host in
+    subst (λ (a : ApplyFault). ApplyCounts old.kernel new.kernel (Err a)) (sym c.unsettled.ensures) (unsettled_counts g.H.Host.tells old new c.in-Err.fault c.in-Err.ensures.fails)
 
 -- ---- what isn't touched
 
@@ -187,7 +187,7 @@ pub returns-in-Ok-Nothing-clause-damaged : goal.returns-in-Ok-Nothing-clause-dam
 returns-in-Ok-Nothing-clause-damaged g c = λ tells t area le is.
     let start = start_since t (g.H.Host.told c.args.host.now) in
     said_damaged g.H.Host.tells (asked c.args.doc.now c.args.opts.now c.args.now) start (g.H.Host.told c.change.new.host) c.change.result area is
-    (c.change.ensures.says start (since_then g (goal.at.returns-in-Ok-Nothing-clause-damaged g c).After-take_back t le c.in-Ok-Nothing.ensures.counts)
+    (c.change.ensures.says start (since_then g (goal.at.returns-in-Ok-Nothing-clause-damaged g c).After-take_back t le c.in-Ok-Nothing.ensures.quiet)
     (nothing_settled g (goal.at.returns-in-Ok-Nothing-clause-damaged g c).In-Ok-Nothing t)
     (λ same told. c.take_back.ensures.nothing_same told (c.in-Ok-Nothing.is ∙ ap (λ r. Ok r) c.in-Ok-Nothing.field-0-is))) tells
 
@@ -195,14 +195,14 @@ pub returns-in-Ok-Restored-clause-damaged : goal.returns-in-Ok-Restored-clause-d
 returns-in-Ok-Restored-clause-damaged g c = λ tells t area le is.
     let start = start_since t (g.H.Host.told c.args.host.now) in
     said_damaged g.H.Host.tells (asked c.args.doc.now c.args.opts.now c.args.now) start (g.H.Host.told c.change-in-Ok-Restored.new.host) c.change-in-Ok-Restored.result area is
-    (c.change-in-Ok-Restored.ensures.says start (since_then g (goal.at.returns-in-Ok-Restored-clause-damaged g c).After-take_back t le c.in-Ok-Restored.ensures.counts)
+    (c.change-in-Ok-Restored.ensures.says start (since_then g (goal.at.returns-in-Ok-Restored-clause-damaged g c).After-take_back t le c.in-Ok-Restored.ensures.quiet)
     (restored_settled g (goal.at.returns-in-Ok-Restored-clause-damaged g c).In-Ok-Restored t)
     (λ same. let e : RolledBack ≡ NotBegun = same in absurd (cc))) tells
 
 pub returns-in-Err-clause-damaged : goal.returns-in-Err-clause-damaged
 returns-in-Err-clause-damaged g c = λ tells t area le is.
-    unsettled_damaged t area (g.H.Host.told c.args.host.now) (g.H.Host.told c.take_back.new.host) (g.met.H.Host.lawful c.args.host.now).stops ((g.met.H.Host.lawful c.args.host.now).reads tells) le
-    c.unsettled.result c.in-Err.fault c.unsettled.ensures is (λ set. c.in-Err.ensures.set_there (ap (λ e. Err e) set)) c.in-Err.ensures.before (λ area is. c.in-Err.ensures.damaged tells area (ap (λ e. Err e) is))
+    unsettled_damaged g.H.Host.tells tells t area (g.H.Host.told c.args.host.now) (g.H.Host.told c.take_back.new.host) (g.met.H.Host.lawful c.args.host.now).stops ((g.met.H.Host.lawful c.args.host.now).reads tells) le
+    c.unsettled.result c.in-Err.fault c.unsettled.ensures is c.in-Err.ensures.fails
 
 -- ---- on an honest host, sound or not
 
@@ -242,7 +242,7 @@ returns-in-Err-clause-exact g c = λ honest.
     let old = g.H.Host.told c.args.host.now in
     let new = g.H.Host.told c.take_back.new.host in
     subst (λ (f : ApplyFault). ApplyExact (Rose old.faults new.faults) (apply a (standing old.state)) new (Err f)) (sym c.unsettled.ensures)
-    (unsettled_exact a old.state old.faults new c.in-Err.fault (λ is. c.in-Err.ensures.set_there (ap (λ e. Err e) is)) (λ left is. c.in-Err.ensures.fault left (ap (λ e. Err e) is)) (λ before. c.in-Err.ensures.same before tells)
+    (unsettled_exact a old.state g.H.Host.tells tells old new refl c.in-Err.fault c.in-Err.ensures.fails
     (recover_exact c.args.now old.state (cell_of old.state.cell) refl Recovered c.in-Err.fault (λ t. c.in-Err.ensures.exact honest t) (c.in-Err.ensures.untaken tells)))
 
 -- ---- what was tried, dumped and taken back
@@ -255,14 +255,14 @@ returns-in-Ok-Nothing-clause-tries g c =
     let old = g.H.Host.told c.args.host.now in
     let at = (goal.at.returns-in-Ok-Nothing-clause-tries g c).After-take_back in
     tries_more (Taken g at) (c.args.opts.now.no_verify ≡ false) old.faults old.kernel.refusals (g.H.Host.told c.change.new.host) c.change.result
-    (c.change.ensures.tries (start_of old) (begun g at c.in-Ok-Nothing.ensures.counts))
+    (c.change.ensures.tries (start_of old) (begun g at c.in-Ok-Nothing.ensures.quiet))
 
 pub returns-in-Ok-Restored-clause-tries : goal.returns-in-Ok-Restored-clause-tries
 returns-in-Ok-Restored-clause-tries g c =
     let old = g.H.Host.told c.args.host.now in
     let at = (goal.at.returns-in-Ok-Restored-clause-tries g c).After-take_back in
     tries_more (Taken g at) (c.args.opts.now.no_verify ≡ false) old.faults old.kernel.refusals (g.H.Host.told c.change-in-Ok-Restored.new.host) c.change-in-Ok-Restored.result
-    (c.change-in-Ok-Restored.ensures.tries (start_of old) (begun g at c.in-Ok-Restored.ensures.counts))
+    (c.change-in-Ok-Restored.ensures.tries (start_of old) (begun g at c.in-Ok-Restored.ensures.quiet))
 
 pub returns-in-Err-clause-tries : goal.returns-in-Err-clause-tries
 returns-in-Err-clause-tries g c =
@@ -316,4 +316,4 @@ pub returns-in-Err-clause-backs : goal.returns-in-Err-clause-backs
 returns-in-Err-clause-backs g c = λ honest.
     let before = (recover c.args.now (standing (g.H.Host.told c.args.host.now).state)).after.net in
     subst (λ (a : ApplyFault). Backs before (g.H.Host.told c.take_back.new.host) (Err a)) (sym c.unsettled.ensures)
-    (unsettled_backs before (g.H.Host.told c.take_back.new.host) c.in-Err.fault (λ left is. c.in-Err.ensures.side left (ap (λ e. Err e) is)))
+    (unsettled_backs g.H.Host.tells before (g.H.Host.told c.args.host.now) (g.H.Host.told c.take_back.new.host) c.in-Err.fault c.in-Err.ensures.fails)

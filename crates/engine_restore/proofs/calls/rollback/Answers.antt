@@ -9,8 +9,9 @@ use Rattle.engine_model.specs.Answers.{IsUndone}
 use Rattle.engine_model.specs.Machine.{rollback}
 use Rattle.engine_model.proofs.lemmas.Leading.{kept_wider}
 use Rattle.engine_model.proofs.lemmas.Machines.{ends_within, ends_reads, read_within, going_as}
-use Rattle.engine_model.proofs.lemmas.Backs.{undone_only, rolled_back, fault_exit, fault_reads, fault_says}
-use Rattle.engine_model.proofs.lemmas.Refusals.{back_as}
+use Rattle.engine_model.proofs.lemmas.Backs.{undone_only, rolled_back, has_set, fault_exit, fault_reads, fault_answers, fault_says}
+use Rattle.engine_model.proofs.lemmas.Failing.{fails_before, fails_counts}
+use Rattle.engine_model.specs.Faults.{HasSet}
 use Rattle.std.specs.Prelude.{Bool}
 use Rattle.std.proofs.Common.{refl}
 use Rattle.engine_model.proofs.lemmas.Finding.{rolled_exact, rollback_exact}
@@ -66,8 +67,7 @@ returns-in-Err-clause-exit g c = λ honest sound.
     let old = g.H.Host.told c.args.host.now in
     let new = g.H.Host.told c.go_back.new.host in
     let e = c.in-Err.ensures in
-    fault_exit (rollback (standing old.state)).after old new ((g.met.H.Host.lawful c.args.host.now).reads (g.met.H.Host.honest_tells honest)) ⊤ c.in-Err.fault (e.healthy honest sound)
-    (λ is. e.set_there (ap (λ x. Err x) is)) e.before
+    fault_exit g.H.Host.tells (rollback (standing old.state)).after old new ((g.met.H.Host.lawful c.args.host.now).reads (g.met.H.Host.honest_tells honest)) ⊤ c.in-Err.fault (e.healthy honest sound) e.fails
     (λ begun. going_as (IsUndone old.state) (Only (rollback (standing old.state)).after) old new (only g (goal.at.returns-in-Err-clause-exit g c).After-go_back honest sound) (e.going honest sound begun))
 
 pub returns-in-Err-clause-reads : goal.returns-in-Err-clause-reads
@@ -76,8 +76,7 @@ returns-in-Err-clause-reads g c = λ honest sound.
     let old = g.H.Host.told c.args.host.now in
     let new = g.H.Host.told c.go_back.new.host in
     let e = c.in-Err.ensures in
-    fault_reads (rollback (standing old.state)).after old new ((g.met.H.Host.lawful c.args.host.now).reads tells) ⊤ c.in-Err.fault ((g.met.H.Host.lawful c.go_back.new.host).reads tells) (e.healthy honest sound)
-    (λ is. e.set_there (ap (λ x. Err x) is)) (λ before. e.same before tells)
+    fault_reads g.H.Host.tells (rollback (standing old.state)).after old new ((g.met.H.Host.lawful c.args.host.now).reads tells) tells ⊤ c.in-Err.fault ((g.met.H.Host.lawful c.go_back.new.host).reads tells) (e.healthy honest sound) e.fails
     (λ begun. going_as (IsUndone old.state) (Only (rollback (standing old.state)).after) old new (only g (goal.at.returns-in-Err-clause-reads g c).After-go_back honest sound) (e.going honest sound begun))
 
 pub returns-in-Ok-true-clause-exact : goal.returns-in-Ok-true-clause-exact
@@ -95,16 +94,23 @@ returns-in-Err-clause-exact g c = λ honest.
 pub returns-in-Err-clause-says : goal.returns-in-Err-clause-says
 returns-in-Err-clause-says g c =
     let old = g.H.Host.told c.args.host.now in
-    let e = c.in-Err.ensures in
-    fault_says g.H.Host.tells (rollback (standing old.state)).answer old (g.H.Host.told c.go_back.new.host) (g.met.H.Host.lawful c.args.host.now).stops (g.met.H.Host.lawful c.args.host.now).reads c.in-Err.fault
-    (λ is. e.set_there (ap (λ x. Err x) is)) (λ left is. e.fault left (ap (λ x. Err x) is)) (λ left is. e.side left (ap (λ x. Err x) is)) e.same (λ k n left is. e.given_up k n left (ap (λ x. Err x) is)) e.before
-    (λ tells area is. e.damaged tells area (ap (λ x. Err x) is)) (λ tells names is. e.differs tells names (ap (λ x. Err x) is))
+    fault_says g.H.Host.tells (rollback (standing old.state)).answer old (g.H.Host.told c.go_back.new.host) (g.met.H.Host.lawful c.args.host.now).stops (g.met.H.Host.lawful c.args.host.now).reads c.in-Err.fault c.in-Err.ensures.fails
 
 pub returns-in-Err-clause-counts : goal.returns-in-Err-clause-counts
-returns-in-Err-clause-counts g c = back_as Bool ⊤ (g.H.Host.told c.args.host.now).kernel (g.H.Host.told c.go_back.new.host).kernel c.in-Err.fault c.in-Err.ensures.counts
+returns-in-Err-clause-counts g c = fails_counts g.H.Host.tells (g.H.Host.told c.args.host.now) (g.H.Host.told c.go_back.new.host) ⊤ c.in-Err.fault c.in-Err.ensures.fails
 
 pub returns-in-Ok-false-clause-counts : goal.returns-in-Ok-false-clause-counts
 returns-in-Ok-false-clause-counts g c = inl (c.in-Ok-false.ensures.unmade c.in-Ok-false.field-0-test)
 
 pub returns-in-Ok-true-clause-gave : goal.returns-in-Ok-true-clause-gave
 returns-in-Ok-true-clause-gave g c = λ tells. c.in-Ok-true.ensures.gave tells c.in-Ok-true.field-0-test
+
+pub returns-in-Err-clause-before : goal.returns-in-Err-clause-before
+returns-in-Err-clause-before g c = λ before. (fails_before g.H.Host.tells (g.H.Host.told c.args.host.now) (g.H.Host.told c.go_back.new.host) c.in-Err.fault c.in-Err.ensures.fails before).stops
+
+pub returns-in-Err-clause-answer : goal.returns-in-Err-clause-answer
+returns-in-Err-clause-answer g c = λ honest sound.
+    let old = g.H.Host.told c.args.host.now in
+    let e = c.in-Err.ensures in
+    fault_answers g.H.Host.tells (HasSet (cell_of old.state.cell)) (rollback (standing old.state)) old (g.H.Host.told c.go_back.new.host) c.in-Err.fault (e.healthy honest sound) e.fails
+    (λ is. has_set old.state (cell_of old.state.cell) (e.memory (g.met.H.Host.honest_tells honest) (ap (λ x. Err x) is)))

@@ -1,6 +1,4 @@
-use Rattle.std.proofs.Common.{◌≡◌, ◌∙◌, inl, Option, Some, None, sym, ap, subst}
-use Rattle.std.specs.Prelude.{Err}
-use Rattle.engine_model.specs.declared.answers.BackFault.TheVariants.{Damaged}
+use Rattle.std.proofs.Common.{◌≡◌, ◌∙◌, Option, Some, None, sym, ap, subst}
 use Rattle.net_model.specs.NetData.{NetData}
 use Rattle.host_core.specs.HostView.{State}
 use Rattle.checkpoint_cell.specs.Cell.{Checkpoint, cell_of}
@@ -11,9 +9,8 @@ use Rattle.engine_model.specs.Sound.{Sound, IsWhole}
 use Rattle.engine_model.specs.Stations.{Only, Kept, Ends}
 use Rattle.checkpoint_cell.specs.Settled.{restored_to}
 use Rattle.engine_model.specs.Answers.{IsUndone}
-use Rattle.engine_model.proofs.lemmas.Leading.{kept_stays, kept_on, kept_wider, sound_stays, both, same_state}
+use Rattle.engine_model.proofs.lemmas.Leading.{kept_stays, kept_on, kept_wider, sound_stays, same_state}
 use Rattle.engine_model.proofs.lemmas.Machines.{from_read}
-use Rattle.engine_model.specs.Faults.{IsDamaged}
 use Rattle.engine_model.proofs.lemmas.Restores.{restored_is}
 use Rattle.engine_model.proofs.lemmas.Settles.{SetAs, set_as, empty_as, empty_back, undone_set}
 use Rattle.std.specs.Prelude.{⊤, Bool, Result}
@@ -21,10 +18,10 @@ use Rattle.engine_model.specs.Answers.{Finds}
 use Rattle.engine_model.specs.Machine.{saved_on}
 use Rattle.engine_model.specs.declared.BackFault.{BackFault}
 use Rattle.engine_model.proofs.lemmas.Finding.{finds_as}
-use Rattle.engine_model.specs.Refusals.{NoCallMade}
-use Rattle.engine_model.proofs.lemmas.Refusals.{quiet_same, quiet_on, back_after, back_as}
+use Rattle.engine_model.proofs.lemmas.Refusals.{quiet_same, quiet_on}
+use Rattle.engine_model.proofs.lemmas.Failing.{looked, fails_after}
 use Rattle.engine_restore.proofs.restoring.go_back.Goals as goal
-use Rattle.engine_restore.proofs.restoring.go_back.Goals.{After-barrier, After-restore}
+use Rattle.engine_restore.proofs.restoring.go_back.Goals.{After-restore}
 
 as_set : (g : _) (c : After-restore g) → g.H.Host.tells → SetAs (cell_of (g.H.Host.told c.args.host.now).state.cell) c.in-Set.phase c.in-Set.made c.in-Set.deadline
 as_set g c tells = set_as (cell_of (g.H.Host.told c.args.host.now).state.cell) c.in-Set.phase c.in-Set.made c.in-Set.deadline (sym c.in-Set.is ∙ c.in-Ok.ensures.seen tells)
@@ -70,13 +67,6 @@ returns-in-Err-restore-clause-going g c = λ honest sound begun.
     from_read (IsUndone old.state) old (g.H.Host.told c.barrier.new.host) (g.H.Host.told c.restore.new.host) ((g.met.H.Host.lawful c.args.host.now).reads tells) sound c.barrier.ensures.untouched.stops (c.in-Ok.ensures.sure tells)
     (after_barrier g (goal.at.returns-in-Err-restore-clause-going g c).After-restore honest sound)
 
-pub returns-in-Err-restore-clause-same : goal.returns-in-Err-restore-clause-same
-returns-in-Err-restore-clause-same g c = λ before tells. c.in-Err-restore.ensures.same before tells ∙ same_state g.H.Host.tells (g.H.Host.told c.args.host.now) (g.H.Host.told c.barrier.new.host) c.barrier.ensures.untouched tells
-
-pub returns-in-Err-restore-clause-damaged : goal.returns-in-Err-restore-clause-damaged
-returns-in-Err-restore-clause-damaged g c = λ tells area is.
-    subst (λ (s : State). IsDamaged area s) (same_state g.H.Host.tells (g.H.Host.told c.args.host.now) (g.H.Host.told c.barrier.new.host) c.barrier.ensures.untouched tells) (c.restore.ensures.damaged tells area (let same : c.in-Err-restore.fault ≡ Damaged area = cc in c.in-Err-restore.is ∙ ap (λ e. Err e) same))
-
 pub returns-in-Empty-clause-kept : goal.returns-in-Empty-clause-kept
 returns-in-Empty-clause-kept g c = λ honest sound. kept_stays (IsUndone (g.H.Host.told c.args.host.now).state) (g.H.Host.told c.args.host.now) (g.H.Host.told c.barrier.new.host) sound c.barrier.ensures.untouched.stops
 
@@ -119,9 +109,6 @@ restore-requires g c = λ tells.
     let set = set_as (cell_of (g.H.Host.told c.args.host.now).state.cell) c.in-Set.phase c.in-Set.made c.in-Set.deadline (sym c.in-Set.is ∙ c.in-Ok.ensures.seen tells) in
     (set.checkpoint, subst (λ (k : Option Checkpoint). Holds k (g.H.Host.told c.barrier.new.host)) set.is (c.in-Ok.ensures.sure tells), set.phase_is)
 
-pub returns-in-Err-restore-clause-before : goal.returns-in-Err-restore-clause-before
-returns-in-Err-restore-clause-before g c = λ before. both _ _ _ c.barrier.ensures.untouched.stops (c.in-Err-restore.ensures.before before)
-
 pub returns-in-Err-restore-clause-healthy : goal.returns-in-Err-restore-clause-healthy
 returns-in-Err-restore-clause-healthy g c = λ honest sound. c.in-Err-restore.ensures.healthy honest (sound_stays _ _ sound c.barrier.ensures.untouched.stops)
 
@@ -155,28 +142,24 @@ returns-in-Err-restore-clause-unset g c = λ tells none.
     let e : Some set.checkpoint ≡ None = sym set.is ∙ none in
     absurd (cc)
 
--- ---- what is counted
+-- ---- on every host
 
-looked : (g : _) (c : After-barrier g) → NoCallMade (g.H.Host.told c.args.host.now).kernel (g.H.Host.told c.barrier.new.host).kernel
-looked g c = inl c.barrier.ensures.untouched.kernel.kernel
+pub returns-in-Err-clause-fails : goal.returns-in-Err-clause-fails
+returns-in-Err-clause-fails g c = (c.in-Err.ensures.cause.failed, looked g.H.Host.tells (g.H.Host.told c.args.host.now) (g.H.Host.told c.barrier.new.host) c.barrier.ensures.untouched)
 
-pub returns-in-Err-clause-counts : goal.returns-in-Err-clause-counts
-returns-in-Err-clause-counts g c = looked g (goal.at.returns-in-Err-clause-counts g c).After-barrier
+pub returns-in-Err-restore-clause-fails : goal.returns-in-Err-restore-clause-fails
+returns-in-Err-restore-clause-fails g c =
+    let old = g.H.Host.told c.args.host.now in
+    let mid = g.H.Host.told c.barrier.new.host in
+    fails_after g.H.Host.tells old mid (g.H.Host.told c.restore.new.host) c.barrier.ensures.cause.later (looked g.H.Host.tells old mid c.barrier.ensures.untouched) c.in-Err-restore.fault c.in-Err-restore.ensures.fails
 
-pub returns-in-Empty-clause-counts : goal.returns-in-Empty-clause-counts
-returns-in-Empty-clause-counts g c = quiet_same (g.H.Host.told c.args.host.now).kernel (g.H.Host.told c.barrier.new.host).kernel c.barrier.ensures.untouched.kernel.kernel
+pub returns-in-Empty-clause-quiet : goal.returns-in-Empty-clause-quiet
+returns-in-Empty-clause-quiet g c = quiet_same (g.H.Host.told c.args.host.now).kernel (g.H.Host.told c.barrier.new.host).kernel c.barrier.ensures.untouched.kernel.kernel
 
-pub returns-in-Ok-restore-clause-counts : goal.returns-in-Ok-restore-clause-counts
-returns-in-Ok-restore-clause-counts g c =
+pub returns-in-Ok-restore-clause-quiet : goal.returns-in-Ok-restore-clause-quiet
+returns-in-Ok-restore-clause-quiet g c =
     let mid = (g.H.Host.told c.barrier.new.host).kernel in
-    quiet_on (g.H.Host.told c.args.host.now).kernel mid (g.H.Host.told c.restore.new.host).kernel (quiet_same (g.H.Host.told c.args.host.now).kernel mid c.barrier.ensures.untouched.kernel.kernel) c.in-Ok-restore.ensures.counts
-
-pub returns-in-Err-restore-clause-counts : goal.returns-in-Err-restore-clause-counts
-returns-in-Err-restore-clause-counts g c =
-    let old = (g.H.Host.told c.args.host.now).kernel in
-    let new = (g.H.Host.told c.restore.new.host).kernel in
-    back_as ⊤ Bool old new c.in-Err-restore.fault
-    (back_after {A = ⊤} old (g.H.Host.told c.barrier.new.host).kernel new (Err c.in-Err-restore.fault) (looked g (goal.at.returns-in-Err-restore-clause-counts g c).After-barrier) c.in-Err-restore.ensures.counts)
+    quiet_on (g.H.Host.told c.args.host.now).kernel mid (g.H.Host.told c.restore.new.host).kernel (quiet_same (g.H.Host.told c.args.host.now).kernel mid c.barrier.ensures.untouched.kernel.kernel) c.in-Ok-restore.ensures.quiet
 
 pub returns-in-Ok-restore-clause-gave : goal.returns-in-Ok-restore-clause-gave
 returns-in-Ok-restore-clause-gave g c = λ tells was. c.in-Ok-restore.ensures.gave tells

@@ -1,8 +1,9 @@
-use Rattle.std.proofs.Common.{◌≡◌, ◌∙◌, inl, List, Option, Some, Err, sym, ap, subst}
+use Rattle.std.proofs.Common.{◌≡◌, ◌∙◌, ◌≤◌, ℕ, inl, List, Option, Some, sym, ap, subst, arith}
 use Rattle.std.proofs.lemmas.Result.{on_ok_weaker}
 use Rattle.net_model.specs.NetData.{NetData, IsNet}
 use Rattle.net_model.specs.declared.Call.{Call}
 use Rattle.kernel_model.specs.Runs.{Runs}
+use Rattle.host_core.specs.Faults.{Rose}
 use Rattle.host_core.specs.HostView.{State, Kernel, HasNet}
 use Rattle.checkpoint_cell.specs.declared.Phase.TheVariants.{Applying}
 use Rattle.checkpoint_cell.specs.Cell.{Checkpoint, in_phase, applying, saved_net}
@@ -19,12 +20,18 @@ use Rattle.std.specs.declared.alloc.Global.{Global}
 use Rattle.engine_model.specs.Machine.{saved_on}
 use Rattle.engine_model.proofs.lemmas.Finding.{finds_as, finds_done, found_saved}
 use Rattle.engine_model.specs.Refusals.{NoCallMade}
-use Rattle.engine_model.proofs.lemmas.Refusals.{unmade_quiet, unmade_on, back_after, back_unmade}
+use Rattle.engine_model.specs.Answers.{IsBefore}
+use Rattle.engine_model.specs.Failing.{Fails}
+use Rattle.engine_model.proofs.lemmas.Refusals.{quiet_on, unmade_quiet, unmade_on}
+use Rattle.engine_model.proofs.lemmas.Failing.{fails_late}
 use Rattle.engine_restore.specs.Given.{IsGiven}
-use Rattle.engine_restore.proofs.Gives.{gave_saved}
+use Rattle.engine_restore.proofs.Gives.{gave_saved, if_err_both, if_err_never}
 use Rattle.engine_restore.proofs.Compares.{restored_net, none_here}
 use Rattle.engine_restore.proofs.restoring.restore.Goals as goal
 use Rattle.engine_restore.proofs.restoring.restore.Goals.{After-take_up, After-undo}
+
+later_rose : (a b c : ℕ) → a ≤ b → Rose b c → Rose a c
+later_rose a b c le rose = omega arith
 
 -- what is known before the change is taken up
 record Ready (g : _) (c : After-take_up g) (checkpoint : Checkpoint) (saved : NetData) : Type 0 where
@@ -117,9 +124,10 @@ returns-in-Ok-take_up-clause-exact g c = λ honest checkpoint holds.
     let is = c.in-Ok.ensures.exact honest checkpoint holds in
     let has = found_saved checkpoint.net (g.H.Host.told c.args.host.now).state.net is.0 is.1 in
     let k = known g (goal.at.returns-in-Ok-take_up-clause-exact g c).After-take_up checkpoint is.0 honest holds has in
+    let zero : (g.H.Host.told c.take_up.new.host).kernel.calls ≡ 0 = ap (λ (k : Kernel). k.calls) c.take_up.ensures.kernel.kernel ∙ c.in-Ok.ensures.calls in
     finds_done found is.0 is.1 c.undo.result
     (c.undo.ensures.healthy honest k.from is.0 (c.take_up.ensures.kernel.net tells ∙ k.net) (subst (λ (l : List Call). Runs l k.from is.0) (sym c.deref.ensures.value) k.runs))
-    c.undo.ensures.set_there
+    (if_err_never ⊤ g.H.Host.tells (g.H.Host.told c.take_up.new.host) (g.H.Host.told c.undo.new.host) c.undo.result (c.undo.ensures.fails zero))
 
 pub returns-in-Ok-take_up-clause-reads : goal.returns-in-Ok-take_up-clause-reads
 returns-in-Ok-take_up-clause-reads g c = λ honest.
@@ -137,23 +145,36 @@ returns-in-Ok-take_up-clause-reads g c = λ honest.
     restored_net is.0 (g.H.Host.told c.take_up.new.host) new c.undo.result ((g.met.H.Host.lawful c.undo.new.host).reads tells) cell
     (c.undo.ensures.ends honest k.from is.0 (c.take_up.ensures.kernel.net tells ∙ k.net) (subst (λ (l : List Call). Runs l k.from is.0) (sym c.deref.ensures.value) k.runs)) (c.undo.ensures.saved tells)
 
--- ---- what is counted, and what was given
-
-pub returns-in-Err-clause-counts : goal.returns-in-Err-clause-counts
-returns-in-Err-clause-counts g c =
-    back_unmade (g.H.Host.told c.args.host.now).kernel (g.H.Host.told c.ready.new.host).kernel c.in-Err.fault c.ready.ensures.unmade (λ k n left is. c.in-Err.ensures.refused k n left (ap (λ e. Err e) is))
+-- ---- on every host
 
 -- no call was made before the planned ones
 unmade : (g : _) (c : After-take_up g) → NoCallMade (g.H.Host.told c.args.host.now).kernel (g.H.Host.told c.take_up.new.host).kernel
 unmade g c = unmade_on (g.H.Host.told c.args.host.now).kernel (g.H.Host.told c.ready.new.host).kernel (g.H.Host.told c.take_up.new.host).kernel c.ready.ensures.unmade (inl c.take_up.ensures.kernel.kernel)
 
-pub returns-clause-counts : goal.returns-clause-counts
-returns-clause-counts g c = unmade_quiet (g.H.Host.told c.args.host.now).kernel (g.H.Host.told c.take_up.new.host).kernel (unmade g (goal.at.returns-clause-counts g c).After-take_up)
+pub returns-in-Err-clause-fails : goal.returns-in-Err-clause-fails
+returns-in-Err-clause-fails g c = c.in-Err.ensures.fails
 
-pub returns-in-Ok-take_up-clause-counts : goal.returns-in-Ok-take_up-clause-counts
-returns-in-Ok-take_up-clause-counts g c =
-    back_after (g.H.Host.told c.args.host.now).kernel (g.H.Host.told c.take_up.new.host).kernel (g.H.Host.told c.undo.new.host).kernel c.undo.result (unmade g (goal.at.returns-in-Ok-take_up-clause-counts g c).After-take_up)
-    (c.undo.ensures.counts (ap (λ (k : Kernel). k.calls) c.take_up.ensures.kernel.kernel ∙ c.in-Ok.ensures.calls))
+pub returns-clause-fails : goal.returns-clause-fails
+returns-clause-fails g c = (
+  later_rose (g.H.Host.told c.args.host.now).faults (g.H.Host.told c.ready.new.host).faults (g.H.Host.told c.take_up.new.host).faults c.ready.ensures.later c.in-Err-take_up.ensures.cause.failed,
+  unmade_quiet (g.H.Host.told c.args.host.now).kernel (g.H.Host.told c.take_up.new.host).kernel (unmade g (goal.at.returns-clause-fails g c).After-take_up),
+)
+
+pub returns-in-Ok-take_up-clause-fails : goal.returns-in-Ok-take_up-clause-fails
+returns-in-Ok-take_up-clause-fails g c =
+    let old = g.H.Host.told c.args.host.now in
+    let mid = g.H.Host.told c.take_up.new.host in
+    let new = g.H.Host.told c.undo.new.host in
+    let zero : mid.kernel.calls ≡ 0 = ap (λ (k : Kernel). k.calls) c.take_up.ensures.kernel.kernel ∙ c.in-Ok.ensures.calls in
+    if_err_both c.undo.result (λ fault. IsBefore fault → ⊥) (λ fault. Fails g.H.Host.tells mid new fault) (λ fault. Fails g.H.Host.tells old new fault)
+    (λ fault begun fails. fails_late g.H.Host.tells old mid new (omega (arith, c.ready.ensures.later, c.take_up.ensures.cause.later)) (unmade g (goal.at.returns-in-Ok-take_up-clause-fails g c).After-take_up) fault begun fails)
+    c.undo.ensures.begun (c.undo.ensures.fails zero)
+
+pub returns-in-Ok-take_up-clause-quiet : goal.returns-in-Ok-take_up-clause-quiet
+returns-in-Ok-take_up-clause-quiet g c =
+    let old = (g.H.Host.told c.args.host.now).kernel in
+    let mid = (g.H.Host.told c.take_up.new.host).kernel in
+    on_ok_weaker c.undo.result (λ quiet. quiet_on old mid (g.H.Host.told c.undo.new.host).kernel (unmade_quiet old mid (unmade g (goal.at.returns-in-Ok-take_up-clause-quiet g c).After-take_up)) quiet) c.undo.ensures.quiet
 
 pub returns-in-Ok-take_up-clause-gave : goal.returns-in-Ok-take_up-clause-gave
 returns-in-Ok-take_up-clause-gave g c = λ tells.

@@ -1,7 +1,8 @@
-use Rattle.std.proofs.Common.{◌≡◌, ◌∙◌, Option, Some, None, Err, ℕ, ap, subst, refl}
+use Rattle.std.proofs.Common.{◌≡◌, ◌∙◌, ◌≤◌, Option, Some, None, Err, ℕ, ap, subst, refl, arith}
 use Rattle.net_model.specs.NetData.{NetData, IsNet}
 use Rattle.kernel_model.specs.Runs.{Runs}
-use Rattle.host_core.specs.HostView.{HasNet, Kernel}
+use Rattle.host_core.specs.Faults.{Rose}
+use Rattle.host_core.specs.HostView.{HasNet, Kernel, NoneRefused}
 use Rattle.checkpoint_cell.specs.Cell.{applying}
 use Rattle.checkpoint_cell.specs.Steps.{Holds, NoneOr}
 use Rattle.checkpoint_cell.specs.Settled.{Standing}
@@ -34,6 +35,9 @@ returns-in-Err-OutOfMemory-clause-kept g c = λ honest sound made deadline from 
 pub returns-in-Err-Refused-clause-healthy : goal.returns-in-Err-Refused-clause-healthy
 returns-in-Err-Refused-clause-healthy g c = λ honest from saved is runs. c.in-Err-Refused.ensures.accepted honest from saved is runs _ _ (ap (λ e. Err e) c.in-Err-Refused.field-0-is)
 
+later_rose : (a b c : ℕ) → a ≤ b → Rose b c → Rose a c
+later_rose a b c le rose = omega arith
+
 done : (g : _) (c : After-clear g) → g.H.Host.honest → Sound (g.H.Host.told c.args.host.now) → (made deadline : ℕ) (from saved : NetData) → Ends (stand from (Some (applying made deadline saved))) (g.H.Host.told c.args.host.now)
     → (g.H.Host.told c.args.host.now).state.net ≡ Some from → IsNet from → Runs c.args.calls.now from saved
     → Kept (Only (restored_to saved)) (g.H.Host.told c.args.host.now) (g.H.Host.told c.clear.new.host)
@@ -64,31 +68,35 @@ returns-in-Ok-clear-clause-ends g c = λ honest from saved is runs.
     let nets : HasNet (Some saved) mid = subst (λ (n : Option NetData). HasNet n mid) (c.in-Ok.ensures.reached honest from saved is runs) ((g.met.H.Host.lawful c.run.new.host).no_doubt tells c.in-Ok.ensures.settled) in
     ends_held saved None new (λ s left. let was = c.clear.ensures.stops_net.now s left in was.2 ∙ nets was.0 was.1) (c.in-Ok-clear.ensures.cleared tells)
 
--- ---- what is counted
+-- ---- on every host
 
-pub returns-in-Err-Refused-clause-counts : goal.returns-in-Err-Refused-clause-counts
-returns-in-Err-Refused-clause-counts g c = λ zero. (
+pub returns-in-Err-Refused-clause-fails : goal.returns-in-Err-Refused-clause-fails
+returns-in-Err-Refused-clause-fails g c = λ zero. (
+  refl,
   c.in-Err-Refused.ensures.refused _ _ (ap (λ e. Err e) c.in-Err-Refused.field-0-is) zero,
   c.in-Err-Refused.ensures.once _ _ (ap (λ e. Err e) c.in-Err-Refused.field-0-is),
 )
 
-pub returns-in-Err-Failed-clause-counts : goal.returns-in-Err-Failed-clause-counts
-returns-in-Err-Failed-clause-counts g c = λ zero. c.in-Err-Failed.ensures.quiet (λ k n is. cc)
+pub returns-in-Err-Failed-clause-fails : goal.returns-in-Err-Failed-clause-fails
+returns-in-Err-Failed-clause-fails g c = λ zero. (c.in-Err-Failed.ensures.cause.failed (ap (λ e. Err e) c.in-Err-Failed.field-0-is), c.in-Err-Failed.ensures.quiet (λ k n is. cc))
 
-pub returns-in-Err-OutOfMemory-clause-counts : goal.returns-in-Err-OutOfMemory-clause-counts
-returns-in-Err-OutOfMemory-clause-counts g c = λ zero. c.in-Err-OutOfMemory.ensures.quiet (λ k n is. cc)
+pub returns-in-Err-OutOfMemory-clause-fails : goal.returns-in-Err-OutOfMemory-clause-fails
+returns-in-Err-OutOfMemory-clause-fails g c = λ zero. c.in-Err-OutOfMemory.ensures.quiet (λ k n is. cc)
 
-pub returns-in-Ok-clear-clause-counts : goal.returns-in-Ok-clear-clause-counts
-returns-in-Ok-clear-clause-counts g c = λ zero.
+cleared_quiet : (g : _) (c : After-clear g) → NoneRefused (g.H.Host.told c.args.host.now).kernel (g.H.Host.told c.clear.new.host).kernel
+cleared_quiet g c =
     let mid = (g.H.Host.told c.run.new.host).kernel in
     let new = (g.H.Host.told c.clear.new.host).kernel in
     quiet_on (g.H.Host.told c.args.host.now).kernel mid new (c.in-Ok.ensures.quiet (λ k n is. cc)) (quiet_same mid new c.clear.ensures.kernel.kernel)
 
-pub returns-in-Err-clause-counts : goal.returns-in-Err-clause-counts
-returns-in-Err-clause-counts g c = λ zero.
-    let mid = (g.H.Host.told c.run.new.host).kernel in
-    let new = (g.H.Host.told c.clear.new.host).kernel in
-    quiet_on (g.H.Host.told c.args.host.now).kernel mid new (c.in-Ok.ensures.quiet (λ k n is. cc)) (quiet_same mid new c.clear.ensures.kernel.kernel)
+pub returns-in-Err-clause-fails : goal.returns-in-Err-clause-fails
+returns-in-Err-clause-fails g c = λ zero. (
+  later_rose (g.H.Host.told c.args.host.now).faults (g.H.Host.told c.run.new.host).faults (g.H.Host.told c.clear.new.host).faults c.run.ensures.cause.later c.in-Err.ensures.cause.failed,
+  cleared_quiet g (goal.at.returns-in-Err-clause-fails g c).After-clear,
+)
+
+pub returns-in-Ok-clear-clause-quiet : goal.returns-in-Ok-clear-clause-quiet
+returns-in-Ok-clear-clause-quiet g c = cleared_quiet g (goal.at.returns-in-Ok-clear-clause-quiet g c).After-clear
 
 pub returns-in-Ok-clear-clause-made : goal.returns-in-Ok-clear-clause-made
 returns-in-Ok-clear-clause-made g c = λ zero. ap (λ (k : Kernel). k.calls) c.clear.ensures.kernel.kernel ∙ c.in-Ok.ensures.made zero

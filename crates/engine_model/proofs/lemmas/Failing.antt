@@ -1,0 +1,108 @@
+-- Faults of restorings, over two steps, and what follows of each.
+use Rattle.std.proofs.Common.{◌≡◌, ◌≤◌, ◌∙◌, inl, inr, arith, ℕ, sym, ap, subst, Result, Ok, Err}
+use Rattle.host_core.specs.Faults.{Rose}
+use Rattle.host_core.specs.HostView.{State, HostView, WasRefused, NoneRefused, Untouched}
+use Rattle.engine_model.specs.Refusals.{NoCallMade, FewRefused, BackCounts}
+use Rattle.engine_model.specs.Answers.{IsBefore}
+use Rattle.engine_model.specs.Faults.{IsDamaged}
+use Rattle.engine_model.specs.Failing.{IsUnbegun, Fails}
+use Rattle.engine_model.specs.declared.answers.Left.{Left}
+use Rattle.engine_model.specs.declared.answers.Left.TheVariants.{NotBegun, RolledBack, Pending}
+use Rattle.engine_model.specs.declared.answers.BackFault.{BackFault}
+use Rattle.engine_model.specs.declared.answers.BackFault.TheVariants.{NoCheckpoint, HostFault, KernelRefused, Damaged, HardwareDiffers, OutOfMemory}
+use Rattle.engine_model.proofs.lemmas.Leading.{both, same_state}
+use Rattle.engine_model.proofs.lemmas.Refusals.{quiet_on, unmade_quiet, unmade_on, refused_after, once_after}
+
+rose_after : (a b c : ℕ) → a ≤ b → Rose b c → Rose a c
+rose_after a b c le rose = omega arith
+
+-- a look begins nothing
+pub looked : (tells : Type 0) (a b : HostView) → Untouched tells a b → IsUnbegun tells a b
+looked tells a b same = record { stops = same.stops; same = same_state tells a b same; unmade = inl same.kernel.kernel }
+
+-- nothing was begun, and then again nothing
+pub unbegun_on : (tells : Type 0) (a b c : HostView) → IsUnbegun tells a b → IsUnbegun tells b c → IsUnbegun tells a c
+unbegun_on tells a b c one two = record {
+  stops = both a.stops b.stops c.stops one.stops two.stops;
+  same = λ told. two.same told ∙ one.same told;
+  unmade = unmade_on a.kernel b.kernel c.kernel one.unmade two.unmade;
+}
+
+-- no call was refused then
+pub unbegun_quiet : (tells : Type 0) (a b : HostView) → IsUnbegun tells a b → NoneRefused a.kernel b.kernel
+unbegun_quiet tells a b one = unmade_quiet a.kernel b.kernel one.unmade
+
+module _ (tells : Type 0) (a b c : HostView) (later : a.faults ≤ b.faults) where
+  refused_on : (k n : ℕ) → NoneRefused a.kernel b.kernel → WasRefused k n b.kernel c.kernel → WasRefused k n a.kernel c.kernel
+  refused_on k n one two = refused_after k n a.kernel b.kernel c.kernel one two
+
+  -- a fault of a restoring before which nothing was begun
+  pub fails_after : IsUnbegun tells a b → (fault : BackFault) → Fails tells b c fault → Fails tells a c fault
+  fails_after one NoCheckpoint f = absurd f
+  fails_after one (HostFault NotBegun) f = (rose_after a.faults b.faults c.faults later f.0, unbegun_on tells a b c one f.1)
+  fails_after one (HostFault RolledBack) f = absurd f
+  fails_after one (HostFault Pending) f = (rose_after a.faults b.faults c.faults later f.0, quiet_on a.kernel b.kernel c.kernel (unbegun_quiet tells a b one) f.1)
+  fails_after one (KernelRefused k n left) f = (f.0, refused_on k n (unbegun_quiet tells a b one) f.1, once_after a.kernel b.kernel c.kernel (unbegun_quiet tells a b one) f.2)
+  fails_after one (Damaged area) f = (unbegun_on tells a b c one f.0, λ told. subst (λ (s : State). IsDamaged area s) (one.same told) (f.1 told))
+  fails_after one (HardwareDiffers names) f = (unbegun_on tells a b c one f.0, f.1)
+  fails_after one OutOfMemory f = quiet_on a.kernel b.kernel c.kernel (unbegun_quiet tells a b one) f
+
+  -- one that tells that something was begun, before which no call was made
+  pub fails_late : NoCallMade a.kernel b.kernel → (fault : BackFault) → (IsBefore fault → ⊥) → Fails tells b c fault → Fails tells a c fault
+  fails_late one NoCheckpoint begun f = absurd f
+  fails_late one (HostFault NotBegun) begun f = absurd (begun tt)
+  fails_late one (HostFault RolledBack) begun f = absurd f
+  fails_late one (HostFault Pending) begun f = (rose_after a.faults b.faults c.faults later f.0, quiet_on a.kernel b.kernel c.kernel (unmade_quiet a.kernel b.kernel one) f.1)
+  fails_late one (KernelRefused k n left) begun f = (f.0, refused_on k n (unmade_quiet a.kernel b.kernel one) f.1, once_after a.kernel b.kernel c.kernel (unmade_quiet a.kernel b.kernel one) f.2)
+  fails_late one (Damaged area) begun f = absurd (begun tt)
+  fails_late one (HardwareDiffers names) begun f = absurd (begun tt)
+  fails_late one OutOfMemory begun f = quiet_on a.kernel b.kernel c.kernel (unmade_quiet a.kernel b.kernel one) f
+
+module _ (tells : Type 0) (a b : HostView) where
+  -- nothing was begun where the fault says so
+  pub fails_before : (fault : BackFault) → Fails tells a b fault → IsBefore fault → IsUnbegun tells a b
+  fails_before NoCheckpoint f before = absurd f
+  fails_before (HostFault NotBegun) f before = f.1
+  fails_before (HostFault RolledBack) f before = absurd f
+  fails_before (HostFault Pending) f before = absurd before
+  fails_before (KernelRefused k n left) f before = absurd before
+  fails_before (Damaged area) f before = f.0
+  fails_before (HardwareDiffers names) f before = f.0
+  fails_before OutOfMemory f before = absurd before
+
+  -- it never tells that there is no checkpoint
+  pub fails_set : (fault : BackFault) → Fails tells a b fault → fault ≡ NoCheckpoint → ⊥
+  fails_set fault f is = subst (λ (x : BackFault). Fails tells a b x) is f
+
+  -- what every host counts
+  pub fails_counts : (A : Type 0) (fault : BackFault) → Fails tells a b fault → BackCounts {A = A} a.kernel b.kernel (Err fault)
+  fails_counts A NoCheckpoint f = absurd f
+  fails_counts A (HostFault NotBegun) f = f.1.unmade
+  fails_counts A (HostFault RolledBack) f = absurd f
+  fails_counts A (HostFault Pending) f = f.1
+  fails_counts A (KernelRefused k n left) f = (f.1, f.2)
+  fails_counts A (Damaged area) f = f.0.unmade
+  fails_counts A (HardwareDiffers names) f = f.0.unmade
+  fails_counts A OutOfMemory f = f
+
+  -- at most one call was refused, and none unless the fault tells of it
+  pub fails_few : (fault : BackFault) → Fails tells a b fault → FewRefused a.kernel b.kernel
+  fails_few NoCheckpoint f = absurd f
+  fails_few (HostFault NotBegun) f = inl (unbegun_quiet tells a b f.1)
+  fails_few (HostFault RolledBack) f = absurd f
+  fails_few (HostFault Pending) f = inl f.1
+  fails_few (KernelRefused k n left) f = inr f.2
+  fails_few (Damaged area) f = inl (unbegun_quiet tells a b f.0)
+  fails_few (HardwareDiffers names) f = inl (unbegun_quiet tells a b f.0)
+  fails_few OutOfMemory f = inl f
+
+  -- where it tells of a host fault, that count rose and no call was refused
+  pub fails_rose : (left : Left) → Fails tells a b (HostFault left) → Rose a.faults b.faults
+  fails_rose NotBegun f = f.0
+  fails_rose RolledBack f = absurd f
+  fails_rose Pending f = f.0
+
+  pub fails_quiet : (left : Left) → Fails tells a b (HostFault left) → NoneRefused a.kernel b.kernel
+  fails_quiet NotBegun f = unbegun_quiet tells a b f.1
+  fails_quiet RolledBack f = absurd f
+  fails_quiet Pending f = f.1

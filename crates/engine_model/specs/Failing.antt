@@ -1,0 +1,27 @@
+-- What a fault of a restoring says on every host, from where the restoring began.
+use Rattle.std.specs.Prelude.{◌≡◌}
+use Rattle.host_core.specs.Faults.{Rose}
+use Rattle.host_core.specs.HostView.{HostView, WasRefused, NoneRefused}
+use Rattle.host_core.specs.Stops.{Steps, Stays}
+use Rattle.engine_model.specs.Refusals.{NoCallMade, RefusedOnce}
+use Rattle.engine_model.specs.Faults.{IsDamaged, Differs}
+use Rattle.engine_model.specs.declared.answers.Left.TheVariants.{NotBegun, RolledBack, Pending}
+use Rattle.engine_model.specs.declared.answers.BackFault.{BackFault}
+use Rattle.engine_model.specs.declared.answers.BackFault.TheVariants.{NoCheckpoint, HostFault, KernelRefused, Damaged, HardwareDiffers, OutOfMemory}
+
+-- nothing was begun: no stop leaves more than before, the host reads as it did, and no kernel call was made
+pub record IsUnbegun (tells : Type 0) (old new : HostView) : Type 0 where
+  pub stops : Steps Stays old.stops new.stops
+  pub same : tells → new.state ≡ old.state
+  pub unmade : NoCallMade old.kernel new.kernel
+
+-- Where the type is empty (⊥), it never tells this fault.
+abbrev pub Fails : Type 0 → HostView → HostView → BackFault → Type 0
+Fails tells old new NoCheckpoint = ⊥
+Fails tells old new (HostFault NotBegun) = Rose old.faults new.faults × IsUnbegun tells old new
+Fails tells old new (HostFault RolledBack) = ⊥
+Fails tells old new (HostFault Pending) = Rose old.faults new.faults × NoneRefused old.kernel new.kernel
+Fails tells old new (KernelRefused k n left) = (left ≡ Pending) × WasRefused k n old.kernel new.kernel × RefusedOnce old.kernel new.kernel
+Fails tells old new (Damaged area) = IsUnbegun tells old new × (tells → IsDamaged area old.state)
+Fails tells old new (HardwareDiffers names) = IsUnbegun tells old new × (tells → Differs names new)
+Fails tells old new OutOfMemory = NoneRefused old.kernel new.kernel
