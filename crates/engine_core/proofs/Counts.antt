@@ -1,8 +1,8 @@
 -- What the answers of an apply say of refused calls, carried through its parts.
-use Rattle.std.proofs.Common.{◌≡◌, inl, inr, arith, ℕ, refl, subst, sym, Result, Ok, Err}
+use Rattle.std.proofs.Common.{◌≡◌, inl, inr, ℕ, refl, subst, sym, Result, Ok, Err}
 use Rattle.std.specs.Prelude.{IfErr}
 use Rattle.document_model.specs.declared.Doc.{Doc}
-use Rattle.host_core.specs.Faults.{Rose}
+use Rattle.host_core.proofs.lemmas.Counts.{rose_both}
 use Rattle.host_core.specs.HostView.{Kernel, HostView, WasRefused, NoneRefused}
 use Rattle.engine_model.specs.Machine.{apply_fault}
 use Rattle.engine_model.specs.Failing.{Fails}
@@ -19,9 +19,6 @@ use Rattle.engine_model.proofs.lemmas.Failing.{unbegun_quiet, fails_quiet, fails
 use Rattle.engine_core.specs.declared.missed.Missed.{Missed}
 use Rattle.engine_core.specs.declared.missed.Missed.TheVariants as missed
 use Rattle.engine_core.specs.Saying.{Start, Why, taken_back_as, pending_as, damaged_as, stopped_as}
-
-rose_both : (a b c : ℕ) → Rose a b → Rose b c → Rose a c
-rose_both a b c one two = omega arith
 
 -- one was refused, and then another
 refused_both : (j m k n : ℕ) (a b c : Kernel) → WasRefused j m a b → WasRefused k n b c → WasRefused k n a c

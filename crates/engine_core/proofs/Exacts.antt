@@ -28,7 +28,7 @@ use Rattle.engine_core.specs.Attempts.{done, IsFault}
 use Rattle.engine_core.specs.Applying.{Hurt}
 use Rattle.engine_core.specs.Saying.{taken_back_as, pending_as, damaged_as, stopped_as}
 use Rattle.engine_core.proofs.Applies.{Made, made_as, done_is, answers_as}
-use Rattle.engine_core.proofs.Says.{rose_after, rose_before}
+use Rattle.host_core.proofs.lemmas.Counts.{rose_after, rose_before}
 use Rattle.engine_model.proofs.lemmas.Backs.{recover_empty}
 use Rattle.engine_model.proofs.lemmas.Finding.{recover_exact, found_saved}
 use Rattle.checkpoint_cell.specs.Settled.{taken_back}

@@ -1,7 +1,8 @@
 -- What an apply leaves, by how its parts end.
 use Rattle.std.proofs.Common.{◌≡◌, inl, inr, ℕ, ◌≤◌, arith, refl, sym, ap, ◌∙◌, subst, Bool, true, false, Some, Result, Ok, Err}
 use Rattle.net_model.specs.NetData.{NetData}
-use Rattle.host_core.specs.Faults.{Rose, RoseTwice}
+use Rattle.host_core.specs.Faults.{Rose}
+use Rattle.host_core.proofs.lemmas.Counts.{rose_after, rose_before, rose_twice, twice_after}
 use Rattle.host_core.specs.HostView.{HostView, HasNet}
 use Rattle.checkpoint_cell.specs.Settled.{Standing, standing}
 use Rattle.engine_model.specs.Undone.{undone, stand}
@@ -63,18 +64,12 @@ pub sealed_net : (no_commit : Bool) (made deadline : ℕ) (from : NetData) (host
 sealed_net true made deadline from host holds = saved_is _ host.state.cell holds.cell
 sealed_net false made deadline from host holds = saved_is _ host.state.cell holds.cell
 
-twice : (a b c : ℕ) → Rose a b → Rose b c → RoseTwice a c
-twice a b c one two = omega arith
-
-once : (a b c : ℕ) → Rose a b → b ≤ c → Rose a c
-once a b c one le = omega arith
-
 module _ (asked : Asked) (before : Standing) (change : Change asked before) (old mid : ℕ) (new : HostView) (onway : AllNear (IsOnWay asked.no_commit asked.made asked.deadline change.from change.to) new) where
   failed_exit : (fault : ApplyFault) → Rose old mid → mid ≤ new.faults → GaveUp change.from mid fault new → Exit asked before old (Err fault) new
   failed_exit (HostFault RolledBack) rose later gave = subst (λ (x : Standing). Ends x new) (sym change.stood) gave
-  failed_exit (HostFault Pending) rose later gave = (twice old mid new.faults rose gave, (change, onway))
+  failed_exit (HostFault Pending) rose later gave = (rose_twice old mid new.faults rose gave, (change, onway))
   failed_exit (HostFault NotBegun) rose later gave = absurd gave
-  failed_exit OutOfMemory rose later gave = inr (once old mid new.faults rose later, (change, onway))
+  failed_exit OutOfMemory rose later gave = inr (rose_before old mid new.faults rose later, (change, onway))
   failed_exit (fault.Pending deadline) rose later gave = absurd gave
   failed_exit (fault.MergeRefused r) rose later gave = absurd gave
   failed_exit (fault.KernelRefused k n left) rose later gave = absurd gave
@@ -104,20 +99,14 @@ left_exit asked before faults NotBegun new not ends = ends
 left_exit asked before faults RolledBack new not ends = ends
 left_exit asked before faults Pending new not ends = absurd (not refl)
 
-twice_later : (a b c : ℕ) → a ≤ b → RoseTwice b c → RoseTwice a c
-twice_later a b c le rose = omega arith
-
-pub rose_later : (a b c : ℕ) → a ≤ b → Rose b c → Rose a c
-rose_later a b c le rose = omega arith
-
 -- a call that began earlier
 pub exit_later : (asked : Asked) (before : Standing) (old mid : ℕ) (result : Result Applied ApplyFault) (new : HostView) → old ≤ mid → Exit asked before mid result new → Exit asked before old result new
 exit_later asked before old mid (Ok applied) new le exit = exit
 exit_later asked before old mid (Err (HostFault NotBegun)) new le exit = exit
 exit_later asked before old mid (Err (HostFault RolledBack)) new le exit = exit
-exit_later asked before old mid (Err (HostFault Pending)) new le exit = (twice_later old mid new.faults le exit.0, exit.1)
+exit_later asked before old mid (Err (HostFault Pending)) new le exit = (twice_after old mid new.faults le exit.0, exit.1)
 exit_later asked before old mid (Err OutOfMemory) new le (inl near) = inl near
-exit_later asked before old mid (Err OutOfMemory) new le (inr way) = inr (rose_later old mid new.faults le way.0, way.1)
+exit_later asked before old mid (Err OutOfMemory) new le (inr way) = inr (rose_after old mid new.faults le way.0, way.1)
 exit_later asked before old mid (Err (fault.Pending deadline)) new le exit = exit
 exit_later asked before old mid (Err (fault.MergeRefused r)) new le exit = exit
 exit_later asked before old mid (Err (fault.KernelRefused k n left)) new le exit = exit

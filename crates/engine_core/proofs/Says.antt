@@ -7,6 +7,7 @@ use Rattle.document_model.specs.declared.Refused.{Refused}
 use Rattle.host_core.specs.Faults.{Rose}
 use Rattle.host_core.specs.HostView.{State, HostView, NoneRefused}
 use Rattle.host_core.specs.Stops.{Steps, Stays, IsLawful}
+use Rattle.host_core.proofs.lemmas.Counts.{rose_after, rose_before}
 use Rattle.checkpoint_cell.specs.Cell.{Checkpoint, cell_of, saved_net}
 use Rattle.checkpoint_cell.specs.Settled.{standing, taken_back}
 use Rattle.checkpoint_cell.specs.declared.Phase.{Phase}
@@ -33,14 +34,6 @@ use Rattle.engine_core.specs.Saying.{Start, start_of, Follows, DamagedSince, IsS
 
 abbrev merged_with : NetData → Result NetData Refused
 merged_with to = Ok to
-
--- ---- faults that came since
-
-pub rose_after : (a b c : ℕ) → a ≤ b → Rose b c → Rose a c
-rose_after a b c le rose = omega arith
-
-pub rose_before : (a b c : ℕ) → Rose a b → b ≤ c → Rose a c
-rose_before a b c rose le = omega arith
 
 pub follows_on : (start : Start) (old mid : HostView) → Follows start old → old.faults ≤ mid.faults → old.stops.moment ≤ mid.stops.moment → NoneRefused old.kernel mid.kernel → Follows start mid
 follows_on start old mid follows faults moment quiet = record {

@@ -3,7 +3,8 @@ use Rattle.std.proofs.Common.{◌≡◌, ◌≢◌, ◌⊎◌, ◌≤◌, ◌∙
 use Rattle.std.specs.Prelude.{OnOk, OnErr, IfErr}
 use Rattle.net_model.specs.NetData.{NetData}
 use Rattle.document_model.specs.declared.Doc.{Doc}
-use Rattle.host_core.specs.Faults.{Rose, RoseTwice}
+use Rattle.host_core.specs.Faults.{Rose}
+use Rattle.host_core.proofs.lemmas.Counts.{rose_before, rose_twice, twice_after}
 use Rattle.host_core.specs.HostView.{State, HostView}
 use Rattle.checkpoint_cell.specs.Cell.{Checkpoint, cell_of, saved_net, in_phase}
 use Rattle.checkpoint_cell.specs.Steps.{EitherPhase}
@@ -25,12 +26,6 @@ use Rattle.engine_core.specs.declared.missed.Missed.TheVariants as missed
 use Rattle.engine_core.specs.Attempts.{IsFault}
 use Rattle.engine_core.specs.Saying.{Start, Why, taken_back_as, pending_as, damaged_as, stopped_as}
 
-twice : (a b c : ℕ) → Rose a b → Rose b c → RoseTwice a c
-twice a b c one two = omega arith
-
-once_more : (a b c : ℕ) → Rose a b → b ≤ c → Rose a c
-once_more a b c rose le = omega arith
-
 -- ---- what was tried
 
 -- the change was taken back
@@ -46,8 +41,8 @@ module _ (tells : Type 0) (doc : Doc) (start : Start) (old new : HostView) (late
     -- the host failed, and then the restoring didn't come to its end
     failed_tries : (fault : BackFault) → Fails tells old new fault → Rose start.faults old.faults → Tries excuse start.faults start.kernel.refusals new (Err (pending_as fault))
     failed_tries ba.NoCheckpoint fails was = tt
-    failed_tries (ba.HostFault left) fails was = inr (inl (twice start.faults old.faults new.faults was (fails_rose tells old new left fails)))
-    failed_tries (ba.KernelRefused k n left) fails was = inr (inr (once_more start.faults old.faults new.faults was later))
+    failed_tries (ba.HostFault left) fails was = inr (inl (rose_twice start.faults old.faults new.faults was (fails_rose tells old new left fails)))
+    failed_tries (ba.KernelRefused k n left) fails was = inr (inr (rose_before start.faults old.faults new.faults was later))
     failed_tries (ba.Damaged area) fails was = tt
     failed_tries (ba.HardwareDiffers names) fails was = tt
     failed_tries ba.OutOfMemory fails was = tt
@@ -56,7 +51,7 @@ module _ (tells : Type 0) (doc : Doc) (start : Start) (old new : HostView) (late
     refused_tries : (fault : BackFault) → Fails tells old new fault → Rose start.kernel.refusals old.kernel.refusals → Tries excuse start.faults start.kernel.refusals new (Err (pending_as fault))
     refused_tries ba.NoCheckpoint fails was = tt
     refused_tries (ba.HostFault left) fails was = inr (inr (subst (λ (r : ℕ). Rose start.kernel.refusals r) (sym (fails_quiet tells old new left fails).refusals) was))
-    refused_tries (ba.KernelRefused k n left) fails was = inr (inl (twice start.kernel.refusals old.kernel.refusals new.kernel.refusals was fails.1.rose))
+    refused_tries (ba.KernelRefused k n left) fails was = inr (inl (rose_twice start.kernel.refusals old.kernel.refusals new.kernel.refusals was fails.1.rose))
     refused_tries (ba.Damaged area) fails was = tt
     refused_tries (ba.HardwareDiffers names) fails was = tt
     refused_tries ba.OutOfMemory fails was = tt
@@ -142,7 +137,7 @@ taken_twice taken faults new missed.OutOfMemory = tt
 
 pending_twice : (taken tells : Type 0) (start : ℕ) (old new : HostView) (fault : BackFault) → Rose start old.faults → Fails tells old new fault → FailsTwice taken start new (Err (pending_as fault))
 pending_twice taken tells start old new ba.NoCheckpoint was fails = tt
-pending_twice taken tells start old new (ba.HostFault left) was fails = inr (twice start old.faults new.faults was (fails_rose tells old new left fails))
+pending_twice taken tells start old new (ba.HostFault left) was fails = inr (rose_twice start old.faults new.faults was (fails_rose tells old new left fails))
 pending_twice taken tells start old new (ba.KernelRefused k n left) was fails = tt
 pending_twice taken tells start old new (ba.Damaged area) was fails = tt
 pending_twice taken tells start old new (ba.HardwareDiffers names) was fails = tt
@@ -175,7 +170,7 @@ twice_before taken start faults new (Err (ap_.MergeRefused refused)) le twice = 
 twice_before taken start faults new (Err (ap_.HostFault NotBegun)) le twice = tt
 twice_before taken start faults new (Err (ap_.HostFault RolledBack)) le twice = tt
 twice_before taken start faults new (Err (ap_.HostFault Pending)) le (inl none) = absurd none
-twice_before taken start faults new (Err (ap_.HostFault Pending)) le (inr rose) = inr (omega (arith, le, rose))
+twice_before taken start faults new (Err (ap_.HostFault Pending)) le (inr rose) = inr (twice_after start faults new.faults le rose)
 twice_before taken start faults new (Err ap_.InDoubt) le twice = tt
 twice_before taken start faults new (Err (ap_.KernelRefused k n left)) le twice = tt
 twice_before taken start faults new (Err (ap_.NotVerified found left)) le twice = tt

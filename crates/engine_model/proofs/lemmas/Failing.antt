@@ -2,6 +2,7 @@
 use Rattle.std.proofs.Common.{◌≡◌, ◌≤◌, ◌∙◌, inl, inr, arith, ℕ, sym, ap, subst, Result, Ok, Err}
 use Rattle.host_core.specs.Faults.{Rose}
 use Rattle.host_core.specs.HostView.{State, HostView, WasRefused, NoneRefused, Untouched}
+use Rattle.host_core.proofs.lemmas.Counts.{rose_after}
 use Rattle.engine_model.specs.Refusals.{NoCallMade, FewRefused, BackCounts}
 use Rattle.engine_model.specs.Answers.{IsBefore}
 use Rattle.engine_model.specs.Faults.{IsDamaged}
@@ -12,9 +13,6 @@ use Rattle.engine_model.specs.declared.answers.BackFault.{BackFault}
 use Rattle.engine_model.specs.declared.answers.BackFault.TheVariants.{NoCheckpoint, HostFault, KernelRefused, Damaged, HardwareDiffers, OutOfMemory}
 use Rattle.engine_model.proofs.lemmas.Leading.{both, same_state}
 use Rattle.engine_model.proofs.lemmas.Refusals.{quiet_on, unmade_quiet, unmade_on, refused_after, once_after}
-
-rose_after : (a b c : ℕ) → a ≤ b → Rose b c → Rose a c
-rose_after a b c le rose = omega arith
 
 -- a look begins nothing
 pub looked : (tells : Type 0) (a b : HostView) → Untouched tells a b → IsUnbegun tells a b

@@ -22,7 +22,8 @@ use Rattle.engine_core.specs.Attempts.{done}
 use Rattle.engine_core.proofs.Exacts.{none_exact, refused_exact, made_exact}
 use Rattle.engine_model.proofs.lemmas.Refusals.{quiet_same, quiet_dumped, quiet_on}
 use Rattle.engine_core.specs.Saying.{Start, Follows, SettledBy}
-use Rattle.engine_core.proofs.Says.{follows_on, since, since_keeps, left_says, left_settled, rose_after}
+use Rattle.engine_core.proofs.Says.{follows_on, since, since_keeps, left_says, left_settled}
+use Rattle.host_core.proofs.lemmas.Counts.{rose_after}
 use Rattle.engine_core.proofs.Counts.{left_counts}
 use Rattle.host_core.specs.HostView.{Kernel, NoneRefused}
 use Rattle.checkpoint_cell.specs.Cell.{cell_of}

@@ -13,7 +13,8 @@ use Rattle.host_core.specs.HostView.{Kernel, NoneRefused}
 use Rattle.engine_core.specs.Saying.{Start, Follows}
 use Rattle.engine_core.proofs.Calms.{calm_on, calm_runs}
 use Rattle.engine_model.proofs.lemmas.Refusals.{quiet_same, quiet_on, refused_after, once_after}
-use Rattle.engine_core.proofs.Says.{set_as, rose_after}
+use Rattle.host_core.proofs.lemmas.Counts.{rose_after}
+use Rattle.engine_core.proofs.Says.{set_as}
 use Rattle.engine_core.proofs.attempting.begin.Goals as goal
 use Rattle.engine_core.proofs.attempting.begin.Goals.{After-put, After-run}
 

@@ -4,7 +4,8 @@ use Rattle.host_core.specs.HostView.{State}
 use Rattle.engine_core.specs.Attempts.{IsOnWay}
 use Rattle.engine_core.proofs.Calms.{stays_nets}
 use Rattle.engine_model.proofs.lemmas.Refusals.{quiet_same, quiet_on}
-use Rattle.engine_core.proofs.Says.{set_as, rose_after}
+use Rattle.host_core.proofs.lemmas.Counts.{rose_after}
+use Rattle.engine_core.proofs.Says.{set_as}
 use Rattle.engine_model.proofs.lemmas.Leading.{kept_stays, kept_on, ends_stays, sound_stays}
 use Rattle.engine_model.proofs.lemmas.Restores.{held_stays}
 use Rattle.engine_core.proofs.attempting.seal.Goals as goal

@@ -3,7 +3,7 @@ use Rattle.std.proofs.lemmas.Result.{on_ok_weaker}
 use Rattle.net_model.specs.NetData.{NetData, IsNet}
 use Rattle.net_model.specs.declared.Call.{Call}
 use Rattle.kernel_model.specs.Runs.{Runs}
-use Rattle.host_core.specs.Faults.{Rose}
+use Rattle.host_core.proofs.lemmas.Counts.{rose_after}
 use Rattle.host_core.specs.HostView.{State, Kernel, HasNet}
 use Rattle.checkpoint_cell.specs.declared.Phase.TheVariants.{Applying}
 use Rattle.checkpoint_cell.specs.Cell.{Checkpoint, in_phase, applying, saved_net}
@@ -29,9 +29,6 @@ use Rattle.engine_restore.proofs.Gives.{gave_saved, if_err_both, if_err_never}
 use Rattle.engine_restore.proofs.Compares.{restored_net, none_here}
 use Rattle.engine_restore.proofs.restoring.restore.Goals as goal
 use Rattle.engine_restore.proofs.restoring.restore.Goals.{After-take_up, After-undo}
-
-later_rose : (a b c : ℕ) → a ≤ b → Rose b c → Rose a c
-later_rose a b c le rose = omega arith
 
 -- what is known before the change is taken up
 record Ready (g : _) (c : After-take_up g) (checkpoint : Checkpoint) (saved : NetData) : Type 0 where
@@ -156,7 +153,7 @@ returns-in-Err-clause-fails g c = c.in-Err.ensures.fails
 
 pub returns-clause-fails : goal.returns-clause-fails
 returns-clause-fails g c = (
-  later_rose (g.H.Host.told c.args.host.now).faults (g.H.Host.told c.ready.new.host).faults (g.H.Host.told c.take_up.new.host).faults c.ready.ensures.later c.in-Err-take_up.ensures.cause.failed,
+  rose_after (g.H.Host.told c.args.host.now).faults (g.H.Host.told c.ready.new.host).faults (g.H.Host.told c.take_up.new.host).faults c.ready.ensures.later c.in-Err-take_up.ensures.cause.failed,
   unmade_quiet (g.H.Host.told c.args.host.now).kernel (g.H.Host.told c.take_up.new.host).kernel (unmade g (goal.at.returns-clause-fails g c).After-take_up),
 )
 

@@ -1,7 +1,7 @@
 use Rattle.std.proofs.Common.{◌≡◌, ◌∙◌, ◌≤◌, Option, Some, None, Err, ℕ, ap, subst, refl, arith}
 use Rattle.net_model.specs.NetData.{NetData, IsNet}
 use Rattle.kernel_model.specs.Runs.{Runs}
-use Rattle.host_core.specs.Faults.{Rose}
+use Rattle.host_core.proofs.lemmas.Counts.{rose_after}
 use Rattle.host_core.specs.HostView.{HasNet, Kernel, NoneRefused}
 use Rattle.checkpoint_cell.specs.Cell.{applying}
 use Rattle.checkpoint_cell.specs.Steps.{Holds, NoneOr}
@@ -34,9 +34,6 @@ returns-in-Err-OutOfMemory-clause-kept g c = λ honest sound made deadline from 
 
 pub returns-in-Err-Refused-clause-healthy : goal.returns-in-Err-Refused-clause-healthy
 returns-in-Err-Refused-clause-healthy g c = λ honest from saved is runs. c.in-Err-Refused.ensures.accepted honest from saved is runs _ _ (ap (λ e. Err e) c.in-Err-Refused.field-0-is)
-
-later_rose : (a b c : ℕ) → a ≤ b → Rose b c → Rose a c
-later_rose a b c le rose = omega arith
 
 done : (g : _) (c : After-clear g) → g.H.Host.honest → Sound (g.H.Host.told c.args.host.now) → (made deadline : ℕ) (from saved : NetData) → Ends (stand from (Some (applying made deadline saved))) (g.H.Host.told c.args.host.now)
     → (g.H.Host.told c.args.host.now).state.net ≡ Some from → IsNet from → Runs c.args.calls.now from saved
@@ -91,7 +88,7 @@ cleared_quiet g c =
 
 pub returns-in-Err-clause-fails : goal.returns-in-Err-clause-fails
 returns-in-Err-clause-fails g c = λ zero. (
-  later_rose (g.H.Host.told c.args.host.now).faults (g.H.Host.told c.run.new.host).faults (g.H.Host.told c.clear.new.host).faults c.run.ensures.cause.later c.in-Err.ensures.cause.failed,
+  rose_after (g.H.Host.told c.args.host.now).faults (g.H.Host.told c.run.new.host).faults (g.H.Host.told c.clear.new.host).faults c.run.ensures.cause.later c.in-Err.ensures.cause.failed,
   cleared_quiet g (goal.at.returns-in-Err-clause-fails g c).After-clear,
 )
 
