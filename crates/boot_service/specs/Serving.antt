@@ -10,7 +10,7 @@ use Rattle.checkpoint_cell.specs.Settled.{standing, restored_to}
 use Rattle.plan_model.specs.Undisturbed.{IsUndisturbed}
 use Rattle.merge_model.specs.MergedNet.{merge}
 use Rattle.engine_model.specs.Machine.{Asked, asked, apply, recover}
-use Rattle.engine_model.specs.Sound.{Sound}
+use Rattle.engine_model.specs.Sound.{Sound, WhereSound}
 use Rattle.engine_model.specs.Stations.{Only, Settled, Either, Kept, at, entry_of, left_by}
 use Rattle.engine_model.specs.Exit.{ApplyExit}
 use Rattle.engine_model.specs.Refusals.{ApplyCounts}
@@ -71,14 +71,14 @@ pub record Applies (honest tells : Type 0) (a : Asked) (old new : HostView) (res
   -- that needn't be
   pub says : ApplySays tells a old new result
   pub counts : ApplyCounts old.kernel new.kernel result
-  pub answer : honest → Sound old → ApplyAnswers a old new result
+  pub answer : WhereSound honest old (ApplyAnswers a old new result)
   pub exact : honest → ApplyExact (Rose old.faults new.faults) (apply a (standing old.state)) new result
   -- on every host no more can be left than before, where it says that nothing was begun
   pub unbegun : result ≡ Err (ap.HostFault NotBegun) → Steps Stays old.stops new.stops
   -- what stops leave at the exit, what the host reads as then, and what stops leave at each moment
-  pub exit : honest → Sound old → ApplyExit a (entry_of old) (left_by new) (Rose old.faults new.faults) (RoseTwice old.faults new.faults) result
-  pub reads : honest → Sound old → ApplyExit a (at (standing old.state)) (Only (standing new.state)) (Rose old.faults new.faults) (RoseTwice old.faults new.faults) result
-  pub kept : honest → Sound old → Kept (Either (Settled a.now (entry_of old)) (Only (apply a (standing old.state)).after)) old new
+  pub exit : WhereSound honest old (ApplyExit a (entry_of old) (left_by new) (Rose old.faults new.faults) (RoseTwice old.faults new.faults) result)
+  pub reads : WhereSound honest old (ApplyExit a (at (standing old.state)) (Only (standing new.state)) (Rose old.faults new.faults) (RoseTwice old.faults new.faults) result)
+  pub kept : WhereSound honest old (Kept (Either (Settled a.now (entry_of old)) (Only (apply a (standing old.state)).after)) old new)
   -- where no checkpoint stood and nothing failed, each link that the change needn't touch is left alone on the way
   pub undisturbed : honest → Sound old → (from to : NetData) → standing old.state ≡ restored_to from → merge from a.doc ≡ Ok to
       → (Rose old.faults new.faults → ⊥) → result ≢ Err ap.OutOfMemory

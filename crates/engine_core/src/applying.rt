@@ -16,7 +16,7 @@ ghost use Rattle.checkpoint_cell.specs.Settled.{standing, Standing, restored_to}
 ghost use Rattle.merge_model.specs.MergedNet.{merge};
 ghost use Rattle.engine_model.specs.Machine.{asked, apply, change, apply_fault, recover};
 ghost use Rattle.engine_model.specs.Undone.{stand, undone};
-ghost use Rattle.engine_model.specs.Sound.{Sound};
+ghost use Rattle.engine_model.specs.Sound.{WhereSound};
 ghost use Rattle.engine_model.specs.Stations.{Only, Kept, Ends, AllNear, IsSettled, Waits};
 ghost use Rattle.engine_model.specs.Answers.{IsUndone, IsTaken};
 ghost use Rattle.engine_model.specs.Refusals.{NoCallMade, ApplyCounts};
@@ -91,10 +91,10 @@ fn stopped(missed: Missed, fault: BackFault) -> ApplyFault
 
 // Restores after a failure, and gives the answer.
 fn give_up<H: Host>(host: &mut H, alloc: Global, missed: Missed) -> ApplyFault
-    ensures kept { H.honest → Sound (H.told host.old) → (from : NetData) → ((s : State) → (H.told host.old).stops.may_leave s → IsUndone s (restored_to from))
-        → Kept (Only (restored_to from)) (H.told host.old) (H.told host.new) }
-    ensures exit { H.honest → Sound (H.told host.old) → (from : NetData) → ((s : State) → (H.told host.old).stops.may_leave s → IsUndone s (restored_to from))
-        → IsFault missed → GaveUp from (H.told host.old).faults result (H.told host.new) }
+    ensures kept { WhereSound H.honest (H.told host.old) ((from : NetData) → ((s : State) → (H.told host.old).stops.may_leave s → IsUndone s (restored_to from))
+        → Kept (Only (restored_to from)) (H.told host.old) (H.told host.new)) }
+    ensures exit { WhereSound H.honest (H.told host.old) ((from : NetData) → ((s : State) → (H.told host.old).stops.may_leave s → IsUndone s (restored_to from))
+        → IsFault missed → GaveUp from (H.told host.old).faults result (H.told host.new)) }
     ensures memory { missed ≡ Missed.OutOfMemory → result ≡ ApplyFault.OutOfMemory }
     ensures begun { result ≡ ApplyFault.HostFault Left.NotBegun → ⊥ }
     ensures hurt { H.honest → (start : ℕ) (to : NetData) → IsFault missed
@@ -133,10 +133,8 @@ fn finish<H: Host>(host: &mut H, no_commit: bool, deadline: u64) -> Result<Appli
     ensures saved { H.tells → (made d : ℕ) (from : NetData) → Holds (sealed no_commit made d from) (H.told host.old)
         → OnOk result (saved_net (H.told host.new).state.cell ≡ Some from) }
     ensures kernel { SameKernel H.tells (H.told host.old) (H.told host.new) }
-    ensures kept { H.tells → Sound (H.told host.old) → (made d : ℕ) (from to : NetData)
-        → Holds (sealed no_commit made d from) (H.told host.old)
-        → Ends (stand to (sealed no_commit made d from)) (H.told host.old)
-        → Kept (Only (done no_commit made d from to)) (H.told host.old) (H.told host.new) }
+    ensures kept { WhereSound H.tells (H.told host.old) ((made d : ℕ) (from to : NetData) → Holds (sealed no_commit made d from) (H.told host.old)
+        → Ends (stand to (sealed no_commit made d from)) (H.told host.old) → Kept (Only (done no_commit made d from to)) (H.told host.old) (H.told host.new)) }
     ensures ends { H.tells → (made d : ℕ) (from to : NetData) → Holds (sealed no_commit made d from) (H.told host.old)
         → Ends (stand to (sealed no_commit made d from)) (H.told host.old)
         → OnOk result (Ends (done no_commit made d from to) (H.told host.new)) }
@@ -173,14 +171,12 @@ fn carry_out<H: Host>(
 ) -> Result<Applied, ApplyFault>
     requires settled { (H.told host.old).settled }
     requires none { H.tells → Holds None (H.told host.old) }
-    ensures kept { H.honest → Sound (H.told host.old) → Ends (restored_to from.now) (H.told host.old)
-        → (H.told host.old).state.net ≡ Some from.now → Runs calls.now from.now to.now
-        → Kept (IsEither opts.now.no_commit made deadline from.now to.now) (H.told host.old) (H.told host.new) }
-    ensures exit { H.honest → Sound (H.told host.old) → Ends (restored_to from.now) (H.told host.old)
-        → (H.told host.old).state.net ≡ Some from.now → Runs calls.now from.now to.now
-        → (doc : Doc) → merge from.now doc ≡ Ok to.now
-        → Exit (record { doc = doc; no_commit = opts.now.no_commit; made = made; deadline = deadline })
-        (restored_to from.now) (H.told host.old).faults result (H.told host.new) }
+    ensures kept { WhereSound H.honest (H.told host.old) (Ends (restored_to from.now) (H.told host.old) → (H.told host.old).state.net ≡ Some from.now
+        → Runs calls.now from.now to.now → Kept (IsEither opts.now.no_commit made deadline from.now to.now) (H.told host.old) (H.told host.new)) }
+    ensures exit { WhereSound H.honest (H.told host.old) (Ends (restored_to from.now) (H.told host.old) → (H.told host.old).state.net ≡ Some from.now
+        → Runs calls.now from.now to.now → (doc : Doc) → merge from.now doc ≡ Ok to.now
+        → Exit (record { doc = doc; no_commit = opts.now.no_commit; made = made; deadline = deadline }) (restored_to from.now)
+        (H.told host.old).faults result (H.told host.new)) }
     // On an honest host, sound or not.
     ensures ends { H.honest → (H.told host.old).state.net ≡ Some from.now → Runs calls.now from.now to.now
         → OnOk result (Ends (done opts.now.no_commit made deadline from.now to.now) (H.told host.new)) }
@@ -225,10 +221,10 @@ fn change<H: Host>(
     requires document { is_document doc.now ≡ true }
     requires none { H.tells → Holds None (H.told host.old) }
     requires left { left ≢ Left.Pending }
-    ensures kept { H.honest → Sound (H.told host.old) → Ends (standing (H.told host.old).state) (H.told host.old)
-        → Kept (IsStation (asked_of doc.now opts.now now) (standing (H.told host.old).state)) (H.told host.old) (H.told host.new) }
-    ensures exit { H.honest → Sound (H.told host.old) → Ends (standing (H.told host.old).state) (H.told host.old)
-        → Exit (asked_of doc.now opts.now now) (standing (H.told host.old).state) (H.told host.old).faults result (H.told host.new) }
+    ensures kept { WhereSound H.honest (H.told host.old) (Ends (standing (H.told host.old).state) (H.told host.old)
+        → Kept (IsStation (asked_of doc.now opts.now now) (standing (H.told host.old).state)) (H.told host.old) (H.told host.new)) }
+    ensures exit { WhereSound H.honest (H.told host.old) (Ends (standing (H.told host.old).state) (H.told host.old)
+        → Exit (asked_of doc.now opts.now now) (standing (H.told host.old).state) (H.told host.old).faults result (H.told host.new)) }
     // On an honest host, sound or not.
     ensures exact { H.honest → ApplyExact (Rose (H.told host.old).faults (H.told host.new).faults)
         (change (asked doc.now opts.now now) (standing (H.told host.old).state) (H.told host.old).state.net)
@@ -295,9 +291,9 @@ pub fn settle_and_change<H: Host>(
     now: u64,
 ) -> Result<Applied, ApplyFault>
     requires { is_document doc.now ≡ true }
-    ensures kept { H.honest → Sound (H.told host.old)
-        → Kept (IsApplied (asked_of doc.now opts.now now) (H.told host.old).state) (H.told host.old) (H.told host.new) }
-    ensures exit { H.honest → Sound (H.told host.old) → ExitApply (asked_of doc.now opts.now now) (H.told host.old) result (H.told host.new) }
+    ensures kept { WhereSound H.honest (H.told host.old) (Kept (IsApplied (asked_of doc.now opts.now now) (H.told host.old).state) (H.told host.old)
+        (H.told host.new)) }
+    ensures exit { WhereSound H.honest (H.told host.old) (ExitApply (asked_of doc.now opts.now now) (H.told host.old) result (H.told host.new)) }
     // On an honest host, sound or not.
     ensures exact { H.honest → ApplyExact (Rose (H.told host.old).faults (H.told host.new).faults)
         (apply (asked doc.now opts.now now) (standing (H.told host.old).state)) (H.told host.new) result }

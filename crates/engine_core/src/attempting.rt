@@ -12,7 +12,7 @@ ghost use Rattle.checkpoint_cell.specs.Steps.{Holds};
 ghost use Rattle.checkpoint_cell.specs.Settled.{restored_to};
 ghost use Rattle.merge_model.specs.MergedNet.{merge};
 ghost use Rattle.engine_model.specs.Undone.{stand};
-ghost use Rattle.engine_model.specs.Sound.{Sound};
+ghost use Rattle.engine_model.specs.Sound.{WhereSound};
 ghost use Rattle.engine_model.specs.Stations.{Only, Kept, Ends, AllNear};
 ghost use Rattle.engine_core.specs.Attempts.{sealed, IsOnWay, IsFault};
 ghost use Rattle.engine_core.specs.Saying.{Start, Follows, IsSet, Why};
@@ -39,8 +39,8 @@ fn begin<H: Host>(
     requires settled { (H.told host.old).settled }
     requires none { H.tells → Holds None (H.told host.old) }
     ensures set { H.tells → OnOk result (Holds (Some (applying made deadline from.now)) (H.told host.new)) }
-    ensures kept { H.honest → Sound (H.told host.old) → Ends (restored_to from.now) (H.told host.old)
-        → Kept (Only (restored_to from.now)) (H.told host.old) (H.told host.new) }
+    ensures kept { WhereSound H.honest (H.told host.old) (Ends (restored_to from.now) (H.told host.old)
+        → Kept (Only (restored_to from.now)) (H.told host.old) (H.told host.new)) }
     ensures reached { H.honest → (to : NetData) → (H.told host.old).state.net ≡ Some from.now
         → Runs calls.now from.now to
         → OnOk result (((H.told host.new).state.net ≡ Some to)
@@ -117,10 +117,9 @@ fn mark<H: Host>(host: &mut H, no_commit: bool) -> Result<(), Failed>
     ensures marked { H.tells → (made deadline : ℕ) (from : NetData)
         → Holds (Some (applying made deadline from)) (H.told host.old)
         → OnOk result (Holds (sealed no_commit made deadline from) (H.told host.new)) }
-    ensures kept { H.tells → Sound (H.told host.old) → (made deadline : ℕ) (from to : NetData)
-        → Holds (Some (applying made deadline from)) (H.told host.old)
+    ensures kept { WhereSound H.tells (H.told host.old) ((made deadline : ℕ) (from to : NetData) → Holds (Some (applying made deadline from)) (H.told host.old)
         → Ends (stand to (Some (applying made deadline from))) (H.told host.old)
-        → Kept (IsOnWay no_commit made deadline from to) (H.told host.old) (H.told host.new) }
+        → Kept (IsOnWay no_commit made deadline from to) (H.told host.old) (H.told host.new)) }
     ensures ends { H.tells → (made deadline : ℕ) (from to : NetData)
         → Holds (Some (applying made deadline from)) (H.told host.old)
         → Ends (stand to (Some (applying made deadline from))) (H.told host.old)
@@ -151,10 +150,9 @@ fn seal<H: Host>(
         → Holds (Some (applying made deadline from)) (H.told host.old)
         → OnOk result (Holds (sealed no_commit made deadline from) (H.told host.new)) }
     ensures verified { H.tells → OnOk result (no_verify ≡ false → (H.told host.new).fresh ≡ Some to.now) }
-    ensures kept { H.honest → Sound (H.told host.old) → (made deadline : ℕ) (from : NetData)
-        → Holds (Some (applying made deadline from)) (H.told host.old)
+    ensures kept { WhereSound H.honest (H.told host.old) ((made deadline : ℕ) (from : NetData) → Holds (Some (applying made deadline from)) (H.told host.old)
         → Ends (stand to.now (Some (applying made deadline from))) (H.told host.old)
-        → Kept (IsOnWay no_commit made deadline from to.now) (H.told host.old) (H.told host.new) }
+        → Kept (IsOnWay no_commit made deadline from to.now) (H.told host.old) (H.told host.new)) }
     ensures ends { H.honest → (made deadline : ℕ) (from : NetData)
         → Holds (Some (applying made deadline from)) (H.told host.old)
         → Ends (stand to.now (Some (applying made deadline from))) (H.told host.old)
@@ -201,15 +199,13 @@ pub fn attempt<H: Host>(
     requires none { H.tells → Holds None (H.told host.old) }
     ensures set { H.tells → OnOk result (Holds (sealed opts.now.no_commit made deadline from.now) (H.told host.new)) }
     ensures verified { H.tells → OnOk result (opts.now.no_verify ≡ false → (H.told host.new).fresh ≡ Some to.now) }
-    ensures kept { H.honest → Sound (H.told host.old) → Ends (restored_to from.now) (H.told host.old)
-        → (H.told host.old).state.net ≡ Some from.now → Runs calls.now from.now to.now
-        → Kept (IsOnWay opts.now.no_commit made deadline from.now to.now) (H.told host.old) (H.told host.new) }
+    ensures kept { WhereSound H.honest (H.told host.old) (Ends (restored_to from.now) (H.told host.old) → (H.told host.old).state.net ≡ Some from.now
+        → Runs calls.now from.now to.now → Kept (IsOnWay opts.now.no_commit made deadline from.now to.now) (H.told host.old) (H.told host.new)) }
     ensures ends { H.honest → (H.told host.old).state.net ≡ Some from.now → Runs calls.now from.now to.now
         → OnOk result (Ends (stand to.now (sealed opts.now.no_commit made deadline from.now)) (H.told host.new)) }
     ensures missed { H.honest → (H.told host.old).state.net ≡ Some from.now → Runs calls.now from.now to.now → IfErr result (λ missed. IsFault missed) }
-    ensures memory { H.honest → Sound (H.told host.old) → Ends (restored_to from.now) (H.told host.old)
-        → (H.told host.old).state.net ≡ Some from.now → Runs calls.now from.now to.now
-        → IsErrOf result Missed.OutOfMemory → AllNear (Only (restored_to from.now)) (H.told host.new) }
+    ensures memory { WhereSound H.honest (H.told host.old) (Ends (restored_to from.now) (H.told host.old) → (H.told host.old).state.net ≡ Some from.now
+        → Runs calls.now from.now to.now → IsErrOf result Missed.OutOfMemory → AllNear (Only (restored_to from.now)) (H.told host.new)) }
     ensures calm { H.honest → (t : ℕ) → t ≤ (H.told host.old).stops.moment
         → (H.told host.old).state.net ≡ Some from.now → IsPlan from.now to.now calls.now
         → CalmSince from.now to.now t (H.told host.old)

@@ -4,7 +4,7 @@ ghost use Rattle.host_core.specs.Stops.{Steps, Stays};
 ghost use Rattle.host_core.specs.HostView.{State, SameKernel};
 ghost use Rattle.checkpoint_cell.specs.Cell.{Checkpoint, cell_of, is_due};
 ghost use Rattle.checkpoint_cell.specs.Steps.{Holds};
-ghost use Rattle.engine_model.specs.Sound.{Sound};
+ghost use Rattle.engine_model.specs.Sound.{WhereSound};
 ghost use Rattle.engine_core.specs.Committing.{IsRefusal, IsLook};
 ghost use Rattle.engine_model.specs.Stations.{Waits, Ends, Kept, committed, IsCommitted, FromRead};
 ghost use Rattle.checkpoint_cell.specs.Settled.{standing};
@@ -31,14 +31,14 @@ pub fn end_waiting<H: Host>(host: &mut H, now: u64) -> Result<(), CommitFault>
     ensures kernel { SameKernel H.tells (H.told host.old) (H.told host.new) }
 
     // What a stop leaves, at each moment and at the exit.
-    ensures kept { H.tells → Sound (H.told host.old) → Kept (IsCommitted now (H.told host.old).state) (H.told host.old) (H.told host.new) }
-    ensures done { H.tells → Sound (H.told host.old) → OnOk result (Ends (committed (H.told host.old).state) (H.told host.new)) }
+    ensures kept { WhereSound H.tells (H.told host.old) (Kept (IsCommitted now (H.told host.old).state) (H.told host.old) (H.told host.new)) }
+    ensures done { WhereSound H.tells (H.told host.old) (OnOk result (Ends (committed (H.told host.old).state) (H.told host.new))) }
     ensures before { IfErr result (λ fault. IsRefusal fault → Steps Stays (H.told host.old).stops (H.told host.new).stops) }
     ensures looked { H.tells → IfErr result (λ fault. IsLook fault → Holds (cell_of (H.told host.old).state.cell) (H.told host.new)) }
     ensures same { IfErr result (λ fault. IsRefusal fault → H.tells → (H.told host.new).state ≡ (H.told host.old).state) }
     ensures left { H.tells → OnOk result (standing (H.told host.new).state ≡ committed (H.told host.old).state) }
-    ensures doubted { H.tells → Sound (H.told host.old) → IsErrOf result CommitFault.InDoubt
-        → FromRead (IsCommitted now (H.told host.old).state) (H.told host.old) (H.told host.new) }
+    ensures doubted { WhereSound H.tells (H.told host.old) (IsErrOf result CommitFault.InDoubt
+        → FromRead (IsCommitted now (H.told host.old).state) (H.told host.old) (H.told host.new)) }
     ensures doubt { H.tells → IsErrOf result CommitFault.InDoubt → Waits now (cell_of (H.told host.old).state.cell) }
 {
     let seen = match barrier(host) {

@@ -9,7 +9,7 @@ ghost use Rattle.checkpoint_cell.specs.Settled.{standing, restored_to};
 ghost use Rattle.plan_model.specs.Undisturbed.{IsUndisturbed};
 ghost use Rattle.merge_model.specs.MergedNet.{merge};
 ghost use Rattle.engine_model.specs.Machine.{asked, apply, commit, recover};
-ghost use Rattle.engine_model.specs.Sound.{Sound};
+ghost use Rattle.engine_model.specs.Sound.{WhereSound};
 ghost use Rattle.engine_model.specs.Stations.{Only, Settled, Either, Kept, at, entry_of, left_by};
 ghost use Rattle.engine_model.specs.Exit.{ApplyExit, CommitExit};
 ghost use Rattle.engine_model.specs.Refusals.{ApplyCounts};
@@ -38,36 +38,30 @@ pub fn apply<H: Host>(
     ensures says { ApplySays H.tells (asked doc.now opts.now now) (H.told host.old) (H.told host.new) result }
     // How many calls were refused, or that none was made, which every host counts.
     ensures counts { ApplyCounts (H.told host.old).kernel (H.told host.new).kernel result }
-    ensures answer { H.honest → Sound (H.told host.old) → ApplyAnswers (asked doc.now opts.now now) (H.told host.old) (H.told host.new) result }
+    ensures answer { WhereSound H.honest (H.told host.old) (ApplyAnswers (asked doc.now opts.now now) (H.told host.old) (H.told host.new) result) }
     // On an honest host that needn't be sound: but for faults and memory the answer is the machine's, and so is what the host reads as.
     ensures exact { H.honest → ApplyExact (Rose (H.told host.old).faults (H.told host.new).faults)
         (apply (asked doc.now opts.now now) (standing (H.told host.old).state)) (H.told host.new) result }
     // On every host no more can be left than before, where it says that nothing was begun.
     ensures unbegun { IsErrOf result (ApplyFault.HostFault Left.NotBegun) → Steps Stays (H.told host.old).stops (H.told host.new).stops }
     // What stops leave at the exit, what the host reads as then, and what stops leave at each moment.
-    ensures exit { H.honest → Sound (H.told host.old) → ApplyExit (asked doc.now opts.now now) (entry_of (H.told host.old)) (left_by (H.told host.new))
-        (Rose (H.told host.old).faults (H.told host.new).faults) (RoseTwice (H.told host.old).faults (H.told host.new).faults) result }
-    ensures reads { H.honest → Sound (H.told host.old)
-        → ApplyExit (asked doc.now opts.now now) (at (standing (H.told host.old).state))
-        (Only (standing (H.told host.new).state))
-        (Rose (H.told host.old).faults (H.told host.new).faults) (RoseTwice (H.told host.old).faults (H.told host.new).faults) result }
-    ensures kept { H.honest → Sound (H.told host.old)
-        → Kept (Either (Settled now (entry_of (H.told host.old)))
-        (Only (apply (asked doc.now opts.now now) (standing (H.told host.old).state)).after))
-        (H.told host.old) (H.told host.new) }
+    ensures exit { WhereSound H.honest (H.told host.old) (ApplyExit (asked doc.now opts.now now) (entry_of (H.told host.old)) (left_by (H.told host.new))
+        (Rose (H.told host.old).faults (H.told host.new).faults) (RoseTwice (H.told host.old).faults (H.told host.new).faults) result) }
+    ensures reads { WhereSound H.honest (H.told host.old) (ApplyExit (asked doc.now opts.now now) (at (standing (H.told host.old).state)) (Only (standing
+        (H.told host.new).state)) (Rose (H.told host.old).faults (H.told host.new).faults) (RoseTwice (H.told host.old).faults
+        (H.told host.new).faults) result) }
+    ensures kept { WhereSound H.honest (H.told host.old) (Kept (Either (Settled now (entry_of (H.told host.old))) (Only (apply (asked doc.now opts.now now)
+        (standing (H.told host.old).state)).after)) (H.told host.old) (H.told host.new)) }
     // Where no checkpoint stood and nothing failed, each pair that was left on the way has each link that the change needn't
     // touch, its addresses and its routes that stand in both networks as they were.
-    ensures undisturbed { H.honest → Sound (H.told host.old) → (from to : NetData)
-        → standing (H.told host.old).state ≡ restored_to from → merge from doc.now ≡ Ok to
-        → (Rose (H.told host.old).faults (H.told host.new).faults → ⊥) → result ≢ Err ApplyFault.OutOfMemory
-        → (s : State) → (H.told host.new).stops.left_since (H.told host.old).stops.moment s → (net : NetData) × (s.net ≡ Some net) × IsUndisturbed from to net }
+    ensures undisturbed { WhereSound H.honest (H.told host.old) ((from to : NetData) → standing (H.told host.old).state ≡ restored_to from
+        → merge from doc.now ≡ Ok to → (Rose (H.told host.old).faults (H.told host.new).faults → ⊥) → result ≢ Err ApplyFault.OutOfMemory → (s : State)
+        → (H.told host.new).stops.left_since (H.told host.old).stops.moment s → (net : NetData) × (s.net ≡ Some net) × IsUndisturbed from to net) }
     // For a command that began earlier: the same of each pair that was left since that moment, where it holds of those before
     // this call; and what is damaged was left since that moment, too.
-    ensures calm { H.honest → Sound (H.told host.old) → (from to : NetData)
-        → standing (H.told host.old).state ≡ restored_to from → merge from doc.now ≡ Ok to
-        → (Rose (H.told host.old).faults (H.told host.new).faults → ⊥) → result ≢ Err ApplyFault.OutOfMemory
-        → (since : ℕ) → since ≤ (H.told host.old).stops.moment → CalmSince from to since (H.told host.old)
-        → CalmSince from to since (H.told host.new) }
+    ensures calm { WhereSound H.honest (H.told host.old) ((from to : NetData) → standing (H.told host.old).state ≡ restored_to from → merge from doc.now ≡ Ok to
+        → (Rose (H.told host.old).faults (H.told host.new).faults → ⊥) → result ≢ Err ApplyFault.OutOfMemory → (since : ℕ)
+        → since ≤ (H.told host.old).stops.moment → CalmSince from to since (H.told host.old) → CalmSince from to since (H.told host.new)) }
     ensures damaged { H.tells → (since area : ℕ) → since ≤ (H.told host.old).stops.moment → IsErrOf result (ApplyFault.Damaged area)
         → DamagedSince since area (H.told host.new) }
     // That a change may stand half way is told only where a restoring was tried.
@@ -90,10 +84,11 @@ pub fn commit<H: Host>(host: &mut H, now: u64) -> Result<(), CommitFault>
     // What is answered on every host.
     ensures answer { CommitAnswers H.tells now (H.told host.old) (H.told host.new) result }
     // What stops leave at the exit, what the host reads as then, and what stops leave at each moment.
-    ensures exit { H.tells → Sound (H.told host.old) → CommitExit now (entry_of (H.told host.old)) (left_by (H.told host.new)) result }
-    ensures reads { H.tells → Sound (H.told host.old)
-        → CommitExit now (at (standing (H.told host.old).state)) (Only (standing (H.told host.new).state)) result }
-    ensures kept { H.tells → Sound (H.told host.old) → Kept (Only (commit now (standing (H.told host.old).state)).after) (H.told host.old) (H.told host.new) }
+    ensures exit { WhereSound H.tells (H.told host.old) (CommitExit now (entry_of (H.told host.old)) (left_by (H.told host.new)) result) }
+    ensures reads { WhereSound H.tells (H.told host.old) (CommitExit now (at (standing (H.told host.old).state)) (Only (standing
+        (H.told host.new).state)) result) }
+    ensures kept { WhereSound H.tells (H.told host.old) (Kept (Only (commit now (standing (H.told host.old).state)).after) (H.told host.old)
+        (H.told host.new)) }
     ensures kernel { SameKernel H.tells (H.told host.old) (H.told host.new) }
     ensures later { (H.told host.old).faults ≤ (H.told host.new).faults }
 {

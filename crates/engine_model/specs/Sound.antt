@@ -25,3 +25,7 @@ IsApplying saved host = (s : State) → host.stops.may_leave s → (made : ℕ) 
 pub record Sound (host : HostView) : Type 0 where
   pub fit : (s : State) → host.stops.may_leave s → Fit s
   pub one : ((net : Option NetData) × HasNet net host) ⊎ ((saved : NetData) × IsApplying saved host)
+
+-- of a host that is honest, or that tells its content, where it was sound when it was asked
+abbrev pub WhereSound : Type 0 → HostView → Type 0 → Type 0
+WhereSound honest host says = honest → Sound host → says

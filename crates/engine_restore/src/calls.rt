@@ -4,7 +4,7 @@ ghost use Rattle.host_core.specs.Stops.{Steps, Stays};
 ghost use Rattle.checkpoint_cell.specs.Steps.{Holds};
 ghost use Rattle.checkpoint_cell.specs.Settled.{standing};
 ghost use Rattle.engine_model.specs.Machine.{rollback, recover, settle};
-ghost use Rattle.engine_model.specs.Sound.{Sound};
+ghost use Rattle.engine_model.specs.Sound.{WhereSound};
 ghost use Rattle.engine_model.specs.Stations.{Only, Kept, at, entry_of, left_by};
 ghost use Rattle.engine_model.specs.Exit.{BackExit};
 ghost use Rattle.engine_model.specs.Answers.{IsBefore, IsClear};
@@ -19,18 +19,15 @@ use std::alloc::Global;
 /// Takes back a change, whether it waits or is being made.
 pub fn rollback<H: Host>(host: &mut H, alloc: Global) -> Result<(), BackFault>
     ensures says { BackSays H.tells (rollback (standing (H.told host.old).state)).answer (H.told host.old) (H.told host.new) result }
-    ensures answer { H.honest → Sound (H.told host.old)
-        → BackAnswers (HasSet (standing (H.told host.old).state).cell) (rollback (standing (H.told host.old).state))
-        (H.told host.old) (H.told host.new) result }
+    ensures answer { WhereSound H.honest (H.told host.old) (BackAnswers (HasSet (standing (H.told host.old).state).cell) (rollback (standing
+        (H.told host.old).state)) (H.told host.old) (H.told host.new) result) }
     // Also where the host isn't sound: but for faults and memory the answer is the machine's.
     ensures exact { H.honest → BackExact (rollback (standing (H.told host.old).state)).answer result }
-    ensures exit { H.honest → Sound (H.told host.old)
-        → BackExit (rollback (standing (H.told host.old).state)).after (entry_of (H.told host.old))
-        (left_by (H.told host.new)) result }
-    ensures reads { H.honest → Sound (H.told host.old)
-        → BackExit (rollback (standing (H.told host.old).state)).after (at (standing (H.told host.old).state))
-        (Only (standing (H.told host.new).state)) result }
-    ensures kept { H.honest → Sound (H.told host.old) → Kept (Only (rollback (standing (H.told host.old).state)).after) (H.told host.old) (H.told host.new) }
+    ensures exit { WhereSound H.honest (H.told host.old) (BackExit (rollback (standing (H.told host.old).state)).after (entry_of (H.told host.old)) (left_by
+        (H.told host.new)) result) }
+    ensures reads { WhereSound H.honest (H.told host.old) (BackExit (rollback (standing (H.told host.old).state)).after (at (standing
+        (H.told host.old).state)) (Only (standing (H.told host.new).state)) result) }
+    ensures kept { WhereSound H.honest (H.told host.old) (Kept (Only (rollback (standing (H.told host.old).state)).after) (H.told host.old) (H.told host.new)) }
     // What every host counts, and by what calls the saved network was given.
     ensures counts { BackCounts (H.told host.old).kernel (H.told host.new).kernel result }
     ensures gave { H.tells → OnOk result (GaveSaved (H.told host.new)) }
@@ -53,18 +50,16 @@ pub fn rollback<H: Host>(host: &mut H, alloc: Global) -> Result<(), BackFault>
 /// Takes back a change that is being made or is due.
 pub fn recover<H: Host>(host: &mut H, alloc: Global, now: u64) -> Result<Recovered, BackFault>
     ensures says { BackSays H.tells (recover now (standing (H.told host.old).state)).answer (H.told host.old) (H.told host.new) result }
-    ensures answer { H.honest → Sound (H.told host.old)
-        → BackAnswers (HasTaken now (standing (H.told host.old).state).cell)
-        (recover now (standing (H.told host.old).state)) (H.told host.old) (H.told host.new) result }
+    ensures answer { WhereSound H.honest (H.told host.old) (BackAnswers (HasTaken now (standing (H.told host.old).state).cell) (recover now (standing
+        (H.told host.old).state)) (H.told host.old) (H.told host.new) result) }
     // Also where the host isn't sound: but for faults and memory the answer is the machine's.
     ensures exact { H.honest → BackExact (recover now (standing (H.told host.old).state)).answer result }
-    ensures exit { H.honest → Sound (H.told host.old)
-        → BackExit (recover now (standing (H.told host.old).state)).after (entry_of (H.told host.old))
-        (left_by (H.told host.new)) result }
-    ensures reads { H.honest → Sound (H.told host.old)
-        → BackExit (recover now (standing (H.told host.old).state)).after (at (standing (H.told host.old).state))
-        (Only (standing (H.told host.new).state)) result }
-    ensures kept { H.honest → Sound (H.told host.old) → Kept (Only (recover now (standing (H.told host.old).state)).after) (H.told host.old) (H.told host.new) }
+    ensures exit { WhereSound H.honest (H.told host.old) (BackExit (recover now (standing (H.told host.old).state)).after (entry_of (H.told host.old))
+        (left_by (H.told host.new)) result) }
+    ensures reads { WhereSound H.honest (H.told host.old) (BackExit (recover now (standing (H.told host.old).state)).after (at (standing
+        (H.told host.old).state)) (Only (standing (H.told host.new).state)) result) }
+    ensures kept { WhereSound H.honest (H.told host.old) (Kept (Only (recover now (standing (H.told host.old).state)).after) (H.told host.old)
+        (H.told host.new)) }
     // What every host counts, and by what calls the saved network was given.
     ensures counts { BackCounts (H.told host.old).kernel (H.told host.new).kernel result }
     ensures gave { H.tells → result ≡ Ok Recovered.Restored → GaveSaved (H.told host.new) }
@@ -98,18 +93,16 @@ pub fn recover<H: Host>(host: &mut H, alloc: Global, now: u64) -> Result<Recover
 /// Takes back a change that is being made or is due, and answers when one that waits is due.
 pub fn settle<H: Host>(host: &mut H, alloc: Global, now: u64) -> Result<Option<u64>, BackFault>
     ensures says { BackSays H.tells (settle now (standing (H.told host.old).state)).answer (H.told host.old) (H.told host.new) result }
-    ensures answer { H.honest → Sound (H.told host.old)
-        → BackAnswers (HasTaken now (standing (H.told host.old).state).cell)
-        (settle now (standing (H.told host.old).state)) (H.told host.old) (H.told host.new) result }
+    ensures answer { WhereSound H.honest (H.told host.old) (BackAnswers (HasTaken now (standing (H.told host.old).state).cell) (settle now (standing
+        (H.told host.old).state)) (H.told host.old) (H.told host.new) result) }
     // Also where the host isn't sound: but for faults and memory the answer is the machine's.
     ensures exact { H.honest → BackExact (settle now (standing (H.told host.old).state)).answer result }
-    ensures exit { H.honest → Sound (H.told host.old)
-        → BackExit (recover now (standing (H.told host.old).state)).after (entry_of (H.told host.old))
-        (left_by (H.told host.new)) result }
-    ensures reads { H.honest → Sound (H.told host.old)
-        → BackExit (recover now (standing (H.told host.old).state)).after (at (standing (H.told host.old).state))
-        (Only (standing (H.told host.new).state)) result }
-    ensures kept { H.honest → Sound (H.told host.old) → Kept (Only (recover now (standing (H.told host.old).state)).after) (H.told host.old) (H.told host.new) }
+    ensures exit { WhereSound H.honest (H.told host.old) (BackExit (recover now (standing (H.told host.old).state)).after (entry_of (H.told host.old))
+        (left_by (H.told host.new)) result) }
+    ensures reads { WhereSound H.honest (H.told host.old) (BackExit (recover now (standing (H.told host.old).state)).after (at (standing
+        (H.told host.old).state)) (Only (standing (H.told host.new).state)) result) }
+    ensures kept { WhereSound H.honest (H.told host.old) (Kept (Only (recover now (standing (H.told host.old).state)).after) (H.told host.old)
+        (H.told host.new)) }
     // What every host counts.
     ensures counts { BackCounts (H.told host.old).kernel (H.told host.new).kernel result }
     // It takes memory only where a change is to be taken back.

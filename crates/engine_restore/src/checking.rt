@@ -6,7 +6,7 @@ ghost use Rattle.host_core.specs.HostView.{NoneRefused};
 ghost use Rattle.host_core.specs.Stops.{Steps, Stays};
 ghost use Rattle.checkpoint_cell.specs.Cell.{cell_of};
 ghost use Rattle.checkpoint_cell.specs.Settled.{standing};
-ghost use Rattle.engine_model.specs.Sound.{Sound};
+ghost use Rattle.engine_model.specs.Sound.{Sound, WhereSound};
 ghost use Rattle.engine_model.specs.Stations.{entry_of, left_by};
 ghost use Rattle.engine_model.specs.Checks.{check, saved_in, differing_from, SameHardware, Compared, CheckAnswers, CheckSays, CheckExit};
 
@@ -83,7 +83,7 @@ pub fn check<H: Host>(host: &mut H, alloc: Global) -> Result<Checked, CheckFault
     ensures state { H.tells → (H.told host.new).state ≡ (H.told host.old).state }
     ensures stops { Steps Stays (H.told host.old).stops (H.told host.new).stops }
     // What stops leave at the exit.
-    ensures exit { H.honest → Sound (H.told host.old) → CheckExit (entry_of (H.told host.old)) (left_by (H.told host.new)) result }
+    ensures exit { WhereSound H.honest (H.told host.old) (CheckExit (entry_of (H.told host.old)) (left_by (H.told host.new)) result) }
     ensures quiet { NoneRefused (H.told host.old).kernel (H.told host.new).kernel }
     ensures later { (H.told host.old).faults ≤ (H.told host.new).faults }
 {

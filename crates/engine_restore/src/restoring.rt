@@ -10,7 +10,7 @@ ghost use Rattle.checkpoint_cell.specs.Loaded.{IsBad};
 ghost use Rattle.checkpoint_cell.specs.Settled.{Standing, standing, settled, taken_back, Alike};
 ghost use Rattle.engine_model.specs.Machine.{saved_on};
 ghost use Rattle.engine_model.specs.Undone.{undone, stand};
-ghost use Rattle.engine_model.specs.Sound.{Sound};
+ghost use Rattle.engine_model.specs.Sound.{WhereSound};
 ghost use Rattle.engine_model.specs.Stations.{Only, Kept, Ends, IsSettled, Waits, FromRead, Any};
 ghost use Rattle.checkpoint_cell.specs.Settled.{restored_to};
 ghost use Rattle.engine_model.specs.Answers.{IsBefore, IsHealthy, IsClear, IsTaken, IsUndone, Finds};
@@ -43,7 +43,7 @@ fn ready<H: Host>(host: &mut H, alloc: Global) -> Result<Vec<Call>, BackFault>
     ensures found { H.tells → OnOk result (IsSome (H.told host.old).state.net) }
     ensures gives { H.tells → IfOk result (λ calls. IsGiven calls.items (H.told host.new)) }
     ensures fails { IfErr result (λ fault. Fails H.tells (H.told host.old) (H.told host.new) fault) }
-    ensures healthy { H.honest → Sound (H.told host.old) → IfErr result (λ fault. IsHealthy fault) }
+    ensures healthy { WhereSound H.honest (H.told host.old) (IfErr result (λ fault. IsHealthy fault)) }
     ensures exact { H.honest → (checkpoint : Checkpoint) → Holds (Some checkpoint) (H.told host.old)
         → Finds (saved_on checkpoint.net (H.told host.old).state.net) result }
     ensures later { (H.told host.old).faults ≤ (H.told host.new).faults }
@@ -80,9 +80,9 @@ fn take_up<H: Host>(host: &mut H, phase: Phase) -> Result<(), Failed>
     requires { H.tells → (checkpoint : Checkpoint) × Holds (Some checkpoint) (H.told host.old) × (checkpoint.phase ≡ phase) }
     ensures taken { H.tells → (checkpoint : Checkpoint) → Holds (Some checkpoint) (H.told host.old)
         → OnOk result (Holds (Some (in_phase Phase.Applying checkpoint)) (H.told host.new)) }
-    ensures kept { H.tells → Sound (H.told host.old) → (checkpoint : Checkpoint) (net saved : NetData)
-        → Holds (Some checkpoint) (H.told host.old) → Ends (stand net (Some checkpoint)) (H.told host.old)
-        → checkpoint.net ≡ Some saved → Kept (Only (restored_to saved)) (H.told host.old) (H.told host.new) }
+    ensures kept { WhereSound H.tells (H.told host.old) ((checkpoint : Checkpoint) (net saved : NetData) → Holds (Some checkpoint) (H.told host.old)
+        → Ends (stand net (Some checkpoint)) (H.told host.old) → checkpoint.net ≡ Some saved
+        → Kept (Only (restored_to saved)) (H.told host.old) (H.told host.new)) }
     ensures ends { H.tells → (checkpoint : Checkpoint) (net : NetData) → Holds (Some checkpoint) (H.told host.old)
         → Ends (stand net (Some checkpoint)) (H.told host.old)
         → OnOk result (Ends (stand net (Some (in_phase Phase.Applying checkpoint))) (H.told host.new)) }
@@ -101,10 +101,9 @@ fn undo<H: Host>(host: &mut H, alloc: Global, calls: &[Call]) -> Result<(), Back
     requires settled { (H.told host.old).settled }
     requires cell { H.tells → (checkpoint : Checkpoint) × Holds (Some checkpoint) (H.told host.old) }
     ensures cleared { H.tells → OnOk result (Holds None (H.told host.new)) }
-    ensures kept { H.honest → Sound (H.told host.old) → (made deadline : ℕ) (from saved : NetData)
-        → Ends (stand from (Some (applying made deadline saved))) (H.told host.old)
-        → (H.told host.old).state.net ≡ Some from
-        → IsNet from → Runs calls.now from saved → Kept (Only (restored_to saved)) (H.told host.old) (H.told host.new) }
+    ensures kept { WhereSound H.honest (H.told host.old) ((made deadline : ℕ) (from saved : NetData)
+        → Ends (stand from (Some (applying made deadline saved))) (H.told host.old) → (H.told host.old).state.net ≡ Some from → IsNet from
+        → Runs calls.now from saved → Kept (Only (restored_to saved)) (H.told host.old) (H.told host.new)) }
     ensures ends { H.honest → (from saved : NetData) → (H.told host.old).state.net ≡ Some from
         → Runs calls.now from saved → OnOk result (Ends (restored_to saved) (H.told host.new)) }
     ensures healthy { H.honest → (from saved : NetData) → (H.told host.old).state.net ≡ Some from
@@ -134,12 +133,11 @@ fn undo<H: Host>(host: &mut H, alloc: Global, calls: &[Call]) -> Result<(), Back
 fn restore<H: Host>(host: &mut H, alloc: Global, phase: Phase) -> Result<(), BackFault>
     requires { H.tells → (checkpoint : Checkpoint) × Holds (Some checkpoint) (H.told host.old) × (checkpoint.phase ≡ phase) }
     ensures cleared { H.tells → OnOk result (Holds None (H.told host.new)) }
-    ensures kept { H.honest → Sound (H.told host.old) → (checkpoint : Checkpoint) (saved : NetData)
-        → Holds (Some checkpoint) (H.told host.old) → checkpoint.net ≡ Some saved
-        → Kept (Only (restored_to saved)) (H.told host.old) (H.told host.new) }
+    ensures kept { WhereSound H.honest (H.told host.old) ((checkpoint : Checkpoint) (saved : NetData) → Holds (Some checkpoint) (H.told host.old)
+        → checkpoint.net ≡ Some saved → Kept (Only (restored_to saved)) (H.told host.old) (H.told host.new)) }
     ensures ends { H.honest → (checkpoint : Checkpoint) (saved : NetData) → Holds (Some checkpoint) (H.told host.old) → checkpoint.net ≡ Some saved
         → OnOk result (Ends (restored_to saved) (H.told host.new)) }
-    ensures healthy { H.honest → Sound (H.told host.old) → IfErr result (λ fault. IsHealthy fault) }
+    ensures healthy { WhereSound H.honest (H.told host.old) (IfErr result (λ fault. IsHealthy fault)) }
     ensures exact { H.honest → (checkpoint : Checkpoint) → Holds (Some checkpoint) (H.told host.old)
         → Finds (saved_on checkpoint.net (H.told host.old).state.net) result }
     // What its faults say on every host, and by what calls the saved network was given. Without a network nothing is done.
@@ -170,14 +168,13 @@ pub fn go_back<H: Host>(host: &mut H, alloc: Global) -> Result<bool, BackFault>
     ensures empty { H.tells → IfOk result (λ was. was ≡ false → cell_of (H.told host.old).state.cell ≡ None) }
     ensures set { H.tells → IfOk result (λ was. was ≡ true → IsSome (cell_of (H.told host.old).state.cell)) }
     ensures stays { IfOk result (λ was. was ≡ false → Steps Stays (H.told host.old).stops (H.told host.new).stops) }
-    ensures kept { H.honest → Sound (H.told host.old) → Kept (IsUndone (H.told host.old).state) (H.told host.old) (H.told host.new) }
-    ensures ends { H.honest → Sound (H.told host.old)
-        → IfOk result (λ was. was ≡ true → (stands : Standing) × IsUndone (H.told host.old).state stands
-        × Ends stands (H.told host.new)) }
+    ensures kept { WhereSound H.honest (H.told host.old) (Kept (IsUndone (H.told host.old).state) (H.told host.old) (H.told host.new)) }
+    ensures ends { WhereSound H.honest (H.told host.old) (IfOk result (λ was. was ≡ true → (stands : Standing) × IsUndone (H.told host.old).state stands
+        × Ends stands (H.told host.new))) }
     // Where all that stands goes back to one network, that network stands then.
-    ensures back { H.honest → Sound (H.told host.old) → (saved : NetData) → ((s : State) → (H.told host.old).stops.may_leave s → IsUndone s (restored_to saved))
-        → OnOk result (Ends (restored_to saved) (H.told host.new)) }
-    ensures healthy { H.honest → Sound (H.told host.old) → IfErr result (λ fault. IsHealthy fault) }
+    ensures back { WhereSound H.honest (H.told host.old) ((saved : NetData) → ((s : State) → (H.told host.old).stops.may_leave s
+        → IsUndone s (restored_to saved)) → OnOk result (Ends (restored_to saved) (H.told host.new))) }
+    ensures healthy { WhereSound H.honest (H.told host.old) (IfErr result (λ fault. IsHealthy fault)) }
     // But for faults and memory its answer is what the restoring finds, also where the host isn't sound.
     ensures exact { H.honest → (checkpoint : Checkpoint) → cell_of (H.told host.old).state.cell ≡ Some checkpoint
         → Finds (saved_on checkpoint.net (H.told host.old).state.net) result }
@@ -190,9 +187,8 @@ pub fn go_back<H: Host>(host: &mut H, alloc: Global) -> Result<bool, BackFault>
     ensures unmade { IfOk result (λ was. was ≡ false → (H.told host.new).kernel ≡ (H.told host.old).kernel) }
     ensures bare { H.tells → (H.told host.old).state.net ≡ None → (H.told host.new).state ≡ (H.told host.old).state }
     ensures none_same { H.tells → IfOk result (λ was. was ≡ false → (H.told host.new).state ≡ (H.told host.old).state) }
-    ensures going { H.honest → Sound (H.told host.old)
-        → IfErr result (λ fault. (IsBefore fault → ⊥)
-        → FromRead (IsUndone (H.told host.old).state) (H.told host.old) (H.told host.new)) }
+    ensures going { WhereSound H.honest (H.told host.old) (IfErr result (λ fault. (IsBefore fault → ⊥)
+        → FromRead (IsUndone (H.told host.old).state) (H.told host.old) (H.told host.new))) }
     ensures moves { Steps Any (H.told host.old).stops (H.told host.new).stops }
     ensures saved { H.tells → OnOk result (saved_net (H.told host.new).state.cell ≡ saved_net (H.told host.old).state.cell) }
     // On an honest host, sound or not, what is taken back is the saved network.
@@ -235,12 +231,11 @@ pub fn take_back<H: Host>(host: &mut H, alloc: Global, now: u64) -> Result<Recov
         → (waits : Waits now (cell_of (H.told host.old).state.cell)) × (waits.checkpoint.deadline ≡ deadline) }
     ensures restored { H.tells → result ≡ Ok Recovered.Restored → IsTaken now (cell_of (H.told host.old).state.cell) }
     ensures stays { result ≡ Ok Recovered.Nothing → Steps Stays (H.told host.old).stops (H.told host.new).stops }
-    ensures kept { H.honest → Sound (H.told host.old) → Kept (IsSettled now (H.told host.old).state) (H.told host.old) (H.told host.new) }
+    ensures kept { WhereSound H.honest (H.told host.old) (Kept (IsSettled now (H.told host.old).state) (H.told host.old) (H.told host.new)) }
     // On an honest host that is sound, what stands then is what a recovery at this moment makes of what stood.
-    ensures ends { H.honest → Sound (H.told host.old)
-        → OnOk result ((stands : Standing) × IsSettled now (H.told host.old).state stands
-        × Ends stands (H.told host.new)) }
-    ensures healthy { H.honest → Sound (H.told host.old) → IfErr result (λ fault. IsHealthy fault) }
+    ensures ends { WhereSound H.honest (H.told host.old) (OnOk result ((stands : Standing) × IsSettled now (H.told host.old).state stands
+        × Ends stands (H.told host.new))) }
+    ensures healthy { WhereSound H.honest (H.told host.old) (IfErr result (λ fault. IsHealthy fault)) }
     // But for faults and memory its answer is what the restoring finds, also where the host isn't sound.
     ensures exact { H.honest → (taken : IsTaken now (cell_of (H.told host.old).state.cell))
         → Finds (saved_on taken.checkpoint.net (H.told host.old).state.net) result }
@@ -254,9 +249,8 @@ pub fn take_back<H: Host>(host: &mut H, alloc: Global, now: u64) -> Result<Recov
     ensures quiet { OnOk result (NoneRefused (H.told host.old).kernel (H.told host.new).kernel) }
     ensures gave { H.tells → result ≡ Ok Recovered.Restored → GaveSaved (H.told host.new) }
     ensures unmade { IfOk result (λ done. done ≢ Recovered.Restored → (H.told host.new).kernel ≡ (H.told host.old).kernel) }
-    ensures going { H.honest → Sound (H.told host.old)
-        → IfErr result (λ fault. (IsBefore fault → ⊥)
-        → FromRead (IsSettled now (H.told host.old).state) (H.told host.old) (H.told host.new)) }
+    ensures going { WhereSound H.honest (H.told host.old) (IfErr result (λ fault. (IsBefore fault → ⊥)
+        → FromRead (IsSettled now (H.told host.old).state) (H.told host.old) (H.told host.new))) }
     ensures moves { Steps Any (H.told host.old).stops (H.told host.new).stops }
     ensures nothing_same { H.tells → result ≡ Ok Recovered.Nothing → (H.told host.new).state ≡ (H.told host.old).state }
     ensures waiting_same { H.tells → (deadline : ℕ) → result ≡ Ok (Recovered.Waiting deadline) → (H.told host.new).state ≡ (H.told host.old).state }

@@ -6,7 +6,7 @@ use Rattle.host_core.specs.HostView.{HostView}
 use Rattle.checkpoint_cell.specs.Settled.{standing}
 use Rattle.engine_model.specs.Machine.{Asked, apply, commit, rollback}
 use Rattle.engine_model.specs.Checks.{check, CheckSays, CheckAnswers, CheckExit}
-use Rattle.engine_model.specs.Sound.{Sound}
+use Rattle.engine_model.specs.Sound.{WhereSound}
 use Rattle.engine_model.specs.Stations.{Only, Settled, Either, Kept, at, entry_of, left_by}
 use Rattle.engine_model.specs.Exit.{ApplyExit, CommitExit, BackExit}
 use Rattle.engine_model.specs.Refusals.{ApplyCounts, BackCounts}
@@ -23,17 +23,17 @@ module _ (tells honest : Type 0) (old new : HostView) where
   pub record Applies (a : Asked) (answer : Result Applied ApplyFault) : Type 0 where
     pub says : ApplySays tells a old new answer
     pub counts : ApplyCounts old.kernel new.kernel answer
-    pub answers : honest → Sound old → ApplyAnswers a old new answer
-    pub exit : honest → Sound old → ApplyExit a (entry_of old) (left_by new) (Rose old.faults new.faults) (RoseTwice old.faults new.faults) answer
-    pub reads : honest → Sound old → ApplyExit a (at (standing old.state)) (Only (standing new.state)) (Rose old.faults new.faults) (RoseTwice old.faults new.faults) answer
-    pub kept : honest → Sound old → Kept (Either (Settled a.now (entry_of old)) (Only (apply a (standing old.state)).after)) old new
+    pub answers : WhereSound honest old (ApplyAnswers a old new answer)
+    pub exit : WhereSound honest old (ApplyExit a (entry_of old) (left_by new) (Rose old.faults new.faults) (RoseTwice old.faults new.faults) answer)
+    pub reads : WhereSound honest old (ApplyExit a (at (standing old.state)) (Only (standing new.state)) (Rose old.faults new.faults) (RoseTwice old.faults new.faults) answer)
+    pub kept : WhereSound honest old (Kept (Either (Settled a.now (entry_of old)) (Only (apply a (standing old.state)).after)) old new)
     pub later : old.faults ≤ new.faults
 
   -- the node was looked at, and nothing of it was changed
   pub record Looks (answer : Result Checked CheckFault) : Type 0 where
     pub says : CheckSays tells old new answer
     pub answers : honest → CheckAnswers (check (standing old.state)) old new answer
-    pub exit : honest → Sound old → CheckExit (entry_of old) (left_by new) answer
+    pub exit : WhereSound honest old (CheckExit (entry_of old) (left_by new) answer)
     pub stays : Steps Stays old.stops new.stops
     pub same : tells → new.state ≡ old.state
     pub later : old.faults ≤ new.faults
@@ -41,17 +41,17 @@ module _ (tells honest : Type 0) (old new : HostView) where
   -- a commit was tried
   pub record Commits (now : ℕ) (answer : Result ⊤ CommitFault) : Type 0 where
     pub answers : CommitAnswers tells now old new answer
-    pub exit : tells → Sound old → CommitExit now (entry_of old) (left_by new) answer
-    pub reads : tells → Sound old → CommitExit now (at (standing old.state)) (Only (standing new.state)) answer
-    pub kept : tells → Sound old → Kept (Only (commit now (standing old.state)).after) old new
+    pub exit : WhereSound tells old (CommitExit now (entry_of old) (left_by new) answer)
+    pub reads : WhereSound tells old (CommitExit now (at (standing old.state)) (Only (standing new.state)) answer)
+    pub kept : WhereSound tells old (Kept (Only (commit now (standing old.state)).after) old new)
     pub later : old.faults ≤ new.faults
 
   -- a rollback was tried
   pub record TakesBack (answer : Result ⊤ BackFault) : Type 0 where
     pub says : BackSays tells (rollback (standing old.state)).answer old new answer
     pub counts : BackCounts old.kernel new.kernel answer
-    pub answers : honest → Sound old → BackAnswers (HasSet (standing old.state).cell) (rollback (standing old.state)) old new answer
-    pub exit : honest → Sound old → BackExit (rollback (standing old.state)).after (entry_of old) (left_by new) answer
-    pub reads : honest → Sound old → BackExit (rollback (standing old.state)).after (at (standing old.state)) (Only (standing new.state)) answer
-    pub kept : honest → Sound old → Kept (Only (rollback (standing old.state)).after) old new
+    pub answers : WhereSound honest old (BackAnswers (HasSet (standing old.state).cell) (rollback (standing old.state)) old new answer)
+    pub exit : WhereSound honest old (BackExit (rollback (standing old.state)).after (entry_of old) (left_by new) answer)
+    pub reads : WhereSound honest old (BackExit (rollback (standing old.state)).after (at (standing old.state)) (Only (standing new.state)) answer)
+    pub kept : WhereSound honest old (Kept (Only (rollback (standing old.state)).after) old new)
     pub later : old.faults ≤ new.faults
