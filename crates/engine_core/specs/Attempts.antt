@@ -1,6 +1,9 @@
 -- What a change leaves on its way, and why one misses.
-use Rattle.std.specs.Prelude.{◌≡◌, ◌⊎◌, ℕ, if◌then◌else◌, Bool, true, Option, Some, None}
+use Rattle.std.specs.Prelude.{◌≡◌, ◌⊎◌, ℕ, if◌then◌else◌, Bool, true, List, Option, Some, None}
 use Rattle.net_model.specs.NetData.{NetData}
+use Rattle.net_model.specs.declared.Call.{Call}
+use Rattle.kernel_model.specs.Runs.{Runs}
+use Rattle.host_core.specs.HostView.{HostView}
 use Rattle.checkpoint_cell.specs.declared.Phase.TheVariants.{Waiting}
 use Rattle.checkpoint_cell.specs.Cell.{Checkpoint, applying, in_phase}
 use Rattle.checkpoint_cell.specs.Settled.{Standing, restored_to}
@@ -31,3 +34,7 @@ IsFault (missed.Refused k n) = ⊥
 IsFault missed.Damaged = ⊥
 IsFault (missed.Differs found) = ⊥
 IsFault missed.OutOfMemory = Unit {0}
+
+-- where this network stands, and the calls lead from it to another
+abbrev pub WhereRuns : List Call → NetData → NetData → HostView → Type 0 → Type 0
+WhereRuns calls from to host says = host.state.net ≡ Some from → Runs calls from to → says

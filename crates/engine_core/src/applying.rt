@@ -21,7 +21,7 @@ ghost use Rattle.engine_model.specs.Stations.{Only, Kept, Ends, AllNear, IsSettl
 ghost use Rattle.engine_model.specs.Answers.{IsUndone, IsTaken};
 ghost use Rattle.engine_model.specs.Refusals.{NoCallMade, ApplyCounts};
 ghost use Rattle.engine_model.specs.Faults.{ApplySays, ApplyExact, MayStandHalf, Tries, FailsTwice, Dumps, Backs, HasTaken};
-ghost use Rattle.engine_core.specs.Attempts.{sealed, done, IsOnWay, IsEither, IsFault};
+ghost use Rattle.engine_core.specs.Attempts.{sealed, done, IsOnWay, IsEither, IsFault, WhereRuns};
 ghost use Rattle.engine_core.specs.Saying.{Start, Follows, DamagedSince, Why, SettledBy, Said, taken_back_as, pending_as, damaged_as, stopped_as};
 ghost use Rattle.engine_core.specs.Calm.{CalmSince};
 ghost use Rattle.engine_core.specs.Applying.{GaveUp, Hurt, Exit, Asked, IsStation, IsApplied, ExitApply, asked_of};
@@ -171,18 +171,19 @@ fn carry_out<H: Host>(
 ) -> Result<Applied, ApplyFault>
     requires settled { (H.told host.old).settled }
     requires none { H.tells → Holds None (H.told host.old) }
-    ensures kept { WhereSound H.honest (H.told host.old) (Ends (restored_to from.now) (H.told host.old) → (H.told host.old).state.net ≡ Some from.now
-        → Runs calls.now from.now to.now → Kept (IsEither opts.now.no_commit made deadline from.now to.now) (H.told host.old) (H.told host.new)) }
-    ensures exit { WhereSound H.honest (H.told host.old) (Ends (restored_to from.now) (H.told host.old) → (H.told host.old).state.net ≡ Some from.now
-        → Runs calls.now from.now to.now → (doc : Doc) → merge from.now doc ≡ Ok to.now
+    ensures kept { WhereSound H.honest (H.told host.old) (Ends (restored_to from.now) (H.told host.old)
+        → WhereRuns calls.now from.now to.now (H.told host.old) (Kept (IsEither opts.now.no_commit made deadline from.now to.now) (H.told host.old)
+        (H.told host.new))) }
+    ensures exit { WhereSound H.honest (H.told host.old) (Ends (restored_to from.now) (H.told host.old)
+        → WhereRuns calls.now from.now to.now (H.told host.old) ((doc : Doc) → merge from.now doc ≡ Ok to.now
         → Exit (record { doc = doc; no_commit = opts.now.no_commit; made = made; deadline = deadline }) (restored_to from.now)
-        (H.told host.old).faults result (H.told host.new)) }
+        (H.told host.old).faults result (H.told host.new))) }
     // On an honest host, sound or not.
-    ensures ends { H.honest → (H.told host.old).state.net ≡ Some from.now → Runs calls.now from.now to.now
-        → OnOk result (Ends (done opts.now.no_commit made deadline from.now to.now) (H.told host.new)) }
-    ensures hurt { H.honest → (H.told host.old).state.net ≡ Some from.now → Runs calls.now from.now to.now
-        → IfErr result (λ fault. Hurt (Rose (H.told host.old).faults (H.told host.new).faults)
-        to.now (H.told host.new) fault) }
+    ensures ends { H.honest
+        → WhereRuns calls.now from.now to.now (H.told host.old) (OnOk result (Ends (done opts.now.no_commit made deadline from.now to.now) (H.told host.new))) }
+    ensures hurt { H.honest
+        → WhereRuns calls.now from.now to.now (H.told host.old) (IfErr result (λ fault. Hurt (Rose (H.told host.old).faults (H.told host.new).faults) to.now
+        (H.told host.new) fault)) }
     ensures calm { H.honest → (t : ℕ) → t ≤ (H.told host.old).stops.moment
         → (H.told host.old).state.net ≡ Some from.now → IsPlan from.now to.now calls.now
         → CalmSince from.now to.now t (H.told host.old)
@@ -195,8 +196,7 @@ fn carry_out<H: Host>(
         → ApplyCounts start.kernel (H.told host.new).kernel result }
     ensures tries { (doc : Doc) (start : Start) → Follows start (H.told host.old) → (H.told host.old).kernel.calls ≡ 0 → merge from.now doc ≡ Ok to.now
         → Tries (opts.now.no_verify ≡ false) start.faults start.kernel.refusals (H.told host.new) result }
-    ensures twice { H.honest → (H.told host.old).state.net ≡ Some from.now → Runs calls.now from.now to.now
-        → FailsTwice ⊥ (H.told host.old).faults (H.told host.new) result }
+    ensures twice { H.honest → WhereRuns calls.now from.now to.now (H.told host.old) (FailsTwice ⊥ (H.told host.old).faults (H.told host.new) result) }
     ensures dumps { (H.tells → (H.told host.old).fresh ≡ Some from.now) → Dumps H.tells opts.now.no_verify (H.told host.new) result }
     ensures backs { H.honest → Backs (H.told host.old).state.net (H.told host.new) result }
     ensures begun { IsErrOf result (ApplyFault.HostFault Left.NotBegun) → ⊥ }

@@ -14,7 +14,7 @@ ghost use Rattle.merge_model.specs.MergedNet.{merge};
 ghost use Rattle.engine_model.specs.Undone.{stand};
 ghost use Rattle.engine_model.specs.Sound.{WhereSound};
 ghost use Rattle.engine_model.specs.Stations.{Only, Kept, Ends, AllNear};
-ghost use Rattle.engine_core.specs.Attempts.{sealed, IsOnWay, IsFault};
+ghost use Rattle.engine_core.specs.Attempts.{sealed, IsOnWay, IsFault, WhereRuns};
 ghost use Rattle.engine_core.specs.Saying.{Start, Follows, IsSet, Why};
 ghost use Rattle.engine_core.specs.Calm.{CalmSince};
 
@@ -41,12 +41,9 @@ fn begin<H: Host>(
     ensures set { H.tells → OnOk result (Holds (Some (applying made deadline from.now)) (H.told host.new)) }
     ensures kept { WhereSound H.honest (H.told host.old) (Ends (restored_to from.now) (H.told host.old)
         → Kept (Only (restored_to from.now)) (H.told host.old) (H.told host.new)) }
-    ensures reached { H.honest → (to : NetData) → (H.told host.old).state.net ≡ Some from.now
-        → Runs calls.now from.now to
-        → OnOk result (((H.told host.new).state.net ≡ Some to)
-        × Ends (stand to (Some (applying made deadline from.now))) (H.told host.new)) }
-    ensures missed { H.honest → (to : NetData) → (H.told host.old).state.net ≡ Some from.now
-        → Runs calls.now from.now to → IfErr result (λ missed. IsFault missed) }
+    ensures reached { H.honest → (to : NetData) → WhereRuns calls.now from.now to (H.told host.old) (OnOk result (((H.told host.new).state.net ≡ Some to)
+        × Ends (stand to (Some (applying made deadline from.now))) (H.told host.new))) }
+    ensures missed { H.honest → (to : NetData) → WhereRuns calls.now from.now to (H.told host.old) (IfErr result (λ missed. IsFault missed)) }
     ensures calm { H.honest → (to : NetData) (t : ℕ) → t ≤ (H.told host.old).stops.moment
         → (H.told host.old).state.net ≡ Some from.now → IsPlan from.now to calls.now
         → CalmSince from.now to t (H.told host.old)
@@ -199,13 +196,15 @@ pub fn attempt<H: Host>(
     requires none { H.tells → Holds None (H.told host.old) }
     ensures set { H.tells → OnOk result (Holds (sealed opts.now.no_commit made deadline from.now) (H.told host.new)) }
     ensures verified { H.tells → OnOk result (opts.now.no_verify ≡ false → (H.told host.new).fresh ≡ Some to.now) }
-    ensures kept { WhereSound H.honest (H.told host.old) (Ends (restored_to from.now) (H.told host.old) → (H.told host.old).state.net ≡ Some from.now
-        → Runs calls.now from.now to.now → Kept (IsOnWay opts.now.no_commit made deadline from.now to.now) (H.told host.old) (H.told host.new)) }
-    ensures ends { H.honest → (H.told host.old).state.net ≡ Some from.now → Runs calls.now from.now to.now
-        → OnOk result (Ends (stand to.now (sealed opts.now.no_commit made deadline from.now)) (H.told host.new)) }
-    ensures missed { H.honest → (H.told host.old).state.net ≡ Some from.now → Runs calls.now from.now to.now → IfErr result (λ missed. IsFault missed) }
-    ensures memory { WhereSound H.honest (H.told host.old) (Ends (restored_to from.now) (H.told host.old) → (H.told host.old).state.net ≡ Some from.now
-        → Runs calls.now from.now to.now → IsErrOf result Missed.OutOfMemory → AllNear (Only (restored_to from.now)) (H.told host.new)) }
+    ensures kept { WhereSound H.honest (H.told host.old) (Ends (restored_to from.now) (H.told host.old)
+        → WhereRuns calls.now from.now to.now (H.told host.old) (Kept (IsOnWay opts.now.no_commit made deadline from.now to.now) (H.told host.old)
+        (H.told host.new))) }
+    ensures ends { H.honest
+        → WhereRuns calls.now from.now to.now (H.told host.old) (OnOk result (Ends (stand to.now (sealed opts.now.no_commit made deadline from.now))
+        (H.told host.new))) }
+    ensures missed { H.honest → WhereRuns calls.now from.now to.now (H.told host.old) (IfErr result (λ missed. IsFault missed)) }
+    ensures memory { WhereSound H.honest (H.told host.old) (Ends (restored_to from.now) (H.told host.old)
+        → WhereRuns calls.now from.now to.now (H.told host.old) (IsErrOf result Missed.OutOfMemory → AllNear (Only (restored_to from.now)) (H.told host.new))) }
     ensures calm { H.honest → (t : ℕ) → t ≤ (H.told host.old).stops.moment
         → (H.told host.old).state.net ≡ Some from.now → IsPlan from.now to.now calls.now
         → CalmSince from.now to.now t (H.told host.old)
