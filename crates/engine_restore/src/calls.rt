@@ -1,5 +1,5 @@
 //! The calls that take a change back.
-ghost use Rattle.std.specs.Prelude.{◌≡◌, ◌≤◌, ℕ, None, Ok, IfOk, IfErr, OnOk, IsErrOf};
+ghost use Rattle.std.specs.Prelude.{◌≡◌, ◌≢◌, ◌≤◌, ℕ, None, Ok, IfOk, IfErr, OnOk, IsErrOf};
 ghost use Rattle.host_core.specs.Stops.{Steps, Stays};
 ghost use Rattle.checkpoint_cell.specs.Steps.{Holds};
 ghost use Rattle.checkpoint_cell.specs.Settled.{standing};
@@ -67,7 +67,8 @@ pub fn recover<H: Host>(host: &mut H, alloc: Global, now: u64) -> Result<Recover
     ensures memory { H.tells → IsErrOf result BackFault.OutOfMemory → HasTaken now (standing (H.told host.old).state).cell }
     // It never answers, as a rollback does, that there is no checkpoint.
     ensures set_there { IsErrOf result BackFault.NoCheckpoint → ⊥ }
-    // Where it restores nothing, it says so of each host that tells its content.
+    // Where it restores nothing, it makes no kernel call, and says so of each host that tells its content.
+    ensures unmade { IfOk result (λ done. done ≢ Recovered.Restored → (H.told host.new).kernel ≡ (H.told host.old).kernel) }
     ensures nothing { H.tells → result ≡ Ok Recovered.Nothing → (recover now (standing (H.told host.old).state)).answer ≡ Ok Recovered.Nothing }
     ensures waiting { H.tells → (deadline : ℕ) → result ≡ Ok (Recovered.Waiting deadline)
         → (recover now (standing (H.told host.old).state)).answer ≡ Ok (Recovered.Waiting deadline) }

@@ -2,10 +2,10 @@
 ghost use Rattle.std.specs.Prelude.{◌≡◌, ◌≢◌, ◌≤◌, ℕ, [], List, None, Some, length, IfOk, OnOk, IsErrOf};
 ghost use Rattle.net_model.specs.NetData.{NetData};
 ghost use Rattle.host_core.specs.Faults.{Rose};
-ghost use Rattle.host_core.specs.HostView.{NoneRefused};
 ghost use Rattle.host_core.specs.Stops.{Steps, Stays};
 ghost use Rattle.checkpoint_cell.specs.Cell.{cell_of};
 ghost use Rattle.checkpoint_cell.specs.Settled.{standing};
+ghost use Rattle.engine_model.specs.Refusals.{NoCallMade};
 ghost use Rattle.engine_model.specs.Sound.{Sound, WhereSound};
 ghost use Rattle.engine_model.specs.Stations.{entry_of, left_by};
 ghost use Rattle.engine_model.specs.Checks.{check, saved_in, differing_from, SameHardware, Compared, CheckAnswers, CheckSays, CheckExit};
@@ -84,7 +84,8 @@ pub fn check<H: Host>(host: &mut H, alloc: Global) -> Result<Checked, CheckFault
     ensures stops { Steps Stays (H.told host.old).stops (H.told host.new).stops }
     // What stops leave at the exit.
     ensures exit { WhereSound H.honest (H.told host.old) (CheckExit (entry_of (H.told host.old)) (left_by (H.told host.new)) result) }
-    ensures quiet { NoneRefused (H.told host.old).kernel (H.told host.new).kernel }
+    // No kernel call is made.
+    ensures unmade { NoCallMade (H.told host.old).kernel (H.told host.new).kernel }
     ensures later { (H.told host.old).faults ≤ (H.told host.new).faults }
 {
     let seen = match barrier(host) {

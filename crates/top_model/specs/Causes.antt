@@ -6,14 +6,14 @@ use Rattle.doc_tree.specs.Shape.{Shape}
 use Rattle.policy_model.specs.Values.{PolicyData}
 use Rattle.policy_model.specs.declared.fault.PolicyFault.TheVariants as policy
 use Rattle.document_model.specs.declared.Refused.{Refused}
-use Rattle.host_core.specs.HostView.{HasNet, IsMade, WasRefused, NoneRefused}
+use Rattle.host_core.specs.HostView.{HasNet, IsMade}
 use Rattle.merge_model.specs.MergedNet.{merge}
 use Rattle.document_model.specs.declared.Doc.{Doc}
 use Rattle.checkpoint_cell.specs.Cell.{saved_net}
 use Rattle.checkpoint_cell.specs.Settled.{settled}
 use Rattle.engine_model.specs.Machine.{asked}
 use Rattle.engine_model.specs.Sound.{Sound}
-use Rattle.engine_model.specs.Faults.{IsOutcome, LeftSays, HasSet, HasTaken, Verified, HadDamaged, Differs}
+use Rattle.engine_model.specs.Faults.{IsOutcome, LeftSays, HasSet, HasTaken, Verified, HadDamaged, Differs, SettlesOnly, StandsDamaged}
 use Rattle.engine_model.specs.declared.Left.{Left}
 use Rattle.engine_model.specs.declared.Left.TheVariants.{NotBegun, RolledBack, Pending as Unknown}
 use Rattle.command_words.specs.Words.{lone}
@@ -338,12 +338,8 @@ abbrev pub IsRecovered : Run → Said → Type 0
 IsRecovered r restored = HasTaken r.now (reads r).cell
 IsRecovered r said = expected r (Ok recovering) ≡ Ok said
 
--- the kernel refused no call
-abbrev pub NoCallRefused : Run → Type 0
-NoCallRefused r = NoneRefused r.host.kernel r.host_after.kernel
-
--- what is done; where kernel calls are made none was refused; a commit is the machine's, and so is a workload, on every host; an
--- apply that verifies dumped the merge of the network that was saved
+-- what is done; a commit is the machine's, and so is a workload, on every host; an apply that verifies dumped the merge of the network
+-- that was saved
 abbrev pub IsDoneAs : Run → Order → Said → Type 0
 IsDoneAs r (showing only json) said = Prints r only json said
 IsDoneAs r (planning doc in_batch) said = Plans r doc in_batch said
@@ -353,22 +349,29 @@ IsDoneAs r (simulating calls) said = Simulates r calls said
 IsDoneAs r committing said = r.host_tells → expected r (Ok committing) ≡ Ok said
 IsDoneAs r checking said = Checks r said × (r.honest → SaysSound r)
 IsDoneAs r (generating devices first second) said = expected r (Ok (generating devices first second)) ≡ Ok said
-IsDoneAs r rolling_back said = NoCallRefused r × (r.host_tells → HasSet (reads r).cell)
-IsDoneAs r recovering said = NoCallRefused r × (r.host_tells → IsRecovered r said)
+IsDoneAs r rolling_back said = r.host_tells → HasSet (reads r).cell
+IsDoneAs r recovering said = r.host_tells → IsRecovered r said
 IsDoneAs r (making links) said = r.host_tells → (expected r (Ok (making links)) ≡ Ok said) × IsMade (first_net links) r.host.state r.host_after
-IsDoneAs r (applying doc opts) said = NoCallRefused r × (r.host_tells → IsVerified r (Ok (applying doc opts)))
-IsDoneAs r (applying_policy p opts) said = NoCallRefused r × (r.host_tells → IsVerified r (Ok (applying_policy p opts)))
+IsDoneAs r (applying doc opts) said = r.host_tells → IsVerified r (Ok (applying doc opts))
+IsDoneAs r (applying_policy p opts) said = r.host_tells → IsVerified r (Ok (applying_policy p opts))
 
 -- the host reads as before
 abbrev pub StaysRead : Run → Type 0
 StaysRead r = r.host_tells → reads_after r ≡ reads r
 
+-- Nothing was done but what was to be taken back first: where nothing was, no kernel call was made. No checkpoint stands, and an honest
+-- host, sound or not, reads as what was settled.
+pub record OnlySettled (r : Run) : Type 0 where
+  pub calls : SettlesOnly r.host_tells r.now r.host.state r.host.kernel r.host_after.kernel
+  pub none : r.host_tells → (reads_after r).cell ≡ None
+  pub stands : r.honest → settled r.now (reads r) ≡ Some (reads_after r)
+
 abbrev pub LooksOnly : Run → Order → Type 0
 LooksOnly r (planning doc in_batch) = StaysRead r
-LooksOnly r (applying doc opts) = r.honest → settled r.now (reads r) ≡ Some (reads_after r)
+LooksOnly r (applying doc opts) = OnlySettled r
 LooksOnly r (evaluating p) = StaysRead r
 LooksOnly r (planning_policy p in_batch) = StaysRead r
-LooksOnly r (applying_policy p opts) = r.honest → settled r.now (reads r) ≡ Some (reads_after r)
+LooksOnly r (applying_policy p opts) = OnlySettled r
 LooksOnly r order = Unit {0}
 
 -- a network is compared only where an apply is to verify
@@ -394,6 +397,11 @@ RefusedLate r (planning_policy p in_batch) fault = WasLate r (planning_policy p 
 RefusedLate r (applying_policy p opts) fault = WasLate r (applying_policy p opts) (document_on p) fault
 RefusedLate r order fault = ⊥
 
+-- What is told as damaged was so at some moment since the entry, and stands so as the host reads. No kernel call was made then, but where
+-- a change was to be taken back first, unless a checkpoint stands by which to take this one back.
+abbrev pub IsDamage : Run → ℕ → Type 0
+IsDamage r area = r.host_tells → HadDamaged area r.host r.host_after × StandsDamaged r.host_tells area r.now r.host.state r.host.kernel r.host_after
+
 -- of what was asked of the host
 abbrev pub Ends : Run → Order → Answer → Type 0
 Ends r order (Ok said) = IsDoneAs r order said
@@ -408,9 +416,9 @@ Ends r order (Err (MergeRefused refused)) = BrokeRule r order refused
 Ends r order (Err (CallRefused n k)) = IsFirstRefused r order n k × StaysRead r
 Ends r order (Err (HostFault left)) = HostRose r × IsLeft r order left
 Ends r order (Err InDoubt) = HostRose r × (r.host_tells → IsDoubted r (Ok order))
-Ends r order (Err (KernelRefused k n left)) = WasRefused k n r.host.kernel r.host_after.kernel × IsLeftRefused r order left
+Ends r order (Err (KernelRefused k n left)) = IsLeftRefused r order left
 Ends r order (Err (NotVerified found left)) = (left ≡ RolledBack) × IsCompared order × LeftSays r.host_tells r.host r.host_after RolledBack × (r.host_tells → IsOther r (Ok order) found)
-Ends r order (Err (Damaged area)) = r.host_tells → HadDamaged area r.host r.host_after
+Ends r order (Err (Damaged area)) = IsDamage r area
 Ends r order (Err (HardwareDiffers names)) = r.host_tells → Differs names r.host_after
 Ends r order (Err OutOfMemory) = MayWant r
 Ends r order answer = ⊥

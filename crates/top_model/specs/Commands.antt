@@ -22,7 +22,7 @@ use Rattle.top_model.specs.declared.report.Report.{Report}
 pub record Promised (r : Run) : Type 0 where
   -- every valid running state, document and pattern of faults, in one sentence
   pub headline : Headline r
-  -- the answer, when it comes, what it leaves, and how it is told
+  -- the answer, when it comes, which kernel calls were refused before it, what was tried, what it leaves, and how it is told
   pub answered : Answered r
   -- what the report says of it: where no fault came, and with faults
   pub complete : Complete r

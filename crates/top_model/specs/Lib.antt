@@ -7,6 +7,7 @@ pub mod Grounds
 pub mod Told
 pub mod Telling
 pub mod Causes
+pub mod Counts
 pub mod Exits
 pub mod Undisturbed
 pub mod Taking

@@ -1,7 +1,7 @@
-use Rattle.std.proofs.Common.{◌≡◌, ◌∙◌, refl, sym, ap, subst, ℕ, List, Err, Some, None}
+use Rattle.std.proofs.Common.{◌≡◌, ◌∙◌, inl, inr, refl, sym, ap, subst, ℕ, List, Err, Some, None}
 use Rattle.std.specs.Prelude.{IsSome}
 use Rattle.net_model.specs.NetData.{NetData}
-use Rattle.host_core.specs.HostView.{State}
+use Rattle.host_core.specs.HostView.{State, dumped}
 use Rattle.host_core.specs.Stops.{Steps, Stays}
 use Rattle.checkpoint_cell.specs.Cell.{cell_of, seen_of}
 use Rattle.checkpoint_cell.specs.Loaded.{IsBad, IsLoaded}
@@ -107,3 +107,29 @@ returns-clause-sound g c = λ honest.
     let loaded : IsLoaded c.in-Ok-load.pending (cell_of new.state.cell) = subst (λ (b : List ℕ). IsLoaded c.in-Ok-load.pending (cell_of b)) (sym cell) (c.in-Ok-load.ensures.loaded t) in
     on_ok_weaker c.compared.result (λ same filled. sound_as c.in-Ok-load.pending c.in-Ok-dump.found new same
     (λ s l. let from = behind.now s l in (nets s l ∙ net, ap (λ (p : State). p.cell) from.2 ∙ (c.in-Ok.ensures.sure t).sure from.0 from.1 ∙ sym cell)) loaded filled) c.compared.ensures.same
+
+-- ---- no kernel call is made
+
+pub returns-in-Err-clause-unmade : goal.returns-in-Err-clause-unmade
+returns-in-Err-clause-unmade g c = inl c.barrier.ensures.untouched.kernel.kernel
+
+pub returns-in-Err-Failed-clause-unmade : goal.returns-in-Err-Failed-clause-unmade
+returns-in-Err-Failed-clause-unmade g c = inl (c.load.ensures.untouched.kernel.kernel ∙ c.barrier.ensures.untouched.kernel.kernel)
+
+pub returns-in-Err-Damaged-clause-unmade : goal.returns-in-Err-Damaged-clause-unmade
+returns-in-Err-Damaged-clause-unmade g c = inl (c.load.ensures.untouched.kernel.kernel ∙ c.barrier.ensures.untouched.kernel.kernel)
+
+pub returns-in-Err-OutOfMemory-clause-unmade : goal.returns-in-Err-OutOfMemory-clause-unmade
+returns-in-Err-OutOfMemory-clause-unmade g c = inl (c.load.ensures.untouched.kernel.kernel ∙ c.barrier.ensures.untouched.kernel.kernel)
+
+pub returns-in-Err-Failed-dump-clause-unmade : goal.returns-in-Err-Failed-dump-clause-unmade
+returns-in-Err-Failed-dump-clause-unmade g c = inl (c.in-Err-Failed-dump.ensures.kernel ∙ c.load.ensures.untouched.kernel.kernel ∙ c.barrier.ensures.untouched.kernel.kernel)
+
+pub returns-in-Err-Damaged-dump-clause-unmade : goal.returns-in-Err-Damaged-dump-clause-unmade
+returns-in-Err-Damaged-dump-clause-unmade g c = inl (c.in-Err-Damaged-dump.ensures.kernel ∙ c.load.ensures.untouched.kernel.kernel ∙ c.barrier.ensures.untouched.kernel.kernel)
+
+pub returns-in-Err-OutOfMemory-dump-clause-unmade : goal.returns-in-Err-OutOfMemory-dump-clause-unmade
+returns-in-Err-OutOfMemory-dump-clause-unmade g c = inl (c.in-Err-OutOfMemory-dump.ensures.kernel ∙ c.load.ensures.untouched.kernel.kernel ∙ c.barrier.ensures.untouched.kernel.kernel)
+
+pub returns-clause-unmade : goal.returns-clause-unmade
+returns-clause-unmade g c = inr (c.in-Ok-dump.ensures.calls ∙ ap dumped (c.load.ensures.untouched.kernel.kernel ∙ c.barrier.ensures.untouched.kernel.kernel))
