@@ -11,7 +11,8 @@ use Rattle.engine_model.specs.Machine.{Asked, asked, apply, recover}
 use Rattle.engine_model.specs.Sound.{Sound}
 use Rattle.engine_model.specs.Stations.{Stands, Entry, Only, Settled, Either, Kept, at}
 use Rattle.engine_model.specs.Exit.{ApplyExit}
-use Rattle.engine_model.specs.Faults.{ApplyAnswers, ApplyExact, ApplySays, Tries, Dumps, Backs}
+use Rattle.engine_model.specs.Refusals.{ApplyCounts}
+use Rattle.engine_model.specs.Faults.{ApplyAnswers, ApplyExact, ApplySays, Tries, FailsTwice, Dumps, Backs, HasTaken}
 use Rattle.engine_model.specs.declared.Left.TheVariants as sides
 use Rattle.engine_model.specs.declared.Applied.{Applied}
 use Rattle.engine_model.specs.declared.ApplyFault.{ApplyFault}
@@ -23,9 +24,10 @@ use Rattle.top_model.specs.Machine.{told, apply_cause}
 use Rattle.top_model.specs.Runs.{Run, MayRead, HostRose, HostRoseTwice, entry, reads, left_at_exit}
 use Rattle.top_model.specs.Told.{Answer, Told}
 use Rattle.top_model.specs.Causes.{MayWant, MayAnswer, Comes, Expects, ExactlyOf}
-use Rattle.top_model.specs.Tried.{HasExcuse, Tried}
+use Rattle.top_model.specs.Tried.{HasExcuse, ApplyTried}
 use Rattle.top_model.specs.Exits.{ApplyLeaves}
 use Rattle.top_model.specs.Answered.{GoesOn, Answered}
+use Rattle.top_model.proofs.lemmas.Counting.{apply_counted}
 use Rattle.top_model.proofs.lemmas.Settling.{refused_settles, pending_stays}
 use Rattle.top_model.proofs.lemmas.Wanting.{may_want_order}
 
@@ -73,6 +75,26 @@ other_recover doc opts e = cc
 pub may_want : (r : Run) (doc : Doc) (opts : ApplyOpts) (inputs : Inputs) → order_of r.in_script inputs r.words ≡ Ok (applying doc opts) → MayWant r
 may_want r doc opts inputs is = may_want_order r inputs (applying doc opts) is (other_commit doc opts) (other_rollback doc opts) (other_recover doc opts)
 
+-- whether a restoring was tried, what was dumped, and by what calls the saved network was given, of an apply of a document or of a policy
+module _ (r : Run) (doc : Doc) (opts : ApplyOpts) where
+  pub tried : (result : Result Applied ApplyFault) → ApplySays r.host_tells (asked doc opts r.now) r.host r.host_after result → Tries (HasExcuse r opts) r.host.faults r.host.kernel.refusals r.host_after result
+      → (r.honest → FailsTwice (HasTaken r.now (reads r).cell) r.host.faults r.host_after result) → Dumps r.host_tells opts.no_verify r.host_after result
+      → (r.honest → Backs (recover r.now (reads r)).after.net r.host_after result) → ApplyTried r opts (answer_of result)
+  tried (Ok done) says tries twice dumps backs = record { verified = dumps.0; skipped = dumps.1 }
+  tried (Err (Pending deadline)) says tries twice dumps backs = tt
+  tried (Err (MergeRefused refused)) says tries twice dumps backs = tt
+  tried (Err (HostFault sides.NotBegun)) says tries twice dumps backs = tt
+  tried (Err (HostFault sides.RolledBack)) says tries twice dumps backs = record { gave = says.2 refl; net = backs }
+  tried (Err (HostFault sides.Pending)) says tries twice dumps backs = record { tried = tries; twice = twice }
+  tried (Err (KernelRefused k n sides.NotBegun)) says tries twice dumps backs = tt
+  tried (Err (KernelRefused k n sides.RolledBack)) says tries twice dumps backs = says.2 refl
+  tried (Err (KernelRefused k n sides.Pending)) says tries twice dumps backs = tries
+  tried (Err (NotVerified found side)) says tries twice dumps backs = says.3
+  tried (Err InDoubt) says tries twice dumps backs = tt
+  tried (Err (Damaged area)) says tries twice dumps backs = tt
+  tried (Err (HardwareDiffers names)) says tries twice dumps backs = tt
+  tried (Err OutOfMemory) says tries twice dumps backs = tt
+
 module _ (r : Run) (doc : Doc) (opts : ApplyOpts) where
   abbrev Ask : Asked
   Ask = asked doc opts r.now
@@ -81,33 +103,20 @@ module _ (r : Run) (doc : Doc) (opts : ApplyOpts) where
   comes (Ok done) says exact wants = says
   comes (Err (Pending deadline)) says exact wants = (λ t. ap answer_of (says t).answer, λ t. (says t).after ∙ pending_stays Ask deadline (reads r) (says t).answer)
   comes (Err (MergeRefused refused)) says exact wants = (
-    λ t. let s = says t in record { doc = doc; net = s.0; is_doc = refl; dumped = s.1; broken = s.2 },
-    λ honest. let is = exact honest in refused_settles Ask refused (reads r) is.answer ∙ ap (λ (x : Standing). Some x) (sym is.after),
+    λ t. let s = says.1 t in record { doc = doc; net = s.from; is_doc = refl; dumped = s.is_fresh; broken = s.breaks },
+    record {
+      calls = says.0;
+      none = λ t. (says.1 t).none;
+      stands = λ honest. let is = exact honest in refused_settles Ask refused (reads r) is.answer ∙ ap (λ (x : Standing). Some x) (sym is.after);
+    },
   )
   comes (Err (HostFault side)) says exact wants = (says.0, says.1)
-  comes (Err (KernelRefused k n side)) says exact wants = (says.0, (says.1, says.2))
-  comes (Err (NotVerified found side)) says exact wants = (says.0, says.1, says.2, λ t. let s = says.3 t in record { doc = doc; saved = s.0; is_doc = refl; is_saved = s.1; other = s.2 })
+  comes (Err (KernelRefused k n side)) says exact wants = (says.0, says.1)
+  comes (Err (NotVerified found side)) says exact wants = (says.0, says.1, says.2, λ t. let s = says.4 t in record { doc = doc; saved = s.saved; is_doc = refl; is_saved = s.is_saved; other = s.other })
   comes (Err InDoubt) says exact wants = (says, λ t. tt)
   comes (Err (Damaged area)) says exact wants = says
   comes (Err (HardwareDiffers names)) says exact wants = says
   comes (Err OutOfMemory) says exact wants = wants
-
-  tried : (result : Result Applied ApplyFault) → Tries (HasExcuse r opts) r.host.faults r.host.kernel.refusals r.host_after result → Dumps r.host_tells opts.no_verify r.host_after result
-      → (r.honest → Backs (recover r.now (reads r)).after.net r.host_after result) → Tried r (Ok (applying doc opts)) (answer_of result)
-  tried (Ok done) tries dumps backs = record { verified = dumps.0; skipped = dumps.1 }
-  tried (Err (Pending deadline)) tries dumps backs = tt
-  tried (Err (MergeRefused refused)) tries dumps backs = tt
-  tried (Err (HostFault sides.NotBegun)) tries dumps backs = tt
-  tried (Err (HostFault sides.RolledBack)) tries dumps backs = backs
-  tried (Err (HostFault sides.Pending)) tries dumps backs = tries
-  tried (Err (KernelRefused k n sides.NotBegun)) tries dumps backs = tt
-  tried (Err (KernelRefused k n sides.RolledBack)) tries dumps backs = tt
-  tried (Err (KernelRefused k n sides.Pending)) tries dumps backs = tries
-  tried (Err (NotVerified found side)) tries dumps backs = tt
-  tried (Err InDoubt) tries dumps backs = tt
-  tried (Err (Damaged area)) tries dumps backs = tt
-  tried (Err (HardwareDiffers names)) tries dumps backs = tt
-  tried (Err OutOfMemory) tries dumps backs = tt
 
   exactly : (result : Result Applied ApplyFault) → ApplyExact (HostRose r) (apply Ask (reads r)) r.host_after result → MayWant r → ExactlyOf r (Ok (applying doc opts)) (answer_of result)
   exactly (Ok done) is wants = ap answer_of is.answer
@@ -136,8 +145,9 @@ module _ (r : Run) (doc : Doc) (opts : ApplyOpts) where
   expects (Err OutOfMemory) is wants = wants
 
   module _ (inputs : Inputs) (may_read : MayRead r inputs) (is : order_of r.in_script inputs r.words ≡ Ok (applying doc opts)) (result : Result Applied ApplyFault)
-      (says : ApplySays r.host_tells Ask r.host r.host_after result)
-      (tries : Tries (HasExcuse r opts) r.host.faults r.host.kernel.refusals r.host_after result) (dumps : Dumps r.host_tells opts.no_verify r.host_after result)
+      (says : ApplySays r.host_tells Ask r.host r.host_after result) (counts : ApplyCounts r.host.kernel r.host_after.kernel result)
+      (tries : Tries (HasExcuse r opts) r.host.faults r.host.kernel.refusals r.host_after result)
+      (twice : r.honest → FailsTwice (HasTaken r.now (reads r).cell) r.host.faults r.host_after result) (dumps : Dumps r.host_tells opts.no_verify r.host_after result)
       (backs : r.honest → Backs (recover r.now (reads r)).after.net r.host_after result)
       (exact : r.honest → ApplyExact (HostRose r) (apply Ask (reads r)) r.host_after result)
       (answers : r.honest → Sound r.host → ApplyAnswers Ask r.host r.host_after result)
@@ -156,7 +166,8 @@ module _ (r : Run) (doc : Doc) (opts : ApplyOpts) where
       answer = answer_of result;
       may = may doc opts result;
       comes = comes result says exact wants;
-      tried = tried result tries dumps backs;
+      counts = apply_counted r.host.kernel r.host_after.kernel result counts;
+      tried = tried r doc opts result says tries twice dumps backs;
       exactly = λ honest. exactly result (exact honest) wants;
       told = told;
       goes_on = goes_on;

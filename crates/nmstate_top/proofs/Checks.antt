@@ -1,5 +1,5 @@
 -- All that is said of a check, from what the engine promises of it.
-use Rattle.std.proofs.Common.{◌≡◌, ◌∙◌, ◌⊎◌, inl, inr, refl, sym, ap, arith, ℕ, List, [], ◌∷◌, Option, None, Some}
+use Rattle.std.proofs.Common.{◌≡◌, ◌∙◌, ◌⊎◌, inl, inr, refl, sym, ap, ℕ, List, [], ◌∷◌, Option, None, Some}
 use Rattle.std.specs.Prelude.{◌≢◌, Result, Ok, Err, IsErrOf, OnOk}
 use Rattle.net_model.specs.NetData.{NetData}
 use Rattle.host_core.specs.HostView.{State, IsLawfulHost}
@@ -11,7 +11,7 @@ use Rattle.engine_model.specs.Checks.{found, unless_other, differing_from, check
 use Rattle.engine_model.specs.Differing.{differing}
 use Rattle.engine_model.specs.Sound.{Sound}
 use Rattle.engine_model.specs.Stations.{Stands, Entry, Within, Only, at}
-use Rattle.engine_model.specs.Faults.{HadDamaged, Differs}
+use Rattle.engine_model.specs.Faults.{Differs}
 use Rattle.engine_model.specs.declared.Left.TheVariants as sides
 use Rattle.engine_model.specs.declared.Checked.{Checked}
 use Rattle.engine_model.specs.declared.CheckFault.{CheckFault}
@@ -28,7 +28,7 @@ use Rattle.top_model.specs.Answered.{GoesOn, Answered}
 use Rattle.top_model.specs.declared.report.Cause.TheVariants.{ReadFault}
 use Rattle.top_model.proofs.lemmas.Wanting.{may_want_order}
 use Rattle.nmstate_top.specs.Looked.{ChangesNothing}
-use Rattle.nmstate_top.proofs.Looks.{same_reads, reads_before}
+use Rattle.nmstate_top.proofs.Looks.{same_reads, reads_before, is_damage}
 
 checking_committing : checking ≢ committing
 checking_committing e = cc
@@ -170,13 +170,6 @@ may (Err (HardwareDiffers names)) = tt
 may (Err OutOfMemory) = tt
 
 module _ (r : Run) (nothing : ChangesNothing r.host_tells r.host r.host_after) where
-  had : IsLawfulHost r.host_tells r.host → (area : ℕ) → check (reads r) ≡ damages area → r.host_tells → HadDamaged area r.host r.host_after
-  had lawful area is t = record {
-    pair = r.host.state;
-    left = nothing.stops.keeps r.host.stops.moment r.host.state (omega arith) (lawful.stops.counts_now r.host.stops.moment r.host.state (omega arith) (lawful.reads t));
-    damaged = damaged_by r.host.state.net (cell_of r.host.state.cell) area is;
-  }
-
   has_other : (names : List (List ℕ)) → r.host_tells → Other names r.host_after.fresh (cell_of r.host.state.cell) → Differs names r.host_after
   has_other names t o = record {
     saved = o.saved;
@@ -191,7 +184,7 @@ module _ (r : Run) (nothing : ChangesNothing r.host_tells r.host r.host_after) w
       → (IsErrOf result OutOfMemory → MayWant r) → Comes r (Ok checking) (answer_of result)
   comes lawful (Ok seen) says sound wants = (λ t. ap answer_of (says t).1, sound)
   comes lawful (Err HostFault) says sound wants = (says, (nothing.state, not_rolled))
-  comes lawful (Err (Damaged area)) says sound wants = λ t. had lawful area (says t) t
+  comes lawful (Err (Damaged area)) says sound wants = is_damage r nothing lawful area (λ t. damaged_by r.host.state.net (cell_of r.host.state.cell) area (says t))
   comes lawful (Err (HardwareDiffers names)) says sound wants = λ t. has_other names t (other r.host_after.fresh (cell_of r.host.state.cell) names (says t).1)
   comes lawful (Err OutOfMemory) says sound wants = wants refl
 
@@ -232,6 +225,7 @@ module _ (r : Run) (nothing : ChangesNothing r.host_tells r.host r.host_after) w
       answer = answer_of result;
       may = may result;
       comes = comes goes_on.lawful result says sound wants;
+      counts = nothing.unmade;
       tried = tt;
       told = told;
       goes_on = goes_on;

@@ -5,7 +5,7 @@ use Rattle.std.specs.Prelude.{option_map, if◌then◌else◌}
 use Rattle.net_model.specs.NetData.{NetData}
 use Rattle.policy_model.specs.Values.{PolicyData}
 use Rattle.host_core.specs.Faults.{Rose}
-use Rattle.host_core.specs.HostView.{State, HostView, dumped}
+use Rattle.host_core.specs.HostView.{State, Kernel, HostView, NoneRefused}
 use Rattle.host_core.specs.Stops.{Steps, Stays}
 use Rattle.host_core.specs.declared.DumpFault.{DumpFault}
 use Rattle.host_core.specs.declared.DumpFault.TheVariants as du
@@ -17,7 +17,8 @@ use Rattle.engine_model.specs.Sound.{Fit}
 use Rattle.engine_model.specs.Answers.{IsBefore, IsClear}
 use Rattle.engine_model.specs.Stations.{Stands, Entry, Within, Before, Settled, Either, Only, Kept, at, left_by}
 use Rattle.engine_model.specs.Exit.{BackExit, Unsettled}
-use Rattle.engine_model.specs.Faults.{IsOutcome, LeftSays, BackAnswers, BackExact, BackSays, HasTaken}
+use Rattle.engine_model.specs.Refusals.{NoCallMade, BackCounts}
+use Rattle.engine_model.specs.Faults.{IsOutcome, LeftSays, BackAnswers, BackExact, BackSays, HasTaken, SettlesOnly}
 use Rattle.engine_model.specs.declared.ApplyOpts.{ApplyOpts}
 use Rattle.engine_model.specs.declared.Left.{Left}
 use Rattle.engine_model.specs.declared.Left.TheVariants as side
@@ -28,6 +29,7 @@ use Rattle.engine_model.specs.declared.BackFault.TheVariants as ba
 use Rattle.engine_model.proofs.lemmas.Finding.{found_saved}
 use Rattle.engine_model.proofs.lemmas.Leading.{alike_is, near_wider, kept_on, kept_stays, kept_wider, both}
 use Rattle.engine_model.proofs.lemmas.Machines.{before_within}
+use Rattle.engine_model.proofs.lemmas.Refusals.{quiet_on, unmade_quiet, unmade_on}
 use Rattle.engine_model.proofs.lemmas.Backs.{settles}
 use Rattle.top_model.specs.Said.{Said}
 use Rattle.top_model.specs.Orders.{Inputs, Order, document_on, applying_policy, committing, rolling_back, recovering, order_of}
@@ -35,6 +37,7 @@ use Rattle.top_model.specs.Machine.{apply_cause, apply_read, apply_on, apply_aft
 use Rattle.top_model.specs.Runs.{Run, MayRead, Alone, HostRose, HostRoseTwice, entry, reads, left_at_exit}
 use Rattle.top_model.specs.Told.{Answer, Told}
 use Rattle.top_model.specs.Causes.{MayWant, MayAnswer, Comes, Expects, ExactlyOf, IsLate}
+use Rattle.top_model.specs.Counts.{PolicyCounted}
 use Rattle.top_model.specs.Tried.{Tried}
 use Rattle.top_model.specs.Exits.{PolicyLeaves}
 use Rattle.top_model.specs.Undisturbed.{Spares}
@@ -42,6 +45,7 @@ use Rattle.top_model.specs.Answered.{GoesOn, Answered}
 use Rattle.top_model.specs.declared.report.DocFault.{DocFault}
 use Rattle.top_model.specs.declared.report.Cause.{Cause}
 use Rattle.top_model.specs.declared.report.Cause.TheVariants.{DocRefused, Pending, HostFault, Damaged, OutOfMemory}
+use Rattle.top_model.proofs.lemmas.Counting.{nothing_other, waits_other, settling_counted}
 use Rattle.top_model.proofs.lemmas.Settles.{same_some}
 use Rattle.top_model.proofs.lemmas.Wanting.{may_want_order}
 use Rattle.nmstate_top.specs.Begun.{Recovers, Looks, side_of, look_cause}
@@ -179,6 +183,24 @@ rolled_pending e = cc
 pending_begun : side.Pending ≡ side.NotBegun → ⊥
 pending_begun e = cc
 
+-- ---- what was counted, by whether something was taken back
+
+-- a dump makes no call
+pub looked : (tells honest : Type 0) (old new : HostView) (result : Result NetData DumpFault) → Looks tells honest old new result → NoCallMade old.kernel new.kernel
+looked tells honest old new (Ok net) look = inr look.calls
+looked tells honest old new (Err fault) look = inl look.kernel
+
+settles_by : (tells : Type 0) (now : ℕ) (state : State) (old new : Kernel) (done : Recovered) → IsClear done → (done ≢ Restored → NoCallMade old new) → (done ≡ Restored → tells → HasTaken now (standing state).cell)
+    → SettlesOnly tells now state old new
+settles_by tells now state old new Nothing clear unmade taken = inr (unmade nothing_other)
+settles_by tells now state old new (Waits deadline) clear unmade taken = absurd clear
+settles_by tells now state old new Restored clear unmade taken = inl (taken refl)
+
+fail_counted : (tells : Type 0) (old new : Kernel) (done : Recovered) → IsClear done → (done ≢ Restored → NoCallMade old new) → NoneRefused old new → PolicyCounted tells old new (Err (HostFault (side_of done)))
+fail_counted tells old new Nothing clear unmade quiet = unmade nothing_other
+fail_counted tells old new (Waits deadline) clear unmade quiet = absurd clear
+fail_counted tells old new Restored clear unmade quiet = quiet
+
 -- a change that was to be taken back
 unsettled : (now : ℕ) (before : Entry) (cell : Option Checkpoint) → before.reads.cell ≡ cell → HasTaken now cell → Unsettled now before
 unsettled now before None is taken = absurd taken
@@ -206,6 +228,9 @@ module _ (r : Run) (p : PolicyData) (opts : ApplyOpts) where
   abbrev Says : BackFault → Type 0
   Says fault = BackSays r.host_tells (recover r.now (reads r)).answer r.host r.host_after (failed fault)
 
+  abbrev Counted : BackFault → Type 0
+  Counted fault = BackCounts r.host.kernel r.host_after.kernel (failed fault)
+
   abbrev Answers : BackFault → Type 0
   Answers fault = BackAnswers (HasTaken r.now (reads r).cell) (recover r.now (reads r)) r.host r.host_after (failed fault)
 
@@ -222,25 +247,25 @@ module _ (r : Run) (p : PolicyData) (opts : ApplyOpts) where
   refused_left side.RolledBack is = absurd (rolled_pending is)
   refused_left side.Pending is = (tt, λ e. pending_begun e)
 
-  fault_comes : (fault : BackFault) → (fault ≡ ba.NoCheckpoint → ⊥) → MayWant r → Says fault → Comes r Policy (told_fault fault)
-  fault_comes ba.NoCheckpoint never wants says = absurd (never refl)
-  fault_comes (ba.HostFault left) never wants says = (says.0, says.1)
-  fault_comes (ba.KernelRefused k n left) never wants says = (says.0, refused_left left says.1)
-  fault_comes (ba.Damaged area) never wants says = says
-  fault_comes (ba.HardwareDiffers names) never wants says = says
-  fault_comes ba.OutOfMemory never wants says = wants
+  fault_comes : (fault : BackFault) → (fault ≡ ba.NoCheckpoint → ⊥) → MayWant r → Says fault → Counted fault → Comes r Policy (told_fault fault)
+  fault_comes ba.NoCheckpoint never wants says counts = absurd (never refl)
+  fault_comes (ba.HostFault left) never wants says counts = (says.0, says.1)
+  fault_comes (ba.KernelRefused k n left) never wants says counts = refused_left left says
+  fault_comes (ba.Damaged area) never wants says counts = λ t. let s = says t in (s.0, record { damaged = s.1; held = inl (inr counts) })
+  fault_comes (ba.HardwareDiffers names) never wants says counts = says
+  fault_comes ba.OutOfMemory never wants says counts = wants
 
-  fault_tried : (fault : BackFault) → Says fault → (r.host_tells → (IsBefore fault → ⊥) → HasTaken r.now (reads r).cell) → Tried r Policy (told_fault fault)
-  fault_tried ba.NoCheckpoint says begun = tt
-  fault_tried (ba.HostFault side.NotBegun) says begun = tt
-  fault_tried (ba.HostFault side.RolledBack) says begun = absurd (says.2 refl)
-  fault_tried (ba.HostFault side.Pending) says begun = inl (inl (λ t. begun t (λ x. x)))
-  fault_tried (ba.KernelRefused k n side.NotBegun) says begun = tt
-  fault_tried (ba.KernelRefused k n side.RolledBack) says begun = tt
-  fault_tried (ba.KernelRefused k n side.Pending) says begun = inl (inl (λ t. begun t (λ x. x)))
-  fault_tried (ba.Damaged area) says begun = tt
-  fault_tried (ba.HardwareDiffers names) says begun = tt
-  fault_tried ba.OutOfMemory says begun = tt
+  fault_tried : (r.honest → r.host_tells) → (fault : BackFault) → Says fault → (r.host_tells → (IsBefore fault → ⊥) → HasTaken r.now (reads r).cell) → Tried r Policy (told_fault fault)
+  fault_tried tells ba.NoCheckpoint says begun = tt
+  fault_tried tells (ba.HostFault side.NotBegun) says begun = tt
+  fault_tried tells (ba.HostFault side.RolledBack) says begun = absurd (says.2 refl)
+  fault_tried tells (ba.HostFault side.Pending) says begun = record { tried = inl (inl (λ t. begun t (λ x. x))); twice = λ honest. inl (begun (tells honest) (λ x. x)) }
+  fault_tried tells (ba.KernelRefused k n side.NotBegun) says begun = tt
+  fault_tried tells (ba.KernelRefused k n side.RolledBack) says begun = absurd (rolled_pending says)
+  fault_tried tells (ba.KernelRefused k n side.Pending) says begun = inl (inl (λ t. begun t (λ x. x)))
+  fault_tried tells (ba.Damaged area) says begun = tt
+  fault_tried tells (ba.HardwareDiffers names) says begun = tt
+  fault_tried tells ba.OutOfMemory says begun = tt
 
   -- the machine's answer is the cause of the machine's fault
   fault_expected : (fault : BackFault) → (recover r.now (reads r)).answer ≡ failed fault → (machine_of r.now Policy (reads r)).answer ≡ Err (recovery_cause fault)
@@ -319,8 +344,9 @@ module _ (r : Run) (p : PolicyData) (opts : ApplyOpts) where
           gives = (inputs, may_read, is);
           answer = told_fault fault;
           may = fault_may fault never;
-          comes = fault_comes fault never wants first.says;
-          tried = fault_tried fault first.says first.begun;
+          comes = fault_comes fault never wants first.says first.counts;
+          counts = settling_counted r.host_tells r.host.kernel r.host_after.kernel fault first.counts;
+          tried = fault_tried goes_on.tells fault first.says first.begun;
           told = told;
           goes_on = goes_on;
           exactly = λ honest. fault_exactly fault never wants first.says (first.exact honest);
@@ -341,6 +367,7 @@ module _ (r : Run) (p : PolicyData) (opts : ApplyOpts) where
       answer = Err (Pending deadline);
       may = tt;
       comes = (λ t. refused_answer p opts r.now (reads r) (Pending deadline) (when_waiting p opts r.now (reads r) deadline (first.waiting t deadline refl)), λ t. ap standing (first.waiting_same t deadline refl));
+      counts = (first.counts, λ t. inl (first.unmade (waits_other deadline)));
       tried = tt;
       told = told;
       goes_on = goes_on;
@@ -353,6 +380,18 @@ module _ (r : Run) (p : PolicyData) (opts : ApplyOpts) where
     }
 
 -- ---- no checkpoint stands behind the recovery, and nothing is changed after it
+
+-- what was counted
+module _ (r : Run) (done : Recovered) (clear : IsClear done) (mid : HostView) (first : Recovers r.host_tells r.honest r.now r.host mid (Ok done)) (none : NoCallMade mid.kernel r.host_after.kernel) where
+  quiet_back : NoneRefused r.host.kernel r.host_after.kernel
+  quiet_back = quiet_on r.host.kernel mid.kernel r.host_after.kernel first.counts (unmade_quiet mid.kernel r.host_after.kernel none)
+
+  -- where nothing was restored no call was made
+  unmade_back : done ≢ Restored → NoCallMade r.host.kernel r.host_after.kernel
+  unmade_back other = unmade_on r.host.kernel mid.kernel r.host_after.kernel (inl (first.unmade other)) none
+
+  only_settled : SettlesOnly r.host_tells r.now r.host.state r.host.kernel r.host_after.kernel
+  only_settled = settles_by r.host_tells r.now r.host.state r.host.kernel r.host_after.kernel done clear unmade_back (λ is t. first.restored t (ap given is))
 
 module _ (r : Run) (p : PolicyData) (opts : ApplyOpts) (goes_on : GoesOn r) (done : Recovered) (clear : IsClear done) (mid : HostView) (first : Recovers r.host_tells r.honest r.now r.host mid (Ok done))
     (state : r.host_tells → r.host_after.state ≡ mid.state) (steps : Steps Stays mid.stops r.host_after.stops) where
@@ -400,10 +439,11 @@ module _ (r : Run) (p : PolicyData) (opts : ApplyOpts) where
   fail_says (Waits deadline) clear unbegun none = absurd clear
   fail_says Restored clear unbegun none = none
 
-  fail_tried : (done : Recovered) → IsClear done → (r.honest → r.host_after.state.net ≡ (recover r.now (reads r)).after.net) → Tried r (Ok (applying_policy p opts)) (Err (HostFault (side_of done)))
-  fail_tried Nothing clear back = tt
-  fail_tried (Waits deadline) clear back = absurd clear
-  fail_tried Restored clear back = λ honest. inr (back honest)
+  fail_tried : (done : Recovered) → IsClear done → SettlesOnly r.host_tells r.now r.host.state r.host.kernel r.host_after.kernel → (r.honest → r.host_after.state.net ≡ (recover r.now (reads r)).after.net)
+      → Tried r (Ok (applying_policy p opts)) (Err (HostFault (side_of done)))
+  fail_tried Nothing clear only back = tt
+  fail_tried (Waits deadline) clear only back = absurd clear
+  fail_tried Restored clear only back = record { gave = λ t. inr only; net = λ honest. inr (back honest) }
 
   fail_leaves : (before : Entry) (left : Stands) (rose twice : Type 0) (last : Standing) (done : Recovered) → IsClear done → (done ≡ Nothing → Within left (Before before)) → Within left (Settled r.now before)
       → PolicyLeaves opts r.now last before left rose twice (Err (HostFault (side_of done)))
@@ -422,8 +462,9 @@ module _ (r : Run) (p : PolicyData) (opts : ApplyOpts) (inputs : Inputs) (may_re
   Refused cause = Err cause
 
   -- memory ran out
-  halted : (r.host_tells → r.host_after.state ≡ mid.state) → Steps Stays mid.stops r.host_after.stops → GoesOn r → Told r (Ok (applying_policy p opts)) (Refused OutOfMemory) → Answered r
-  halted state steps goes_on told =
+  halted : (r.host_tells → r.host_after.state ≡ mid.state) → Steps Stays mid.stops r.host_after.stops → NoCallMade mid.kernel r.host_after.kernel → GoesOn r
+      → Told r (Ok (applying_policy p opts)) (Refused OutOfMemory) → Answered r
+  halted state steps none goes_on told =
       let wanted : MayWant r = wants r p opts inputs may_read is in
       record {
         order = Ok (applying_policy p opts);
@@ -431,6 +472,7 @@ module _ (r : Run) (p : PolicyData) (opts : ApplyOpts) (inputs : Inputs) (may_re
         answer = Refused OutOfMemory;
         may = tt;
         comes = wanted;
+        counts = inl (quiet_back r done clear mid first none);
         tried = tt;
         told = told;
         goes_on = goes_on;
@@ -443,9 +485,9 @@ module _ (r : Run) (p : PolicyData) (opts : ApplyOpts) (inputs : Inputs) (may_re
       }
 
   -- the dump failed
-  unlooked : Rose mid.faults r.host_after.faults → (r.host_tells → r.host_after.state ≡ mid.state) → Steps Stays mid.stops r.host_after.stops → GoesOn r
+  unlooked : Rose mid.faults r.host_after.faults → (r.host_tells → r.host_after.state ≡ mid.state) → Steps Stays mid.stops r.host_after.stops → NoCallMade mid.kernel r.host_after.kernel → GoesOn r
       → Told r (Ok (applying_policy p opts)) (Refused (HostFault (side_of done))) → Answered r
-  unlooked risen state steps goes_on told =
+  unlooked risen state steps none goes_on told =
       let rose : HostRose r = rose_after r.host.faults mid.faults r.host_after.faults first.later risen in
       record {
         order = Ok (applying_policy p opts);
@@ -453,7 +495,8 @@ module _ (r : Run) (p : PolicyData) (opts : ApplyOpts) (inputs : Inputs) (may_re
         answer = Refused (HostFault (side_of done));
         may = tt;
         comes = (rose, fail_says r p opts done clear (unbegun_state r p opts goes_on done clear mid first state steps) (no_checkpoint r p opts goes_on done clear mid first state steps));
-        tried = fail_tried r p opts done clear (λ honest. ap (λ (x : Standing). x.net) (reads_back r p opts goes_on done clear mid first state steps honest));
+        counts = fail_counted r.host_tells r.host.kernel r.host_after.kernel done clear (unmade_back r done clear mid first none) (quiet_back r done clear mid first none);
+        tried = fail_tried r p opts done clear (only_settled r done clear mid first none) (λ honest. ap (λ (x : Standing). x.net) (reads_back r p opts goes_on done clear mid first state steps honest));
         told = told;
         goes_on = goes_on;
         exactly = λ honest. rose;
@@ -469,6 +512,7 @@ module _ (r : Run) (p : PolicyData) (opts : ApplyOpts) (inputs : Inputs) (may_re
   -- there is no network
   no_network : Looks r.host_tells r.honest mid r.host_after (Err du.Damaged) → GoesOn r → Told r (Ok (applying_policy p opts)) (Refused (Damaged 0)) → Answered r
   no_network look goes_on told =
+      let made : NoCallMade mid.kernel r.host_after.kernel = looked r.host_tells r.honest mid r.host_after (Err du.Damaged) look in
       let none : r.host_tells → mid.state.net ≡ None = λ t. look.damaged t refl in
       let none_back : r.honest → (recover r.now (reads r)).after.net ≡ None = λ honest. ap (λ (x : Standing). x.net) (sym (first.after honest)) ∙ none (goes_on.tells honest) in
       let refused : r.honest → apply_policy p opts r.now (reads r) ≡ stays (recover r.now (reads r)).after (Err (Damaged 0)) =
@@ -481,11 +525,15 @@ module _ (r : Run) (p : PolicyData) (opts : ApplyOpts) (inputs : Inputs) (may_re
         gives = (inputs, may_read, is);
         answer = Refused (Damaged 0);
         may = tt;
-        comes = λ t. record {
-          pair = mid.state;
-          left = look.stops.keeps r.host.stops.moment mid.state first.moment (look.lawful.stops.counts_now r.host.stops.moment mid.state first.moment (look.lawful.reads t));
-          damaged = inl (refl, none t);
-        };
+        comes = λ t. (
+          record {
+            pair = mid.state;
+            left = look.stops.keeps r.host.stops.moment mid.state first.moment (look.lawful.stops.counts_now r.host.stops.moment mid.state first.moment (look.lawful.reads t));
+            damaged = inl (refl, none t);
+          },
+          record { damaged = inl (refl, ap (λ (s : State). s.net) (look.state t) ∙ none t); held = inl (only_settled r done clear mid first made) },
+        );
+        counts = inl (quiet_back r done clear mid first made);
         tried = tt;
         told = told;
         goes_on = goes_on;
@@ -500,18 +548,19 @@ module _ (r : Run) (p : PolicyData) (opts : ApplyOpts) (inputs : Inputs) (may_re
 
   -- the network wasn't dumped
   pub failed_look : (fault : DumpFault) → Looks r.host_tells r.honest mid r.host_after (Err fault) → GoesOn r → Told r (Ok (applying_policy p opts)) (Refused (look_cause done fault)) → Answered r
-  failed_look du.Failed look goes_on told = unlooked (look.cause.failed refl) look.state look.stops goes_on told
+  failed_look du.Failed look goes_on told = unlooked (look.cause.failed refl) look.state look.stops (looked r.host_tells r.honest mid r.host_after (Err du.Failed) look) goes_on told
   failed_look du.Damaged look goes_on told = no_network look goes_on told
-  failed_look du.OutOfMemory look goes_on told = halted look.state look.stops goes_on told
+  failed_look du.OutOfMemory look goes_on told = halted look.state look.stops (looked r.host_tells r.honest mid r.host_after (Err du.OutOfMemory) look) goes_on told
 
   -- memory ran out behind the dump
   pub ran_out : (net : NetData) → Looks r.host_tells r.honest mid r.host_after (Ok net) → GoesOn r → Told r (Ok (applying_policy p opts)) (Refused OutOfMemory) → Answered r
-  ran_out net look goes_on told = halted look.state look.stops goes_on told
+  ran_out net look goes_on told = halted look.state look.stops (looked r.host_tells r.honest mid r.host_after (Ok net) look) goes_on told
 
   -- the policy is refused on the network that was dumped
   pub refused_late : (net : NetData) → Looks r.host_tells r.honest mid r.host_after (Ok net) → (fault : DocFault) → document_on p net ≡ Err (DocRefused fault) → IsLate fault → GoesOn r
       → Told r (Ok (applying_policy p opts)) (Refused (DocRefused fault)) → Answered r
   refused_late net look fault is_refused late goes_on told =
+      let made : NoCallMade mid.kernel r.host_after.kernel = looked r.host_tells r.honest mid r.host_after (Ok net) look in
       let there : r.honest → (recover r.now (reads r)).after.net ≡ Some net = λ honest. ap (λ (x : Standing). x.net) (sym (first.after honest)) ∙ look.net honest in
       let refused : r.honest → apply_policy p opts r.now (reads r) ≡ stays (recover r.now (reads r)).after (Err (DocRefused fault)) =
       λ honest. when_refused p opts r.now (reads r) done clear (first.exact honest) net (DocRefused fault) (there honest) is_refused in
@@ -526,9 +575,14 @@ module _ (r : Run) (p : PolicyData) (opts : ApplyOpts) (inputs : Inputs) (may_re
             is_ground = record { dumped = λ once. absurd once; stood = λ honest. ground_clear p opts r.now (reads r) done clear (first.exact honest) ∙ there honest };
             refused = is_refused;
           },
-          λ honest. clear_settles r.now (reads r) done clear (first.exact honest)
-              ∙ ap (λ (x : Standing). Some x) (sym (reads_back r p opts goes_on done clear mid first look.state look.stops honest)),
+          record {
+            calls = only_settled r done clear mid first made;
+            none = no_checkpoint r p opts goes_on done clear mid first look.state look.stops;
+            stands = λ honest. clear_settles r.now (reads r) done clear (first.exact honest)
+                ∙ ap (λ (x : Standing). Some x) (sym (reads_back r p opts goes_on done clear mid first look.state look.stops honest));
+          },
         );
+        counts = quiet_back r done clear mid first made;
         tried = tt;
         told = told;
         goes_on = goes_on;

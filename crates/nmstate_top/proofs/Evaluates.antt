@@ -228,6 +228,7 @@ module _ (r : Run) (p : PolicyData) (nothing : ChangesNothing r.host_tells r.hos
         answer = answer;
         may = value_may answer l;
         comes = value_comes ran.goes_on.lawful want answer l;
+        counts = nothing.unmade;
         tried = tt;
         told = ran.told;
         goes_on = ran.goes_on;
@@ -351,6 +352,7 @@ module _ (r : Run) (p : PolicyData) (in_batch : Bool) (nothing : ChangesNothing 
         answer = answer;
         may = plan_may answer l;
         comes = plan_comes ran.goes_on.lawful want answer l;
+        counts = nothing.unmade;
         tried = tt;
         told = ran.told;
         goes_on = ran.goes_on;

@@ -122,6 +122,7 @@ module _ (r : Run) (devices : List Link) (first second : Doc) where
           answer = answer_of devices first second result;
           may = may result w;
           comes = comes want result w;
+          counts = nothing.unmade;
           tried = tt;
           told = ran.told;
           goes_on = ran.goes_on;

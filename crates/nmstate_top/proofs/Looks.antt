@@ -5,13 +5,13 @@ use Rattle.std.specs.declared.alloc.Global.{Global}
 use Rattle.net_model.specs.NetData.{NetData}
 use Rattle.document_model.specs.declared.Doc.{Doc}
 use Rattle.document_model.specs.declared.Refused.{Refused}
-use Rattle.host_core.specs.HostView.{HostView, IsLawfulHost}
+use Rattle.host_core.specs.HostView.{State, HostView, IsLawfulHost}
 use Rattle.host_core.proofs.lemmas.Moments.{stays as stays_there}
 use Rattle.checkpoint_cell.specs.Settled.{standing}
 use Rattle.merge_model.specs.MergedNet.{merge}
 use Rattle.engine_model.specs.Machine.{Outcome, stays}
 use Rattle.engine_model.specs.Stations.{Within, Only, Before, at}
-use Rattle.engine_model.specs.Faults.{IsOutcome, HadDamaged}
+use Rattle.engine_model.specs.Faults.{IsOutcome, IsDamaged, StandsDamaged}
 use Rattle.engine_model.specs.declared.Left.TheVariants as left
 use Rattle.engine_model.proofs.lemmas.Leading.{alike_is, kept_stays}
 use Rattle.top_model.specs.Said.{Said, Says, printed}
@@ -21,7 +21,7 @@ use Rattle.top_model.specs.Texts.{error_line, note_lines}
 use Rattle.top_model.specs.Runs.{Run, entry, reads, left_at_exit, MayRead}
 use Rattle.top_model.specs.Told.{Answer, Told}
 use Rattle.answer_text.proofs.lemmas.Told.{Plain}
-use Rattle.top_model.specs.Causes.{MayWant, MayAnswer, Comes, Expects, ExactlyOf}
+use Rattle.top_model.specs.Causes.{MayWant, MayAnswer, IsDamage, Comes, Expects, ExactlyOf}
 use Rattle.top_model.specs.Answered.{GoesOn, Answered}
 use Rattle.top_model.specs.declared.report.DocFault.{DocFault}
 use Rattle.top_model.specs.declared.report.Cause.{Cause}
@@ -79,7 +79,7 @@ planning_recovering doc in_batch e = cc
 
 -- nothing is changed where nothing is done
 pub unchanged : (tells : Type 0) (host : HostView) → ChangesNothing tells host host
-unchanged tells host = record { state = λ t. refl; stops = stays_there host.stops; later = omega arith }
+unchanged tells host = record { state = λ t. refl; stops = stays_there host.stops; unmade = inl refl; later = omega arith }
 
 -- ---- how it is told
 
@@ -147,13 +147,24 @@ module _ (r : Run) (nothing : ChangesNothing r.host_tells r.host r.host_after) w
   pub reads_before : r.host_tells → Within (Only (standing r.host_after.state)) (Before (at (reads r)))
   reads_before t stands is = record { station = stands; is = is ∙ same_reads t; like = alike_is stands stands refl }
 
+  -- what is damaged as the host reads stands so, and no call was made
+  stands_damaged : (area : ℕ) → IsDamaged area r.host.state → r.host_tells → StandsDamaged r.host_tells area r.now r.host.state r.host.kernel r.host_after
+  stands_damaged area is t = record { damaged = subst (λ (s : State). IsDamaged area s) (sym (nothing.state t)) is; held = inl (inr nothing.unmade) }
+
+  -- it is told as damaged
+  pub is_damage : IsLawfulHost r.host_tells r.host → (area : ℕ) → (r.host_tells → IsDamaged area r.host.state) → IsDamage r area
+  is_damage lawful area is = λ t. (
+    record {
+      pair = r.host.state;
+      left = nothing.stops.keeps r.host.stops.moment r.host.state (omega arith) (lawful.stops.counts_now r.host.stops.moment r.host.state (omega arith) (lawful.reads t));
+      damaged = is t;
+    },
+    stands_damaged area (is t) t,
+  )
+
   -- where no network was found, none was there
-  pub had_damaged : IsLawfulHost r.host_tells r.host → (area : ℕ) → area ≡ 0 → (r.host_tells → r.host.state.net ≡ None) → r.host_tells → HadDamaged area r.host r.host_after
-  had_damaged lawful area is none t = record {
-    pair = r.host.state;
-    left = nothing.stops.keeps r.host.stops.moment r.host.state (omega arith) (lawful.stops.counts_now r.host.stops.moment r.host.state (omega arith) (lawful.reads t));
-    damaged = inl (is, none t);
-  }
+  pub had_damaged : IsLawfulHost r.host_tells r.host → (area : ℕ) → area ≡ 0 → (r.host_tells → r.host.state.net ≡ None) → IsDamage r area
+  had_damaged lawful area is none = is_damage lawful area (λ t. inl (is, none t))
 
   -- the machine's answer
   module _ (order : Order) (say : NetData → Answer) (machine : machine_of r.now (Ok order) (reads r) ≡ stays (reads r) (looked r.host.state.net say)) (t : r.host_tells) (h : r.honest) where
@@ -227,6 +238,7 @@ module _ (r : Run) (only : Option Text) (json : Bool) (nothing : ChangesNothing 
         answer = answer;
         may = show_may answer l;
         comes = show_comes ran.goes_on.lawful want answer l;
+        counts = nothing.unmade;
         tried = tt;
         told = ran.told;
         goes_on = ran.goes_on;
@@ -304,6 +316,7 @@ module _ (r : Run) (doc : Doc) (in_batch : Bool) (nothing : ChangesNothing r.hos
         answer = answer;
         may = plan_may answer l;
         comes = plan_comes ran.goes_on.lawful want answer l;
+        counts = nothing.unmade;
         tried = tt;
         told = ran.told;
         goes_on = ran.goes_on;

@@ -85,6 +85,7 @@ unmade tells links host = record {
   stays = λ t some. record { stops = stays_there host.stops; state = refl };
   maybe = λ t. inl refl;
   stops = λ t. weaken Stays (MaybeMade (first_net links)) host.stops host.stops (stays_there host.stops) (λ r s left same. inl same);
+  kernel = refl;
   later = omega arith;
 }
 
@@ -265,6 +266,7 @@ module _ (r : Run) (links : List Link) where
         answer = answer_of links result;
         may = may result m;
         comes = comes result want m;
+        counts = inl m.kernel;
         tried = tt;
         told = ran.told;
         goes_on = ran.goes_on;

@@ -6,7 +6,7 @@ use Rattle.net_model.specs.NetData.{NetData}
 use Rattle.document_model.specs.declared.Doc.{Doc}
 use Rattle.policy_model.specs.Values.{PolicyData}
 use Rattle.host_core.specs.Faults.{Rose, RoseTwice}
-use Rattle.host_core.specs.HostView.{State, Kernel, HostView, NoneRefused, dumped, HasNet}
+use Rattle.host_core.specs.HostView.{State, HostView, NoneRefused, HasNet}
 use Rattle.host_core.specs.Stops.{Steps, Stays}
 use Rattle.checkpoint_cell.specs.Cell.{cell_of}
 use Rattle.checkpoint_cell.specs.Settled.{Standing, standing, restored_to}
@@ -16,7 +16,8 @@ use Rattle.engine_model.specs.Sound.{Fit, Sound}
 use Rattle.engine_model.specs.Answers.{IsClear}
 use Rattle.engine_model.specs.Stations.{Stands, Entry, Near, Only, Settled, Either, Kept, entry_of, at, left_by}
 use Rattle.engine_model.specs.Exit.{ApplyExit}
-use Rattle.engine_model.specs.Faults.{ApplyAnswers, ApplyExact, ApplySays, Tries, Dumps, Backs, HadDamaged, HasTaken}
+use Rattle.engine_model.specs.Refusals.{NoCallMade, ApplyCounts}
+use Rattle.engine_model.specs.Faults.{ApplyAnswers, ApplyExact, ApplySays, MayStandHalf, Tries, FailsTwice, Dumps, Backs, HadDamaged, HasTaken}
 use Rattle.engine_model.specs.declared.Left.{Left}
 use Rattle.engine_model.specs.declared.Left.TheVariants as sides
 use Rattle.engine_model.specs.declared.Applied.{Applied}
@@ -31,6 +32,7 @@ use Rattle.engine_model.specs.declared.ApplyFault.{ApplyFault}
 use Rattle.engine_model.specs.declared.ApplyFault.TheVariants.{Pending, MergeRefused, HostFault, KernelRefused, NotVerified, InDoubt, Damaged, HardwareDiffers, OutOfMemory}
 use Rattle.engine_model.specs.declared.ApplyOpts.{ApplyOpts}
 use Rattle.engine_model.proofs.lemmas.Leading.{alike_is, near_wider, both, kept_on, kept_stays}
+use Rattle.engine_model.proofs.lemmas.Refusals.{quiet_on, quiet_dumped, unmade_on}
 use Rattle.engine_core.specs.Calm.{CalmSince}
 use Rattle.engine_core.specs.Saying.{DamagedSince}
 use Rattle.top_model.specs.Said.{Said, Says, said_applied}
@@ -41,13 +43,15 @@ use Rattle.top_model.specs.Runs.{Run, MayRead, HostRose, HostRoseTwice, entry, r
 use Rattle.top_model.specs.Grounds.{Grounds, IsGround, IsDocumentOf}
 use Rattle.top_model.specs.Told.{NotedOn, ErrTextOn, Told}
 use Rattle.top_model.specs.Causes.{MayWant, MayAnswer, Comes, Expects, ExactlyOf, expected}
-use Rattle.top_model.specs.Tried.{HasExcuse, Tried}
+use Rattle.top_model.specs.Counts.{PolicyCounted}
+use Rattle.top_model.specs.Tried.{HasExcuse}
 use Rattle.top_model.specs.Exits.{PolicyLeaves}
 use Rattle.top_model.specs.Undisturbed.{Spares}
 use Rattle.top_model.specs.Answered.{GoesOn, Answered}
 use Rattle.top_model.specs.declared.report.DocFault.{DocFault}
 use Rattle.top_model.specs.declared.report.Cause.{Cause}
 use Rattle.top_model.specs.declared.report.Cause.TheVariants as cause
+use Rattle.top_model.proofs.lemmas.Counting.{nothing_other}
 use Rattle.top_model.proofs.lemmas.Settles.{same_some}
 use Rattle.top_model.proofs.lemmas.Settling.{refused_settles}
 use Rattle.top_model.proofs.lemmas.Wanting.{may_want_order}
@@ -57,7 +61,7 @@ use Rattle.answer_text.specs.Speaking.{Spoken}
 use Rattle.answer_text.proofs.lemmas.Told.{written, starved_line, told_refused}
 use Rattle.order_reading.specs.Reading.{Answers, itself}
 use Rattle.nmstate_top.specs.Begun.{Recovers, side_of, look_cause, Seen, Wants, told_side, fault_notes}
-use Rattle.nmstate_top.proofs.Applies.{answer_of}
+use Rattle.nmstate_top.proofs.Applies.{answer_of, tried}
 use Rattle.nmstate_top.proofs.EndsEarly.{recovery_cause, refused_late, ran_out}
 use Rattle.nmstate_top.proofs.Evaluates.{document_refused}
 
@@ -112,6 +116,12 @@ unbegun Nothing clear is = refl
 unbegun (Waits deadline) clear is = absurd clear
 unbegun Restored clear is = absurd (rolled_begun is)
 
+-- what is told as taken back was restored
+restored : (done : Recovered) → IsClear done → side_of done ≡ sides.RolledBack → done ≡ Restored
+restored Nothing clear is = absurd (rolled_begun (sym is))
+restored (Waits deadline) clear is = absurd clear
+restored Restored clear is = refl
+
 same_or_restored : {X : Type 0} (done : Recovered) → IsClear done → X → (side_of done ≡ sides.NotBegun) ⊎ X
 same_or_restored Nothing clear x = inl refl
 same_or_restored (Waits deadline) clear x = inr x
@@ -119,9 +129,6 @@ same_or_restored Restored clear x = inr x
 
 pub later : (a b c : ℕ) → a ≤ b → b ≤ c → a ≤ c
 later a b c one two = omega arith
-
-quiet_dumped : (old mid new : Kernel) → NoneRefused old mid → new ≡ dumped mid → NoneRefused old new
-quiet_dumped old mid new one is = record { refusals = ap (λ (k : Kernel). k.refusals) is ∙ one.refusals; last = ap (λ (k : Kernel). k.last) is ∙ one.last }
 
 module _ (tells honest : Type 0) (honest_tells : honest → tells) (now : ℕ) (done : Recovered) (old between new : HostView) (net : NetData) (seen : Seen tells honest now done old between new net) where
   abbrev first : Recovers tells honest now old between (Ok done)
@@ -134,7 +141,15 @@ module _ (tells honest : Type 0) (honest_tells : honest → tells) (now : ℕ) (
   seen_moment = later old.stops.moment between.stops.moment new.stops.moment first.moment seen.looks.stops.later
 
   seen_quiet : NoneRefused old.kernel new.kernel
-  seen_quiet = quiet_dumped old.kernel between.kernel new.kernel first.quiet seen.looks.calls
+  seen_quiet = quiet_on old.kernel between.kernel new.kernel first.counts (quiet_dumped between.kernel new.kernel seen.looks.calls)
+
+  -- where nothing was taken back, no call was made
+  seen_unmade : side_of done ≡ sides.NotBegun → NoCallMade old.kernel new.kernel
+  seen_unmade is = unmade_on old.kernel between.kernel new.kernel (inl (first.unmade (λ e. nothing_other (sym (unbegun done seen.begun.clear is) ∙ e)))) (inr seen.looks.calls)
+
+  -- where something was, it was to be
+  seen_taken : side_of done ≡ sides.RolledBack → tells → HasTaken now (standing old.state).cell
+  seen_taken is t = first.restored t (ap given (restored done seen.begun.clear is))
 
   -- no checkpoint stands
   seen_none : tells → (standing new.state).cell ≡ None
@@ -278,6 +293,12 @@ module _ (r : Run) (p : PolicyData) (opts : ApplyOpts) (doc : Doc) (done : Recov
   quiet : NoneRefused r.host.kernel mid.kernel
   quiet = seen_quiet r.host_tells r.honest tells_of r.now done r.host between mid wants.net seen
 
+  unmade : side_of done ≡ sides.NotBegun → NoCallMade r.host.kernel mid.kernel
+  unmade = seen_unmade r.host_tells r.honest tells_of r.now done r.host between mid wants.net seen
+
+  taken : side_of done ≡ sides.RolledBack → r.host_tells → HasTaken r.now (reads r).cell
+  taken = seen_taken r.host_tells r.honest tells_of r.now done r.host between mid wants.net seen
+
   after : r.honest → standing mid.state ≡ (recover r.now (reads r)).after
   after = seen_after r.host_tells r.honest tells_of r.now done r.host between mid wants.net seen
 
@@ -352,36 +373,23 @@ module _ (r : Run) (p : PolicyData) (opts : ApplyOpts) (doc : Doc) (done : Recov
 
   comes : (result : Result Applied ApplyFault) → ApplySays r.host_tells Ask r.host r.host_after result → (r.honest → ApplyExact (HostRose r) (apply Ask (reads r)) r.host_after result)
       → Unpending r.host_tells result → MayWant r → Comes r (Ok order) (answer_of result)
-  comes (Ok done) says exact never wanted = (says.0, λ t verifies. (doc, is_document, says.1 t verifies))
+  comes (Ok done) says exact never wanted = λ t verifies. (doc, is_document, says t verifies)
   comes (Err (Pending deadline)) says exact never wanted = (λ t. absurd (never t), λ t. absurd (never t))
   comes (Err (MergeRefused refused)) says exact never wanted = (
-    λ t. let s = says t in record { doc = doc; net = s.0; is_doc = is_document; dumped = s.1; broken = s.2 },
-    λ honest. let is = exact honest in refused_settles Ask refused (reads r) is.answer ∙ ap (λ (x : Standing). Some x) (sym is.after),
+    λ t. let s = says.1 t in record { doc = doc; net = s.from; is_doc = is_document; dumped = s.is_fresh; broken = s.breaks },
+    record {
+      calls = says.0;
+      none = λ t. (says.1 t).none;
+      stands = λ honest. let is = exact honest in refused_settles Ask refused (reads r) is.answer ∙ ap (λ (x : Standing). Some x) (sym is.after);
+    },
   )
   comes (Err (HostFault side)) says exact never wanted = (says.0, says.1)
-  comes (Err (KernelRefused k n side)) says exact never wanted = (says.0, (says.1, says.2))
-  comes (Err (NotVerified found side)) says exact never wanted = (says.0, says.1, says.2, λ t. let s = says.3 t in record { doc = doc; saved = s.0; is_doc = is_document; is_saved = s.1; other = s.2 })
+  comes (Err (KernelRefused k n side)) says exact never wanted = (says.0, says.1)
+  comes (Err (NotVerified found side)) says exact never wanted = (says.0, says.1, says.2, λ t. let s = says.4 t in record { doc = doc; saved = s.saved; is_doc = is_document; is_saved = s.is_saved; other = s.other })
   comes (Err InDoubt) says exact never wanted = (says, λ t. tt)
   comes (Err (Damaged area)) says exact never wanted = says
   comes (Err (HardwareDiffers names)) says exact never wanted = says
   comes (Err OutOfMemory) says exact never wanted = wanted
-
-  tried : (result : Result Applied ApplyFault) → Tries (HasExcuse r opts) r.host.faults r.host.kernel.refusals r.host_after result → Dumps r.host_tells opts.no_verify r.host_after result
-      → (r.honest → Backs (recover r.now (reads r)).after.net r.host_after result) → Tried r (Ok order) (answer_of result)
-  tried (Ok done) tries dumps backs = record { verified = dumps.0; skipped = dumps.1 }
-  tried (Err (Pending deadline)) tries dumps backs = tt
-  tried (Err (MergeRefused refused)) tries dumps backs = tt
-  tried (Err (HostFault sides.NotBegun)) tries dumps backs = tt
-  tried (Err (HostFault sides.RolledBack)) tries dumps backs = backs
-  tried (Err (HostFault sides.Pending)) tries dumps backs = tries
-  tried (Err (KernelRefused k n sides.NotBegun)) tries dumps backs = tt
-  tried (Err (KernelRefused k n sides.RolledBack)) tries dumps backs = tt
-  tried (Err (KernelRefused k n sides.Pending)) tries dumps backs = tries
-  tried (Err (NotVerified found side)) tries dumps backs = tt
-  tried (Err InDoubt) tries dumps backs = tt
-  tried (Err (Damaged area)) tries dumps backs = tt
-  tried (Err (HardwareDiffers names)) tries dumps backs = tt
-  tried (Err OutOfMemory) tries dumps backs = tt
 
   module _ (h : r.honest) where
     answers_so : (result : Result Applied ApplyFault) → (apply Ask (reads r)).answer ≡ result → expected r (Ok order) ≡ answer_of result
@@ -432,8 +440,9 @@ module _ (r : Run) (p : PolicyData) (opts : ApplyOpts) (doc : Doc) (done : Recov
   -- ---- all of it, from the change
 
   module _ (result : Result Applied ApplyFault)
-      (says : ApplySays r.host_tells Ask mid r.host_after result)
-      (tries : Tries ((r.host_tells → HasTaken r.now (standing mid.state).cell) ⊎ (opts.no_verify ≡ false)) mid.faults mid.kernel.refusals r.host_after result)
+      (says : ApplySays r.host_tells Ask mid r.host_after result) (counts : ApplyCounts mid.kernel r.host_after.kernel result)
+      (tries : Tries (MayStandHalf r.host_tells Ask mid) mid.faults mid.kernel.refusals r.host_after result)
+      (twice : r.honest → FailsTwice (HasTaken r.now (standing mid.state).cell) mid.faults r.host_after result)
       (dumps : Dumps r.host_tells opts.no_verify r.host_after result)
       (backs : r.honest → Backs (recover r.now (standing mid.state)).after.net r.host_after result)
       (exact : r.honest → ApplyExact (Rose mid.faults r.host_after.faults) (apply Ask (standing mid.state)) r.host_after result)
@@ -459,7 +468,10 @@ module _ (r : Run) (p : PolicyData) (opts : ApplyOpts) (doc : Doc) (done : Recov
         record { pair = d.pair; left = d.left; damaged = d.damaged }
 
     says_all : ApplySays r.host_tells Ask r.host r.host_after told_result
-    says_all = go.says r.host_tells Ask back r.host mid r.host_after (never_pending done) faults quiet none same result says had_damaged
+    says_all = go.says r.host_tells Ask back r.host mid r.host_after (never_pending done) faults quiet none same unmade taken result says had_damaged
+
+    counts_all : PolicyCounted r.host_tells r.host.kernel r.host_after.kernel (answer_of told_result)
+    counts_all = go.counts r.host_tells Ask back r.host mid r.host_after (never_pending done) faults quiet none same unmade taken result says counts
 
     exact_all : r.honest → ApplyExact (HostRose r) (apply Ask (reads r)) r.host_after told_result
     exact_all h = go.exact r.host_tells Ask back r.host mid r.host_after (never_pending done) faults quiet none same (after h) (none (tells_of h)) (begins h) result (exact h)
@@ -472,6 +484,9 @@ module _ (r : Run) (p : PolicyData) (opts : ApplyOpts) (doc : Doc) (done : Recov
 
     tries_all : Tries (HasExcuse r opts) r.host.faults r.host.kernel.refusals r.host_after told_result
     tries_all = go.tries r.host_tells Ask back r.host mid r.host_after (never_pending done) faults quiet none same (HasTaken r.now (reads r).cell) (opts.no_verify ≡ false) result tries
+
+    twice_all : r.honest → FailsTwice (HasTaken r.now (reads r).cell) r.host.faults r.host_after told_result
+    twice_all h = go.fails_twice r.host_tells Ask back r.host mid r.host_after (never_pending done) faults quiet none same (after h) (none (tells_of h)) (HasTaken r.now (reads r).cell) result (twice h)
 
     dumps_all : Dumps r.host_tells opts.no_verify r.host_after told_result
     dumps_all = go.dumps r.host_tells Ask back r.host mid r.host_after (never_pending done) faults quiet none same opts.no_verify result dumps
@@ -522,7 +537,8 @@ module _ (r : Run) (p : PolicyData) (opts : ApplyOpts) (doc : Doc) (done : Recov
           answer = answer_of told_result;
           may = may p opts told_result;
           comes = comes told_result says_all exact_all (unpending r.host_tells Ask back mid r.host_after none result says) wanted;
-          tried = tried told_result tries_all dumps_all backs_all;
+          counts = counts_all;
+          tried = tried r doc opts told_result says_all tries_all twice_all dumps_all backs_all;
           exactly = λ honest. exactly honest told_result (exact_all honest) wanted;
           told = told;
           goes_on = goes_on;

@@ -1,12 +1,13 @@
 -- All that is said of a recovery, from what the engine promises of it.
-use Rattle.std.proofs.Common.{◌≡◌, inr, refl, ap}
-use Rattle.std.specs.Prelude.{ℕ, Result, Ok, Err, IsErrOf}
+use Rattle.std.proofs.Common.{◌≡◌, inl, inr, refl, ap}
+use Rattle.std.specs.Prelude.{◌≢◌, ℕ, Result, Ok, Err, IfOk, IsErrOf}
 use Rattle.checkpoint_cell.specs.Settled.{Standing, standing}
 use Rattle.engine_model.specs.Machine.{recover}
 use Rattle.engine_model.specs.Sound.{Sound}
 use Rattle.engine_model.specs.Stations.{Stands, Entry, Only, Kept, at}
 use Rattle.engine_model.specs.Exit.{BackExit}
-use Rattle.engine_model.specs.Faults.{BackAnswers, BackExact, BackSays, HasTaken}
+use Rattle.engine_model.specs.Refusals.{BackCounts}
+use Rattle.engine_model.specs.Faults.{BackAnswers, BackExact, BackSays, HasTaken, GaveSaved}
 use Rattle.engine_model.specs.declared.Left.TheVariants as sides
 use Rattle.engine_model.specs.declared.Recovered.{Recovered}
 use Rattle.engine_model.specs.declared.Recovered.TheVariants.{Nothing, Waiting, Restored}
@@ -18,8 +19,10 @@ use Rattle.top_model.specs.Machine.{told, back_cause}
 use Rattle.top_model.specs.Runs.{Run, MayRead, entry, reads, left_at_exit}
 use Rattle.top_model.specs.Told.{Answer, Told}
 use Rattle.top_model.specs.Causes.{MayWant, MayAnswer, Comes, Expects, ExactlyOf}
+use Rattle.top_model.specs.Tried.{Tried}
 use Rattle.top_model.specs.Exits.{BackLeaves}
 use Rattle.top_model.specs.Answered.{GoesOn, Answered}
+use Rattle.top_model.proofs.lemmas.Counting.{recover_counted}
 use Rattle.top_model.proofs.lemmas.Wanting.{may_want_recovering}
 
 abbrev pub answer_of : Result Recovered BackFault → Answer
@@ -39,6 +42,9 @@ leaves after entry left (Err OutOfMemory) exit = exit
 module _ (r : Run) where
   abbrev Says : Result Recovered BackFault → Type 0
   Says result = BackSays r.host_tells (recover r.now (reads r)).answer r.host r.host_after result
+
+  abbrev Counted : Result Recovered BackFault → Type 0
+  Counted result = BackCounts r.host.kernel r.host_after.kernel result
 
   abbrev Answers : Result Recovered BackFault → Type 0
   Answers result = BackAnswers (HasTaken r.now (reads r).cell) (recover r.now (reads r)) r.host r.host_after result
@@ -69,16 +75,23 @@ module _ (r : Run) where
   may (Err (HardwareDiffers names)) says never = tt
   may (Err OutOfMemory) says never = tt
 
-  comes : (result : Result Recovered BackFault) → Says result → (r.host_tells → Done result) → (IsErrOf result OutOfMemory → MayWant r) → Comes r (Ok recovering) (answer_of result)
-  comes (Ok Nothing) says done wants = (says, λ t. ap answer_of (done t))
-  comes (Ok (Waiting deadline)) says done wants = (says, λ t. ap answer_of (done t))
-  comes (Ok Restored) says done wants = (says, done)
-  comes (Err NoCheckpoint) says done wants = λ t. ap answer_of (says t)
-  comes (Err (HostFault side)) says done wants = (says.0, (says.1, says.2))
-  comes (Err (KernelRefused k n side)) says done wants = (says.0, says.1)
-  comes (Err (Damaged area)) says done wants = says
-  comes (Err (HardwareDiffers names)) says done wants = says
-  comes (Err OutOfMemory) says done wants = wants refl
+  comes : (result : Result Recovered BackFault) → Says result → Counted result → (r.host_tells → Done result) → (IsErrOf result OutOfMemory → MayWant r) → Comes r (Ok recovering) (answer_of result)
+  comes (Ok Nothing) says counts done wants = λ t. ap answer_of (done t)
+  comes (Ok (Waiting deadline)) says counts done wants = λ t. ap answer_of (done t)
+  comes (Ok Restored) says counts done wants = done
+  comes (Err NoCheckpoint) says counts done wants = λ t. ap answer_of (says t)
+  comes (Err (HostFault side)) says counts done wants = (says.0, (says.1, says.2))
+  comes (Err (KernelRefused k n side)) says counts done wants = says
+  comes (Err (Damaged area)) says counts done wants = λ t. let s = says t in (s.0, record { damaged = s.1; held = inl (inr counts) })
+  comes (Err (HardwareDiffers names)) says counts done wants = says
+  comes (Err OutOfMemory) says counts done wants = wants refl
+
+  -- one that restored something gave the saved network
+  tried : (result : Result Recovered BackFault) → (r.host_tells → result ≡ given Restored → GaveSaved r.host_after) → Tried r (Ok recovering) (answer_of result)
+  tried (Ok Nothing) gave = tt
+  tried (Ok (Waiting deadline)) gave = tt
+  tried (Ok Restored) gave = λ t. gave t refl
+  tried (Err fault) gave = tt
 
   exactly : (result : Result Recovered BackFault) → Says result → BackExact (recover r.now (reads r)).answer result → (IsErrOf result OutOfMemory → MayWant r) → ExactlyOf r (Ok recovering) (answer_of result)
   exactly (Ok x) says is wants = ap answer_of is
@@ -98,7 +111,8 @@ module _ (r : Run) where
   expects (Err (HardwareDiffers names)) is wants = record { answer = ap answer_of is.answer; after = is.after }
   expects (Err OutOfMemory) is wants = wants refl
 
-  module _ (inputs : Inputs) (may_read : MayRead r inputs) (is : order_of r.in_script inputs r.words ≡ Ok recovering) (result : Result Recovered BackFault) (says : Says result) (done : r.host_tells → Done result)
+  module _ (inputs : Inputs) (may_read : MayRead r inputs) (is : order_of r.in_script inputs r.words ≡ Ok recovering) (result : Result Recovered BackFault) (says : Says result) (counts : Counted result)
+      (unmade : IfOk result (λ x. x ≢ Restored → r.host_after.kernel ≡ r.host.kernel)) (gave : r.host_tells → result ≡ given Restored → GaveSaved r.host_after) (done : r.host_tells → Done result)
       (exact : r.honest → BackExact (recover r.now (reads r)).answer result)
       (answers : r.honest → Sound r.host → Answers result)
       (exits : r.honest → Sound r.host → BackExit (recover r.now (reads r)).after (entry r) (left_at_exit r) result)
@@ -114,8 +128,9 @@ module _ (r : Run) where
       gives = (inputs, may_read, is);
       answer = answer_of result;
       may = may result says never;
-      comes = comes result says done wants;
-      tried = tt;
+      comes = comes result says counts done wants;
+      counts = recover_counted r.host.kernel r.host_after.kernel result counts unmade;
+      tried = tried result gave;
       exactly = λ honest. exactly result says (exact honest) wants;
       told = told;
       goes_on = goes_on;

@@ -1,12 +1,13 @@
 -- All that is said of a rollback, from what the engine promises of it.
-use Rattle.std.proofs.Common.{◌≡◌, inr, refl, ap}
-use Rattle.std.specs.Prelude.{⊤, Result, Ok, Err, IsErrOf}
+use Rattle.std.proofs.Common.{◌≡◌, inl, inr, refl, ap}
+use Rattle.std.specs.Prelude.{⊤, Result, Ok, Err, OnOk, IsErrOf}
 use Rattle.checkpoint_cell.specs.Settled.{Standing, standing}
 use Rattle.engine_model.specs.Machine.{rollback}
 use Rattle.engine_model.specs.Sound.{Sound}
 use Rattle.engine_model.specs.Stations.{Stands, Entry, Only, Kept, at}
 use Rattle.engine_model.specs.Exit.{BackExit}
-use Rattle.engine_model.specs.Faults.{BackAnswers, BackExact, BackSays, HasSet}
+use Rattle.engine_model.specs.Refusals.{BackCounts}
+use Rattle.engine_model.specs.Faults.{BackAnswers, BackExact, BackSays, HasSet, GaveSaved}
 use Rattle.engine_model.specs.declared.Left.TheVariants as sides
 use Rattle.engine_model.specs.declared.BackFault.{BackFault}
 use Rattle.engine_model.specs.declared.BackFault.TheVariants.{NoCheckpoint, HostFault, KernelRefused, Damaged, HardwareDiffers, OutOfMemory}
@@ -16,8 +17,10 @@ use Rattle.top_model.specs.Machine.{told, back_cause}
 use Rattle.top_model.specs.Runs.{Run, MayRead, entry, reads, left_at_exit}
 use Rattle.top_model.specs.Told.{Answer, Told}
 use Rattle.top_model.specs.Causes.{MayWant, MayAnswer, Comes, Expects, ExactlyOf}
+use Rattle.top_model.specs.Tried.{Tried}
 use Rattle.top_model.specs.Exits.{BackLeaves}
 use Rattle.top_model.specs.Answered.{GoesOn, Answered}
+use Rattle.top_model.proofs.lemmas.Counting.{rollback_counted}
 use Rattle.top_model.proofs.lemmas.Wanting.{may_want_rolling_back}
 
 abbrev pub answer_of : Result ⊤ BackFault → Answer
@@ -38,6 +41,9 @@ module _ (r : Run) where
   abbrev Says : Result ⊤ BackFault → Type 0
   Says result = BackSays r.host_tells (rollback (reads r)).answer r.host r.host_after result
 
+  abbrev Counted : Result ⊤ BackFault → Type 0
+  Counted result = BackCounts r.host.kernel r.host_after.kernel result
+
   abbrev Answers : Result ⊤ BackFault → Type 0
   Answers result = BackAnswers (HasSet (reads r).cell) (rollback (reads r)) r.host r.host_after result
 
@@ -55,14 +61,19 @@ module _ (r : Run) where
   may (Err (HardwareDiffers names)) says = tt
   may (Err OutOfMemory) says = tt
 
-  comes : (result : Result ⊤ BackFault) → Says result → (r.host_tells → Done result) → (IsErrOf result OutOfMemory → MayWant r) → Comes r (Ok rolling_back) (answer_of result)
-  comes (Ok x) says done wants = (says, done)
-  comes (Err NoCheckpoint) says done wants = λ t. ap answer_of (says t)
-  comes (Err (HostFault side)) says done wants = (says.0, (says.1, says.2))
-  comes (Err (KernelRefused k n side)) says done wants = (says.0, says.1)
-  comes (Err (Damaged area)) says done wants = says
-  comes (Err (HardwareDiffers names)) says done wants = says
-  comes (Err OutOfMemory) says done wants = wants refl
+  comes : (result : Result ⊤ BackFault) → Says result → Counted result → (r.host_tells → Done result) → (IsErrOf result OutOfMemory → MayWant r) → Comes r (Ok rolling_back) (answer_of result)
+  comes (Ok x) says counts done wants = done
+  comes (Err NoCheckpoint) says counts done wants = λ t. ap answer_of (says t)
+  comes (Err (HostFault side)) says counts done wants = (says.0, (says.1, says.2))
+  comes (Err (KernelRefused k n side)) says counts done wants = says
+  comes (Err (Damaged area)) says counts done wants = λ t. let s = says t in (s.0, record { damaged = s.1; held = inl (inr counts) })
+  comes (Err (HardwareDiffers names)) says counts done wants = says
+  comes (Err OutOfMemory) says counts done wants = wants refl
+
+  -- one that is done gave the saved network
+  tried : (result : Result ⊤ BackFault) → (r.host_tells → OnOk result (GaveSaved r.host_after)) → Tried r (Ok rolling_back) (answer_of result)
+  tried (Ok x) gave = gave
+  tried (Err fault) gave = tt
 
   exactly : (result : Result ⊤ BackFault) → Says result → BackExact (rollback (reads r)).answer result → (IsErrOf result OutOfMemory → MayWant r) → ExactlyOf r (Ok rolling_back) (answer_of result)
   exactly (Ok x) says is wants = ap answer_of is
@@ -82,7 +93,8 @@ module _ (r : Run) where
   expects (Err (HardwareDiffers names)) is wants = record { answer = ap answer_of is.answer; after = is.after }
   expects (Err OutOfMemory) is wants = wants refl
 
-  module _ (inputs : Inputs) (may_read : MayRead r inputs) (is : order_of r.in_script inputs r.words ≡ Ok rolling_back) (result : Result ⊤ BackFault) (says : Says result) (done : r.host_tells → Done result)
+  module _ (inputs : Inputs) (may_read : MayRead r inputs) (is : order_of r.in_script inputs r.words ≡ Ok rolling_back) (result : Result ⊤ BackFault) (says : Says result) (counts : Counted result)
+      (gave : r.host_tells → OnOk result (GaveSaved r.host_after)) (done : r.host_tells → Done result)
       (exact : r.honest → BackExact (rollback (reads r)).answer result)
       (answers : r.honest → Sound r.host → Answers result)
       (exits : r.honest → Sound r.host → BackExit (rollback (reads r)).after (entry r) (left_at_exit r) result)
@@ -98,8 +110,9 @@ module _ (r : Run) where
       gives = (inputs, may_read, is);
       answer = answer_of result;
       may = may result says;
-      comes = comes result says done wants;
-      tried = tt;
+      comes = comes result says counts done wants;
+      counts = rollback_counted r.host.kernel r.host_after.kernel result counts;
+      tried = tried result gave;
       exactly = λ honest. exactly result says (exact honest) wants;
       told = told;
       goes_on = goes_on;

@@ -165,6 +165,7 @@ module _ (r : Run) (calls : List Call) (nothing : ChangesNothing r.host_tells r.
         answer = answer;
         may = simulate_may answer l;
         comes = simulate_comes ran.goes_on.lawful want answer l;
+        counts = nothing.unmade;
         tried = tt;
         told = ran.told;
         goes_on = ran.goes_on;

@@ -7,13 +7,14 @@ use Rattle.net_model.specs.declared.Call.{Call}
 use Rattle.doc_tree.specs.Shape.{Shape}
 use Rattle.document_model.specs.declared.Doc.{Doc}
 use Rattle.policy_model.specs.Values.{PolicyData}
-use Rattle.host_core.specs.HostView.{IsLawfulHost}
+use Rattle.host_core.specs.HostView.{NoneRefused, IsLawfulHost}
 use Rattle.host_core.proofs.lemmas.Moments.{stays}
 use Rattle.checkpoint_cell.specs.Cell.{Checkpoint, applying as applying_cell}
 use Rattle.checkpoint_cell.specs.Settled.{Standing, standing, restored_to}
 use Rattle.engine_model.specs.Stations.{Stands, Entry, Near, Within, Before, Only, at}
 use Rattle.engine_model.specs.declared.ApplyOpts.{ApplyOpts}
 use Rattle.engine_model.proofs.lemmas.Leading.{kept_stays, near_wider}
+use Rattle.engine_model.proofs.lemmas.Refusals.{quiet_same}
 use Rattle.command_words.specs.declared.Command.{Command}
 use Rattle.command_words.specs.declared.Command.TheVariants.{Show, Plan, Policy, Simulate, Apply, Commit, Rollback, Recover, Check, Init, Script, Generate, Service, Rollout}
 use Rattle.order_reading.specs.AsDefined.{file_read}
@@ -22,6 +23,7 @@ use Rattle.top_model.specs.Orders.{Inputs, Order, showing, planning, evaluating,
 use Rattle.top_model.specs.Runs.{Run, Gives, Alone, SourceRose, HostRose, HostRoseTwice, reads, entry, left_at_exit}
 use Rattle.top_model.specs.Told.{Answer, Told}
 use Rattle.top_model.specs.Causes.{MayWant, Refuses, MayAnswer, Comes, Expects, ExactlyOf}
+use Rattle.top_model.specs.Counts.{Counts}
 use Rattle.top_model.specs.Tried.{Tried}
 use Rattle.top_model.specs.Exits.{AtExit, KeptBy, Reaches}
 use Rattle.top_model.specs.Undisturbed.{Spares, LeavesAlone}
@@ -254,6 +256,42 @@ comes_unread r (Err refusal) untouched rose other = (untouched, (rose, λ is. ot
     refuse : Cause → Result Order Cause
     refuse c = Err c
 
+-- no call was made
+none_refused : (r : Run) → NoneRefused r.host.kernel r.host.kernel
+none_refused r = quiet_same r.host.kernel r.host.kernel refl
+
+counts_memory : (r : Run) (order : Result Order Cause) → Counts (still r) order (Err OutOfMemory)
+counts_memory r (Ok (showing only json)) = inl refl
+counts_memory r (Ok (planning doc in_batch)) = inl refl
+counts_memory r (Ok (evaluating p)) = inl refl
+counts_memory r (Ok (planning_policy p in_batch)) = inl refl
+counts_memory r (Ok (simulating calls)) = inl refl
+counts_memory r (Ok (applying doc how)) = inl (none_refused r)
+counts_memory r (Ok (applying_policy p how)) = inl (none_refused r)
+counts_memory r (Ok committing) = inl refl
+counts_memory r (Ok rolling_back) = none_refused r
+counts_memory r (Ok recovering) = none_refused r
+counts_memory r (Ok checking) = inl refl
+counts_memory r (Ok (making links)) = inl refl
+counts_memory r (Ok (generating devices first second)) = inl refl
+counts_memory r (Err refusal) = inl refl
+
+counts_unread : (r : Run) (order : Result Order Cause) → Counts (still r) order (Err ReadFault)
+counts_unread r (Ok (showing only json)) = inl refl
+counts_unread r (Ok (planning doc in_batch)) = inl refl
+counts_unread r (Ok (evaluating p)) = inl refl
+counts_unread r (Ok (planning_policy p in_batch)) = inl refl
+counts_unread r (Ok (simulating calls)) = inl refl
+counts_unread r (Ok (applying doc how)) = inl refl
+counts_unread r (Ok (applying_policy p how)) = inl refl
+counts_unread r (Ok committing) = inl refl
+counts_unread r (Ok rolling_back) = inl refl
+counts_unread r (Ok recovering) = inl refl
+counts_unread r (Ok checking) = inl refl
+counts_unread r (Ok (making links)) = inl refl
+counts_unread r (Ok (generating devices first second)) = inl refl
+counts_unread r (Err refusal) = inl refl
+
 -- nothing was tried
 tried_memory : (r : Run) (order : Result Order Cause) → Tried (still r) order (Err OutOfMemory)
 tried_memory r (Ok (showing only json)) = tt
@@ -328,6 +366,7 @@ module _ (r : Run) (untouched : r.untouched) (goes_on : GoesOn (still r)) where
     answer = Err OutOfMemory;
     may = may_memory order;
     comes = comes_memory r order untouched wants;
+    counts = counts_memory r order;
     tried = tried_memory r order;
     told = told;
     goes_on = goes_on;
@@ -347,6 +386,7 @@ module _ (r : Run) (untouched : r.untouched) (goes_on : GoesOn (still r)) where
     answer = Err ReadFault;
     may = may_unread order file;
     comes = comes_unread r order untouched rose other;
+    counts = counts_unread r order;
     tried = tried_unread r order;
     told = told;
     goes_on = goes_on;
@@ -366,6 +406,7 @@ module _ (r : Run) (untouched : r.untouched) (goes_on : GoesOn (still r)) where
     answer = Err c;
     may = tt;
     comes = (untouched, refuses);
+    counts = inl refl;
     tried = tt;
     told = told;
     goes_on = goes_on;

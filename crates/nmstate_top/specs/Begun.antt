@@ -1,10 +1,10 @@
 -- What an apply of a policy did before its change: a recovery, and then a dump.
-use Rattle.std.specs.Prelude.{◌≡◌, ◌≤◌, ℕ, Some, None, [], Result, Ok, IfOk, IfErr, OnOk, IsErrOf}
+use Rattle.std.specs.Prelude.{◌≡◌, ◌≢◌, ◌≤◌, ℕ, Some, None, [], Result, Ok, IfOk, IfErr, OnOk, OnErr, IsErrOf}
 use Rattle.net_model.specs.NetData.{NetData}
 use Rattle.document_model.specs.declared.Doc.{Doc}
 use Rattle.policy_model.specs.Values.{PolicyData}
 use Rattle.host_core.specs.Faults.{HasFault}
-use Rattle.host_core.specs.HostView.{HostView, NoneRefused, dumped, IsLawfulHost}
+use Rattle.host_core.specs.HostView.{HostView, dumped, IsLawfulHost}
 use Rattle.host_core.specs.Stops.{Steps, Stays}
 use Rattle.host_core.specs.declared.DumpFault.{DumpFault}
 use Rattle.host_core.specs.declared.DumpFault.TheVariants as du
@@ -15,6 +15,7 @@ use Rattle.engine_model.specs.Sound.{Sound}
 use Rattle.engine_model.specs.Answers.{IsBefore, IsClear}
 use Rattle.engine_model.specs.Stations.{Only, Kept, at, entry_of, left_by}
 use Rattle.engine_model.specs.Exit.{BackExit}
+use Rattle.engine_model.specs.Refusals.{BackCounts}
 use Rattle.engine_model.specs.Faults.{BackAnswers, BackExact, BackSays, HasTaken}
 use Rattle.engine_model.specs.declared.Left.{Left}
 use Rattle.engine_model.specs.declared.Left.TheVariants.{NotBegun, RolledBack}
@@ -31,6 +32,8 @@ use Rattle.top_model.specs.declared.report.Cause.TheVariants.{HostFault, Damaged
 -- what a recovery promises
 pub record Recovers (tells honest : Type 0) (now : ℕ) (old new : HostView) (result : Result Recovered BackFault) : Type 0 where
   pub says : BackSays tells (recover now (standing old.state)).answer old new result
+  pub counts : BackCounts old.kernel new.kernel result
+  pub unmade : IfOk result (λ done. done ≢ Restored → new.kernel ≡ old.kernel)
   pub answer : honest → Sound old → BackAnswers (HasTaken now (standing old.state).cell) (recover now (standing old.state)) old new result
   pub exact : honest → BackExact (recover now (standing old.state)).answer result
   pub exit : honest → Sound old → BackExit (recover now (standing old.state)).after (entry_of old) (left_by new) result
@@ -39,11 +42,11 @@ pub record Recovers (tells honest : Type 0) (now : ℕ) (old new : HostView) (re
   pub set_there : IsErrOf result ba.NoCheckpoint → ⊥
   pub nothing : tells → result ≡ Ok Nothing → (recover now (standing old.state)).answer ≡ Ok Nothing
   pub waiting : tells → (deadline : ℕ) → result ≡ Ok (Waits deadline) → (recover now (standing old.state)).answer ≡ Ok (Waits deadline)
+  pub restored : tells → result ≡ Ok Restored → HasTaken now (standing old.state).cell
   pub cleared : tells → IfOk result (λ done. IsClear done → Holds None new)
   pub same : tells → result ≡ Ok Nothing → new.state ≡ old.state
   pub stays : result ≡ Ok Nothing → Steps Stays old.stops new.stops
   pub waiting_same : tells → (deadline : ℕ) → result ≡ Ok (Waits deadline) → new.state ≡ old.state
-  pub quiet : OnOk result (NoneRefused old.kernel new.kernel)
   pub after : honest → OnOk result (standing new.state ≡ (recover now (standing old.state)).after)
   pub begun : tells → IfErr result (λ fault. (IsBefore fault → ⊥) → HasTaken now (standing old.state).cell)
   pub moment : old.stops.moment ≤ new.stops.moment
@@ -57,6 +60,7 @@ pub record Looks (tells honest : Type 0) (old new : HostView) (result : Result N
   pub state : tells → new.state ≡ old.state
   pub stops : Steps Stays old.stops new.stops
   pub calls : OnOk result (new.kernel ≡ dumped old.kernel)
+  pub kernel : OnErr result (new.kernel ≡ old.kernel)
   pub cause : HasFault old.faults new.faults du.Failed result
 
 -- how it is told that nothing more was begun: a change that was taken back is told as that

@@ -37,4 +37,5 @@ pub record Makes (tells : Type 0) (links : List Link) (old new : HostView) (resu
   pub stays : tells → IsSome old.state.net → Unmoved old new
   pub maybe : tells → MaybeMade (first_net links) old.state new.state
   pub stops : tells → Steps (MaybeMade (first_net links)) old.stops new.stops
+  pub kernel : new.kernel ≡ old.kernel
   pub later : old.faults ≤ new.faults

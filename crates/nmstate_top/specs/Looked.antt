@@ -6,6 +6,7 @@ use Rattle.net_model.specs.declared.Call.{Call}
 use Rattle.host_core.specs.Faults.{Rose}
 use Rattle.host_core.specs.HostView.{HostView}
 use Rattle.host_core.specs.Stops.{Steps, Stays}
+use Rattle.engine_model.specs.Refusals.{NoCallMade}
 use Rattle.engine_model.specs.declared.Left.TheVariants.{NotBegun}
 use Rattle.top_model.specs.Said.{Said, Says}
 use Rattle.top_model.specs.Machine.{simulated}
@@ -13,10 +14,11 @@ use Rattle.top_model.specs.Told.{Answer}
 use Rattle.top_model.specs.declared.report.Cause.{Cause}
 use Rattle.top_model.specs.declared.report.Cause.TheVariants.{DocRefused, MergeRefused, CallRefused, HostFault, Damaged, OutOfMemory}
 
--- nothing is changed
+-- nothing is changed, and no kernel call is made
 pub record ChangesNothing (tells : Type 0) (old new : HostView) : Type 0 where
   pub state : tells → new.state ≡ old.state
   pub stops : Steps Stays old.stops new.stops
+  pub unmade : NoCallMade old.kernel new.kernel
   pub later : old.faults ≤ new.faults
 
 -- this network was found: the host's, where it is honest

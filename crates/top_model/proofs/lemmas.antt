@@ -9,6 +9,7 @@ pub mod Headlines
 pub mod Spared
 pub mod Noting
 pub mod Writes
+pub mod Counting
 pub mod Commits
 pub mod Folding
 pub mod Stepping

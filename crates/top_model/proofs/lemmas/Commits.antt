@@ -1,5 +1,5 @@
 -- All that is said of a commit, from what the engine promises of it.
-use Rattle.std.proofs.Common.{◌≡◌, refl, ap, Some}
+use Rattle.std.proofs.Common.{◌≡◌, inl, refl, ap, Some}
 use Rattle.std.specs.Prelude.{◌≢◌, ⊤, Result, Ok, Err, codes}
 use Rattle.checkpoint_cell.specs.Settled.{standing}
 use Rattle.engine_model.specs.Machine.{commit}
@@ -86,7 +86,8 @@ module _ (r : Run) (is : command_of r.words ≡ Some Commit) (tells_if : r.hones
   module _ (result : Result ⊤ CommitFault) (answers : CommitAnswers r.host_tells r.now r.host r.host_after result)
       (exits : r.host_tells → Sound r.host → CommitExit r.now (entry r) (left_at_exit r) result)
       (read_exits : r.host_tells → Sound r.host → CommitExit r.now (at (reads r)) (Only (standing r.host_after.state)) result)
-      (kept : r.host_tells → Sound r.host → Kept (Only (commit r.now (reads r)).after) r.host r.host_after) where
+      (kept : r.host_tells → Sound r.host → Kept (Only (commit r.now (reads r)).after) r.host r.host_after)
+      (same : r.host_after.kernel ≡ r.host.kernel) where
     pub answered : GoesOn r → Told r (Ok committing) (answer_of result) → Answered r
     answered goes_on told = record {
       order = Ok committing;
@@ -94,6 +95,7 @@ module _ (r : Run) (is : command_of r.words ≡ Some Commit) (tells_if : r.hones
       answer = answer_of result;
       may = may result;
       comes = comes result answers;
+      counts = inl same;
       tried = tt;
       told = told;
       exactly = λ honest. exactly result answers (tells_if honest);

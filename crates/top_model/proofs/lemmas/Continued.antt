@@ -1,11 +1,11 @@
 -- What an apply says from the beginning of its command, where a recovery that left no checkpoint and a dump came before it:
 -- it is what an apply from that beginning says.
 use Rattle.std.proofs.Common.{◌≡◌, ◌≢◌, ◌⊎◌, ◌≤◌, ◌∙◌, inl, inr, refl, sym, ap, subst, arith, ℕ, Bool, true, false, Option, Some, None, Result, Ok, Err}
-use Rattle.std.specs.Prelude.{if◌then◌else◌}
+use Rattle.std.specs.Prelude.{if◌then◌else◌, IsSome}
 use Rattle.net_model.specs.NetData.{NetData}
 use Rattle.document_model.specs.declared.Refused.{Refused}
 use Rattle.host_core.specs.Faults.{Rose, RoseTwice}
-use Rattle.host_core.specs.HostView.{State, Kernel, HostView, WasRefused, NoneRefused}
+use Rattle.host_core.specs.HostView.{State, HostView, NoneRefused}
 use Rattle.host_core.specs.Stops.{Steps, Stays, IsLawful}
 use Rattle.host_core.proofs.lemmas.Counts.{rose_after, twice_after}
 use Rattle.checkpoint_cell.specs.Cell.{Checkpoint, cell_of, applying}
@@ -16,7 +16,8 @@ use Rattle.engine_model.specs.Sound.{Fit, Sound}
 use Rattle.engine_model.specs.Answers.{IsClear}
 use Rattle.engine_model.specs.Stations.{Stands, Near, Within, Only, Before, Settled, Either, Kept, Entry, entry_of, at, left_by}
 use Rattle.engine_model.specs.Exit.{Unsettled, Marked, OnWay, InDoubt as IsInDoubt, ApplyExit}
-use Rattle.engine_model.specs.Faults.{IsOutcome, IsMade, LeftSays, HasTaken, HadDamaged, ApplySays, ApplyExact, ApplyAnswers, Tries, Dumps, Backs}
+use Rattle.engine_model.specs.Refusals.{NoCallMade, ApplyCounts}
+use Rattle.engine_model.specs.Faults.{IsOutcome, IsMade, LeftSays, HasTaken, HadDamaged, GaveBack, SettlesOnly, StandsDamaged, ApplySays, ApplyExact, ApplyAnswers, Tries, FailsTwice, Dumps, Backs}
 use Rattle.engine_model.specs.declared.Left.{Left}
 use Rattle.engine_model.specs.declared.Left.TheVariants.{NotBegun, RolledBack, Pending}
 use Rattle.engine_model.specs.declared.Applied.{Applied}
@@ -26,7 +27,11 @@ use Rattle.engine_model.specs.declared.BackFault.{BackFault}
 use Rattle.engine_model.specs.declared.ApplyFault.{ApplyFault}
 use Rattle.engine_model.specs.declared.ApplyFault.TheVariants as fa
 use Rattle.engine_model.proofs.lemmas.Leading.{near_wider, near_on, kept_on, kept_wider}
+use Rattle.engine_model.proofs.lemmas.Refusals.{quiet_on, unmade_quiet, unmade_on, refused_after, once_after, few_after}
 use Rattle.engine_model.proofs.lemmas.Backs.{settles}
+use Rattle.top_model.specs.Said.{said_applied}
+use Rattle.top_model.specs.Machine.{told, apply_cause}
+use Rattle.top_model.specs.Counts.{PolicyCounted}
 use Rattle.top_model.specs.Undisturbed.{LeavesAlone}
 use Rattle.top_model.proofs.lemmas.Settling.{change_waits}
 
@@ -80,12 +85,6 @@ module _ (a : Asked) where
 
 -- ---- counts
 
-quiet_on : (old mid new : Kernel) → NoneRefused old mid → NoneRefused mid new → NoneRefused old new
-quiet_on old mid new one two = record { refusals = two.refusals ∙ one.refusals; last = two.last ∙ one.last }
-
-refused_on : (k n : ℕ) (old mid new : Kernel) → NoneRefused old mid → WasRefused k n mid new → WasRefused k n old new
-refused_on k n old mid new one two = record { rose = subst (λ (r : ℕ). Rose r new.refusals) one.refusals two.rose; last = two.last; counted = two.counted }
-
 -- ---- what was left before it
 
 -- where no checkpoint stood and nothing changed, each pair that was left since has the network that reads
@@ -124,19 +123,68 @@ module _ (tells : Type 0) (a : Asked) (back : Left) (old mid new : HostView) (si
   refused_left RolledBack other says = says
   refused_left Pending other says = tt
 
-  pub says : (result : Result Applied ApplyFault) → ApplySays tells a mid new result → ((area : ℕ) → result ≡ Err (fa.Damaged area) → tells → HadDamaged area old new) → ApplySays tells a old new (told_as back result)
-  says (Ok done) is damaged = (quiet_on old.kernel mid.kernel new.kernel quiet is.0, is.1)
-  says (Err (fa.Pending until)) is damaged = λ told. absurd (none_waits a (standing mid.state) until (none told) (is told).answer)
-  says (Err (fa.MergeRefused refused)) is damaged = is
-  says (Err (fa.HostFault NotBegun)) is damaged = (rose is.0, unbegun back refl is.1)
-  says (Err (fa.HostFault RolledBack)) is damaged = (rose is.0, is.1)
-  says (Err (fa.HostFault Pending)) is damaged = (rose is.0, tt)
-  says (Err fa.InDoubt) is damaged = rose is
-  says (Err (fa.KernelRefused k n left)) is damaged = (refused_on k n old.kernel mid.kernel new.kernel quiet is.0, refused_left left is.2 is.1, is.2)
-  says (Err (fa.NotVerified found left)) is damaged = is
-  says (Err (fa.Damaged area)) is damaged = damaged area refl
-  says (Err (fa.HardwareDiffers names)) is damaged = is
-  says (Err fa.OutOfMemory) is damaged = tt
+  -- where nothing was taken back before, no call was made before; else a change was to be taken back
+  module _ (unmade : back ≡ NotBegun → NoCallMade old.kernel mid.kernel) (taken : back ≡ RolledBack → tells → HasTaken a.now (standing old.state).cell) where
+    settled_by : (left : Left) → left ≡ back → NoCallMade mid.kernel new.kernel → SettlesOnly tells a.now old.state old.kernel new.kernel
+    settled_by NotBegun is made = inr (unmade_on old.kernel mid.kernel new.kernel (unmade (sym is)) made)
+    settled_by RolledBack is made = inl (taken (sym is))
+    settled_by Pending is made = absurd (side (sym is))
+
+    settled_first : SettlesOnly tells a.now mid.state mid.kernel new.kernel → SettlesOnly tells a.now old.state old.kernel new.kernel
+    settled_first (inl has) = inl (λ told. absurd (subst (λ (c : Option Checkpoint). HasTaken a.now c) (none told) (has told)))
+    settled_first (inr made) = settled_by back refl made
+
+    gave_first : GaveBack tells a.now mid.state mid.kernel new → GaveBack tells a.now old.state old.kernel new
+    gave_first (inl saved) = inl saved
+    gave_first (inr only) = inr (settled_first only)
+
+    -- nothing was begun behind what was taken back
+    gave_before : back ≡ RolledBack → tells → GaveBack tells a.now old.state old.kernel new
+    gave_before is told = inr (inl (taken is))
+
+    held_first : SettlesOnly tells a.now mid.state mid.kernel new.kernel ⊎ IsSome (standing new.state).cell → SettlesOnly tells a.now old.state old.kernel new.kernel ⊎ IsSome (standing new.state).cell
+    held_first (inl only) = inl (settled_first only)
+    held_first (inr some) = inr some
+
+    stands_first : (area : ℕ) → StandsDamaged tells area a.now mid.state mid.kernel new → StandsDamaged tells area a.now old.state old.kernel new
+    stands_first area is = record { damaged = is.damaged; held = held_first is.held }
+
+    pub says : (result : Result Applied ApplyFault) → ApplySays tells a mid new result → ((area : ℕ) → result ≡ Err (fa.Damaged area) → tells → HadDamaged area old new) → ApplySays tells a old new (told_as back result)
+    says (Ok done) is damaged = is
+    says (Err (fa.Pending until)) is damaged = λ told. absurd (none_waits a (standing mid.state) until (none told) (is told).answer)
+    says (Err (fa.MergeRefused refused)) is damaged = (settled_first is.0, is.1)
+    says (Err (fa.HostFault NotBegun)) is damaged = (rose is.0, unbegun back refl is.1, gave_before)
+    says (Err (fa.HostFault RolledBack)) is damaged = (rose is.0, is.1, λ rolled told. gave_first (is.2 rolled told))
+    says (Err (fa.HostFault Pending)) is damaged = (rose is.0, tt, λ rolled told. gave_first (is.2 rolled told))
+    says (Err fa.InDoubt) is damaged = rose is
+    says (Err (fa.KernelRefused k n left)) is damaged = (refused_left left is.1 is.0, is.1, is.2)
+    says (Err (fa.NotVerified found left)) is damaged = is
+    says (Err (fa.Damaged area)) is damaged = λ told. (damaged area refl told, stands_first area (is told).1)
+    says (Err (fa.HardwareDiffers names)) is damaged = is
+    says (Err fa.OutOfMemory) is damaged = tt
+
+    begun_counted : (left : Left) → left ≡ back → NoCallMade mid.kernel new.kernel → PolicyCounted tells old.kernel new.kernel (Err (apply_cause (fa.HostFault left)))
+    begun_counted NotBegun is made = unmade_on old.kernel mid.kernel new.kernel (unmade (sym is)) made
+    begun_counted RolledBack is made = quiet_on old.kernel mid.kernel new.kernel quiet (unmade_quiet mid.kernel new.kernel made)
+    begun_counted Pending is made = absurd (side (sym is))
+
+    -- The law of counts: those of a recovery and a dump, by which no call was refused, and then those of an apply.
+    pub counts : (result : Result Applied ApplyFault) → ApplySays tells a mid new result → ApplyCounts mid.kernel new.kernel result
+        → PolicyCounted tells old.kernel new.kernel (told said_applied apply_cause (told_as back result))
+    counts (Ok done) is made = quiet_on old.kernel mid.kernel new.kernel quiet made
+    counts (Err (fa.Pending until)) is made =
+        (quiet_on old.kernel mid.kernel new.kernel quiet (unmade_quiet mid.kernel new.kernel made), λ told. absurd (none_waits a (standing mid.state) until (none told) (is told).answer))
+    counts (Err (fa.MergeRefused refused)) is made = quiet_on old.kernel mid.kernel new.kernel quiet made
+    counts (Err (fa.HostFault NotBegun)) is made = begun_counted back refl made
+    counts (Err (fa.HostFault RolledBack)) is made = quiet_on old.kernel mid.kernel new.kernel quiet made
+    counts (Err (fa.HostFault Pending)) is made = few_after old.kernel mid.kernel new.kernel quiet made
+    counts (Err fa.InDoubt) is made = quiet_on old.kernel mid.kernel new.kernel quiet made
+    counts (Err (fa.KernelRefused k n left)) is made =
+        (refused_after k n old.kernel mid.kernel new.kernel quiet made.0, λ rolled. once_after old.kernel mid.kernel new.kernel quiet (made.1 rolled))
+    counts (Err (fa.NotVerified found left)) is made = quiet_on old.kernel mid.kernel new.kernel quiet made
+    counts (Err (fa.Damaged area)) is made = few_after old.kernel mid.kernel new.kernel quiet made
+    counts (Err (fa.HardwareDiffers names)) is made = few_after old.kernel mid.kernel new.kernel quiet made
+    counts (Err fa.OutOfMemory) is made = few_after old.kernel mid.kernel new.kernel quiet made
 
   module _ (taken : Type 0) (second : Type 0) where
     no_excuse : (tells → HasTaken a.now (standing mid.state).cell) ⊎ second → (tells → taken) ⊎ second
@@ -215,6 +263,27 @@ module _ (tells : Type 0) (a : Asked) (back : Left) (old mid new : HostView) (si
     backs (Err (fa.Damaged area)) is stays = tt
     backs (Err (fa.HardwareDiffers names)) is stays = tt
     backs (Err fa.OutOfMemory) is stays = tt
+
+    module _ (taken : Type 0) where
+      twice_side : (left : Left) → left ≢ Pending → FailsTwice taken old.faults new (Err (fa.HostFault left))
+      twice_side NotBegun other = tt
+      twice_side RolledBack other = tt
+      twice_side Pending other = absurd (other refl)
+
+      pub fails_twice : (result : Result Applied ApplyFault) → FailsTwice (HasTaken a.now (standing mid.state).cell) mid.faults new result → FailsTwice taken old.faults new (told_as back result)
+      fails_twice (Ok done) is = tt
+      fails_twice (Err (fa.Pending until)) is = tt
+      fails_twice (Err (fa.MergeRefused refused)) is = tt
+      fails_twice (Err (fa.HostFault NotBegun)) is = twice_side back side
+      fails_twice (Err (fa.HostFault RolledBack)) is = tt
+      fails_twice (Err (fa.HostFault Pending)) (inl has) = absurd (subst (λ (c : Option Checkpoint). HasTaken a.now c) is_none has)
+      fails_twice (Err (fa.HostFault Pending)) (inr twice) = inr (twice_after old.faults mid.faults new.faults faults twice)
+      fails_twice (Err (fa.KernelRefused k n left)) is = tt
+      fails_twice (Err (fa.NotVerified found left)) is = tt
+      fails_twice (Err fa.InDoubt) is = tt
+      fails_twice (Err (fa.Damaged area)) is = tt
+      fails_twice (Err (fa.HardwareDiffers names)) is = tt
+      fails_twice (Err fa.OutOfMemory) is = tt
 
     module _ (machine : apply a (standing old.state) ≡ apply a (standing mid.state)) where
       outcome : {r : Result Applied ApplyFault} → IsOutcome (apply a (standing mid.state)) new r → IsOutcome (apply a (standing old.state)) new r
