@@ -1,3 +1,4 @@
+//! What a disk over real files carries, and its lock on the folder.
 ghost use Rattle.std.specs.Prelude.{◌<◌};
 
 use crate::FileDisk;
