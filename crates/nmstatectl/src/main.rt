@@ -1,26 +1,10 @@
-//! Declarative network state at the command line. What it does is `run_program`; here are the folders that its words name, and
-//! the adapters over files, the standard streams and the clock.
+//! Declarative network state at the command line. What it does is `run_program`; here the host, the nodes and the adapters are
+//! made for the folders that its words name, over files, the standard streams and the clock.
 #![tactic(auto)]
-
-// The system's clock.
-mod clock;
-// The files of a folder of documents.
-mod folder;
-// The standard streams as sinks.
-mod sink;
-// Files and standard input as a source.
-mod source;
-// The folders that the words name.
-mod state;
 
 ghost use Rattle.std.specs.Prelude.{◌≡◌};
 ghost use Rattle.std.specs.Process.{exit_status};
 
-use crate::clock::SystemClock;
-use crate::folder::FileFolder;
-use crate::sink::{Stream, StreamSink};
-use crate::source::FileSource;
-use crate::state::{node_folders, service_folder, take_folder};
 use disk_host::DiskHost;
 use file_disk::FileDisk;
 use program_top::{Report, run_program};
@@ -28,6 +12,10 @@ use std::alloc::AllocError;
 use std::env;
 use std::io::{self, Write};
 use std::process::ExitCode;
+use system_adapters::{
+    FileFolder, FileSource, Stream, StreamSink, SystemClock, node_folders, service_folder,
+    take_folder,
+};
 
 /// The words after the program's name. Words that aren't all UTF-8 are no command, as no words are.
 fn words(rt: &HostRuntime) -> io::Result<Vec<String>> {

@@ -1,6 +1,6 @@
 //! The folders that the words name: that of the state, which stands in front of a command, and those of a service and a rollout.
 ghost use Rattle.std.specs.Prelude.{◌≡◌, map, string_bytes, option_map};
-ghost use Rattle.nmstatectl.specs.State.{folder_of, command_of, unescaped, documents_of, nodes_of};
+ghost use Rattle.system_adapters.specs.State.{folder_of, command_of, unescaped, documents_of, nodes_of};
 
 /// The word before the folder of the state.
 const STATE: &str = "--state";

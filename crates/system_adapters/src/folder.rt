@@ -132,7 +132,7 @@ fn push_pending(alloc: Global, name: &str, names: &mut Vec<Domain>) -> Result<()
 }
 
 impl<'a> Folder for FileFolder<'a> {
-    ghost use Rattle.nmstatectl.specs.Silent.{silent_folder, lawful_silent};
+    ghost use Rattle.system_adapters.specs.Silent.{silent_folder, lawful_silent};
 
     ghost tells = { ⊥ };
 
@@ -191,80 +191,121 @@ mod tests {
     use super::*;
     use std::test::Fail;
 
-    const FOLDER: &str = "nmstatectl_folder_test";
+    // The names of the pending files that `make` makes.
+    const MTU: &str = "10-mtu.yml";
+
+    const UP: &str = "20-up.yml";
 
     fn domain(alloc: Global, name: &str) -> Result<Domain, Fail> {
         let bytes = Vec::from_slice(alloc, name.as_bytes())?;
         Ok(Domain::of(bytes).ok_or("no domain")?)
     }
 
-    // Makes the folder, with files that hold their names.
-    fn make(rt: &HostRuntime) -> Result<(), Fail> {
-        let _ = fs::remove_dir_all(rt, FOLDER);
-        fs::create_dir(rt, FOLDER)?;
-        for name in [
-            "20-up.yml",
-            "10-mtu.yml",
-            "30 bad.yml",
-            "10-mtu.applied",
-            "x.yaml",
-        ] {
-            let path = Path::new(FOLDER).join(rt.alloc(), name)?;
+    // Makes a folder, with files that hold their names.
+    fn make(rt: &HostRuntime, folder: &str) -> Result<(), Fail> {
+        let _ = fs::remove_dir_all(rt, folder);
+        fs::create_dir(rt, folder)?;
+        for name in [UP, MTU, "30 bad.yml", "10-mtu.applied", "x.yaml"] {
+            let path = Path::new(folder).join(rt.alloc(), name)?;
             fs::write(rt, path, name.as_bytes())?;
         }
         Ok(())
     }
 
+    // Each call stands once in a function without a clause, so that a test that makes it again carries no fact of it.
+
+    // Whether these are the names that the folder gives.
+    fn gives(alloc: Global, files: &mut FileFolder<'_>, names: &[&str]) -> Result<bool, Fail> {
+        let mut domains = Vec::new(alloc);
+        for name in names {
+            domains.push(domain(alloc, name)?)?;
+        }
+        Ok(matches!(files.names(alloc), Ok(given) if given.as_slice() == domains.as_slice()))
+    }
+
+    fn start(files: &mut FileFolder<'_>, name: &Domain) -> Result<(), StartFault> {
+        files.start(name)
+    }
+
+    // How many bytes are read into 16, and these.
+    fn read(files: &mut FileFolder<'_>) -> Result<(u64, [u8; 16]), Failed> {
+        let mut buffer = [0; 16];
+        let count = files.read(&mut buffer)?;
+        Ok((count, buffer))
+    }
+
+    fn mark(files: &mut FileFolder<'_>, name: &Domain) -> Result<(), Failed> {
+        files.mark(name)
+    }
+
+    #[test]
+    fn a_file_is_begun_and_read_to_its_end(rt: HostRuntime) -> Result<(), Fail> {
+        let folder = "system_adapters_read_test";
+        make(&rt, folder)?;
+        let name = domain(rt.alloc(), MTU)?;
+        let mut files = FileFolder::new(&rt, Some(folder));
+        assert_eq!(rt; read(&mut files), Err(Failed));
+        assert_eq!(rt; start(&mut files, &name), Ok(()));
+        assert_eq!(rt; read(&mut files), Ok((10, *b"10-mtu.yml\0\0\0\0\0\0")));
+        assert_eq!(rt; read(&mut files), Ok((0, [0; 16])));
+        assert_eq!(rt; files.faults, 1);
+        fs::remove_dir_all(&rt, folder)?;
+        Ok(())
+    }
+
     #[test]
     fn a_mark_renames_a_file_that_was_listed_and_read(rt: HostRuntime) -> Result<(), Fail> {
-        make(&rt)?;
-        let alloc = rt.alloc();
-        let (first, second) = (domain(alloc, "10-mtu.yml")?, domain(alloc, "20-up.yml")?);
-        let mut folder = FileFolder::new(&rt, Some(FOLDER));
-        assert!(rt;
-            matches!(folder.names(alloc), Ok(names) if names.as_slice() == [first.clone()?, second.clone()?].as_slice())
-        );
-        let mut buffer = [0; 16];
-        assert_eq!(rt; folder.read(&mut buffer), Err(Failed));
-        assert_eq!(rt; folder.start(&first), Ok(()));
-        assert_eq!(rt; folder.read(&mut buffer), Ok(10));
-        assert!(rt; buffer.starts_with(b"10-mtu.yml"));
-        assert_eq!(rt; folder.read(&mut buffer), Ok(0));
-        assert_eq!(rt; folder.mark(&first), Ok(()));
-        assert_eq!(rt; folder.start(&first), Err(StartFault::NoSuchName));
-        let marked = fs::read(&rt, "nmstatectl_folder_test/10-mtu.applied")?;
-        assert_eq!(rt; marked.as_slice(), b"10-mtu.yml".as_slice());
-        assert!(rt;
-            matches!(folder.names(alloc), Ok(names) if names.as_slice() == [second].as_slice())
-        );
-        assert_eq!(rt; folder.mark(&first), Err(Failed));
-        assert_eq!(rt; folder.faults, 2);
-        fs::remove_dir_all(&rt, FOLDER)?;
+        let folder = "system_adapters_mark_test";
+        make(&rt, folder)?;
+        let name = domain(rt.alloc(), MTU)?;
+        let mut files = FileFolder::new(&rt, Some(folder));
+        assert!(rt; gives(rt.alloc(), &mut files, &[MTU, UP])?);
+        assert_eq!(rt; start(&mut files, &name), Ok(()));
+        assert!(rt; read(&mut files).is_ok());
+        assert_eq!(rt; mark(&mut files, &name), Ok(()));
+        let marked = fs::read(&rt, "system_adapters_mark_test/10-mtu.applied")?;
+        assert_eq!(rt; marked.as_slice(), MTU.as_bytes());
+        assert!(rt; gives(rt.alloc(), &mut files, &[UP])?);
+        assert_eq!(rt; files.faults, 0);
+        fs::remove_dir_all(&rt, folder)?;
+        Ok(())
+    }
+
+    #[test]
+    fn a_file_that_is_marked_has_no_name(rt: HostRuntime) -> Result<(), Fail> {
+        let folder = "system_adapters_marked_test";
+        make(&rt, folder)?;
+        let name = domain(rt.alloc(), MTU)?;
+        let mut files = FileFolder::new(&rt, Some(folder));
+        assert_eq!(rt; mark(&mut files, &name), Ok(()));
+        assert_eq!(rt; start(&mut files, &name), Err(StartFault::NoSuchName));
+        assert_eq!(rt; mark(&mut files, &name), Err(Failed));
+        assert_eq!(rt; files.faults, 1);
+        fs::remove_dir_all(&rt, folder)?;
         Ok(())
     }
 
     #[test]
     fn no_name_leads_out_of_the_folder(rt: HostRuntime) -> Result<(), Fail> {
-        let alloc = rt.alloc();
-        let mut folder = FileFolder::new(&rt, Some("."));
-        let outside = domain(alloc, "../x.yml")?;
-        assert_eq!(rt; folder.start(&outside), Err(StartFault::NoSuchName));
-        assert_eq!(rt; folder.mark(&outside), Err(Failed));
-        assert_eq!(rt; folder.faults, 1);
+        let mut files = FileFolder::new(&rt, Some("."));
+        let outside = domain(rt.alloc(), "../x.yml")?;
+        assert_eq!(rt; start(&mut files, &outside), Err(StartFault::NoSuchName));
+        assert_eq!(rt; mark(&mut files, &outside), Err(Failed));
+        assert_eq!(rt; files.faults, 1);
         Ok(())
     }
 
     #[test]
     fn each_call_fails_without_a_folder(rt: HostRuntime) -> Result<(), Fail> {
         let alloc = rt.alloc();
-        let name = domain(alloc, "10-mtu.yml")?;
+        let name = domain(alloc, MTU)?;
         let mut none = FileFolder::new(&rt, None);
         assert!(rt; matches!(none.names(alloc), Err(NamesFault::Failed)));
-        assert_eq!(rt; none.start(&name), Err(StartFault::Failed));
-        assert_eq!(rt; none.read(&mut [0; 4]), Err(Failed));
-        assert_eq!(rt; none.mark(&name), Err(Failed));
+        assert_eq!(rt; start(&mut none, &name), Err(StartFault::Failed));
+        assert_eq!(rt; read(&mut none), Err(Failed));
+        assert_eq!(rt; mark(&mut none, &name), Err(Failed));
         assert_eq!(rt; none.faults, 4);
-        let mut missing = FileFolder::new(&rt, Some("nmstatectl_no_such_folder"));
+        let mut missing = FileFolder::new(&rt, Some("system_adapters_no_such_folder"));
         assert!(rt; matches!(missing.names(alloc), Err(NamesFault::Failed)));
         assert_eq!(rt; missing.faults, 1);
         Ok(())

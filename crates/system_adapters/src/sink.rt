@@ -38,7 +38,7 @@ impl StreamSink {
 }
 
 impl Sink for StreamSink {
-    ghost use Rattle.nmstatectl.specs.Silent.{silent_sink};
+    ghost use Rattle.system_adapters.specs.Silent.{silent_sink};
 
     ghost tells = { ⊥ };
 

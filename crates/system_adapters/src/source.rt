@@ -54,7 +54,7 @@ fn is_missing(kind: ErrorKind) -> bool {
 }
 
 impl<'a> Source for FileSource<'a> {
-    ghost use Rattle.nmstatectl.specs.Silent.{silent_source};
+    ghost use Rattle.system_adapters.specs.Silent.{silent_source};
 
     ghost tells = { ⊥ };
 
@@ -99,41 +99,72 @@ mod tests {
     use std::fs;
     use std::test::Fail;
 
-    const FOLDER: &str = "nmstatectl_source_test";
+    // Makes a folder with a file of ten bytes.
+    fn make(rt: &HostRuntime, folder: &str, file: &str) -> Result<(), Fail> {
+        let _ = fs::remove_dir_all(rt, folder);
+        fs::create_dir(rt, folder)?;
+        fs::write(rt, file, b"interfaces".as_slice())?;
+        Ok(())
+    }
+
+    // Each call stands once in a function without a clause, so that a test that makes it again carries no fact of it.
+
+    fn start(source: &mut FileSource<'_>, name: &str) -> Result<(), StartFault> {
+        source.start(name)
+    }
+
+    // How many bytes are read into eight, and these.
+    fn read(source: &mut FileSource<'_>) -> Result<(u64, [u8; 8]), Failed> {
+        let mut buffer = [0; 8];
+        let count = source.read(&mut buffer)?;
+        Ok((count, buffer))
+    }
 
     #[test]
-    fn a_file_is_read_to_its_end_and_one_that_is_missing_has_no_name(
-        rt: HostRuntime,
-    ) -> Result<(), Fail> {
-        let _ = fs::remove_dir_all(&rt, FOLDER);
-        fs::create_dir(&rt, FOLDER)?;
-        let path = "nmstatectl_source_test/document";
-        fs::write(&rt, path, b"interfaces".as_slice())?;
+    fn a_file_is_read_to_its_end(rt: HostRuntime) -> Result<(), Fail> {
+        let folder = "system_adapters_file_test";
+        let file = "system_adapters_file_test/document";
+        make(&rt, folder, file)?;
         let mut source = FileSource::new(&rt);
-        let mut buffer = [0; 8];
-        assert_eq!(rt; source.start(path), Ok(()));
-        assert_eq!(rt; source.read(&mut buffer), Ok(8));
-        assert_eq!(rt; buffer, *b"interfac");
-        assert_eq!(rt; source.read(&mut buffer), Ok(2));
-        assert!(rt; buffer.starts_with(b"es"));
-        assert_eq!(rt; source.read(&mut buffer), Ok(0));
+        assert_eq!(rt; start(&mut source, file), Ok(()));
+        assert_eq!(rt; read(&mut source), Ok((8, *b"interfac")));
+        assert_eq!(rt; read(&mut source), Ok((2, *b"es\0\0\0\0\0\0")));
+        assert_eq!(rt; read(&mut source), Ok((0, [0; 8])));
+        assert_eq!(rt; source.faults, 0);
+        fs::remove_dir_all(&rt, folder)?;
+        Ok(())
+    }
+
+    #[test]
+    fn one_that_is_missing_has_no_name(rt: HostRuntime) -> Result<(), Fail> {
+        let folder = "system_adapters_missing_test";
+        let file = "system_adapters_missing_test/document";
+        make(&rt, folder, file)?;
+        let mut source = FileSource::new(&rt);
+        assert_eq!(rt; start(&mut source, file), Ok(()));
         for missing in [
-            "nmstatectl_source_test/other",
-            "nmstatectl_source_test/document/below",
-            "nmstatectl_source_test/\0",
+            "system_adapters_missing_test/other",
+            "system_adapters_missing_test/document/below",
+            "system_adapters_missing_test/\0",
             "",
         ] {
-            assert_eq!(rt; source.start(missing), Err(StartFault::NoSuchName));
+            assert_eq!(rt; start(&mut source, missing), Err(StartFault::NoSuchName));
         }
         assert_eq!(rt; source.faults, 0);
-        // A folder can be opened, but not be read.
-        assert_eq!(rt; source.start(FOLDER), Ok(()));
-        assert_eq!(rt; source.read(&mut buffer), Err(Failed));
+        fs::remove_dir_all(&rt, folder)?;
+        Ok(())
+    }
+
+    #[test]
+    fn a_folder_can_be_opened_but_not_be_read(rt: HostRuntime) -> Result<(), Fail> {
+        let mut source = FileSource::new(&rt);
+        assert_eq!(rt; start(&mut source, "."), Ok(()));
+        assert_eq!(rt; read(&mut source), Err(Failed));
         assert_eq!(rt; source.faults, 1);
-        assert_eq!(rt; source.start("-"), Ok(()));
-        assert!(rt; source.read(&mut buffer).is_ok());
+        // Standard input is gone back to.
+        assert_eq!(rt; start(&mut source, "-"), Ok(()));
+        assert!(rt; read(&mut source).is_ok());
         assert_eq!(rt; source.faults, 1);
-        fs::remove_dir_all(&rt, FOLDER)?;
         Ok(())
     }
 }
