@@ -1,6 +1,6 @@
-//! Reads documents from standard input, applies them one after another to machines in memory, and holds the plan of each, and
-//! the plan back, against their lines in the manner of ip(8), which are read back and tried out. It says how many documents,
-//! lines and calls there were, and where something differs.
+//! Reads documents and policies from standard input, applies them one after another to machines in memory, and holds the plan
+//! of each, and the plan back, against their lines in the manner of ip(8), which are read back and tried out. It says how many
+//! there were, with how many lines and calls, and where something differs.
 #![tactic(auto)]
 
 // The lines of plans, and the calls that they are read back as.
@@ -13,7 +13,7 @@ mod parts;
 mod tally;
 // Texts as the input writes them.
 mod texts;
-// The plan of a document, and the plan back, each beside its lines.
+// The plan of a document or a policy, and the plan back, each beside its lines.
 mod trial;
 
 use crate::parts::report;

@@ -1,8 +1,8 @@
 //! The parts of the input, and what comes of each.
 //!
-//! A part has a heading `== TITLE`, and below it the hardware list of its machine. Then each line has documents that are applied
-//! one after another, with ` then ` between them, to a machine that has these devices alone. A line without any text and one
-//! that begins with `// ` are passed over.
+//! A part has a heading, a line `== TITLE`, and below it the hardware list of its machine. Then each line has documents, or
+//! policies, that are applied one after another, with ` then ` between them, to a machine that has these devices alone. A line
+//! without any text and one that begins with `// ` are passed over.
 
 use crate::machine::machine;
 use crate::tally::{Tally, push_tally};
@@ -59,7 +59,8 @@ fn read_part(
 pub fn report(alloc: Global, input: &str) -> Result<Vec<u8>, OutOfMemory> {
     let mut out = Vec::new(alloc);
     let mut tally = Tally::none();
-    for part in input.split("== ") {
+    let parts = input.strip_prefix("== ").unwrap_or(input);
+    for part in parts.split("\n== ") {
         if let Some((title, body)) = part.split_once('\n') {
             tally = tally.with(read_part(alloc, title, body, &mut out)?);
         }

@@ -36,15 +36,26 @@ fn push_repeated(piece: &str, out: &mut Vec<u8>) -> Result<(), OutOfMemory> {
     push_lines(rest, out)
 }
 
-/// The bytes that a text on one line stands for: `|` for a line's end, and `%N<TEXT>` for a text so many times, with the number
-/// of the time, from 1, for each `#` in it.
+// What stands behind a percent sign: a bar for itself, or a text so many times.
+fn push_piece(piece: &str, out: &mut Vec<u8>) -> Result<(), OutOfMemory> {
+    match piece.strip_prefix('|') {
+        Some(rest) => {
+            out.push(b'|')?;
+            push_lines(rest, out)
+        }
+        None => push_repeated(piece, out),
+    }
+}
+
+/// The bytes that a text on one line stands for: `|` for a line's end, `%|` for a bar, and `%N<TEXT>` for a text so many times,
+/// with the number of the time, from 1, for each `#` in it.
 pub fn bytes_of(alloc: Global, text: &str) -> Result<Vec<u8>, OutOfMemory> {
     let mut whole = Vec::new(alloc);
     for (i, piece) in text.split('%').enumerate() {
         if i == 0 {
             push_lines(piece, &mut whole)?;
         } else {
-            push_repeated(piece, &mut whole)?;
+            push_piece(piece, &mut whole)?;
         }
     }
     Ok(whole)

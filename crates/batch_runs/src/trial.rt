@@ -1,4 +1,4 @@
-//! The plan of a document, and the plan back, each beside its lines.
+//! The plan of a document or a policy, and the plan back, each beside its lines.
 
 use crate::lines::{count_lines, lines_text, plan_text, read_back};
 use crate::machine::{Seen, run};
@@ -103,7 +103,7 @@ fn back(
     Ok(tally_of(0, &lines, calls, leads))
 }
 
-/// Applies a document to a machine, and holds its plan and the plan back against their lines.
+/// Applies a document or a policy to a machine, and holds its plan and the plan back against their lines.
 pub fn try_document(
     alloc: Global,
     host: &mut MemoryHost,
