@@ -26,13 +26,13 @@ subnet_simple b r = prefix_low b r.addr r.subnet.within
 
 route_simple : (r : Route) → RouteRanges r → IsSimple (route_tree r)
 route_simple r is =
-    let all = fields_then (fields_then (fields_then (fields_then
+    let pairs = fields_then (fields_then (fields_then (fields_then
     (field_simple (codes "destination") (prefix r.dest) refl (subnet_simple r.dest is.dest))
     (field_simple (codes "next-hop-interface") (text r.dev) refl (name_low r.dev is.dev)))
     (field_of_simple (codes "next-hop-address") address IsAddress r.gateway refl is.gateway addr_low))
     (field_simple (codes "metric") (number r.metric) refl is.metric))
     (field_simple (codes "table-id") (number r.table) refl is.table.most) in
-    all.simple
+    pairs.simple
 
 target_simple : (t : Target) → TargetRanges t → SimpleFields (target_fields t)
 target_simple (Table t) is = field_simple (codes "route-table") (number t) refl is.most
@@ -50,7 +50,7 @@ family_low false = refl
 
 rule_simple : (r : RuleParts) → RuleRanges r → IsSimple (rule_tree r)
 rule_simple r is =
-    let all = fields_then (fields_then (fields_then (fields_then (fields_then (fields_then
+    let pairs = fields_then (fields_then (fields_then (fields_then (fields_then (fields_then
     (field_simple (codes "priority") (number r.priority) refl is.priority)
     (field_simple (codes "family") (text (family_word r.v6)) refl (family_low r.v6)))
     (field_of_simple (codes "ip-from") prefix SubnetRanges r.src refl is.src subnet_simple))
@@ -58,7 +58,7 @@ rule_simple r is =
     (field_of_simple (codes "iif") text NameRanges r.iif refl is.iif name_low))
     (mark_simple r is))
     (target_simple r.target is.target) in
-    all.simple
+    pairs.simple
 
 dns_simple : (d : Dns) → DnsRanges d → IsSimple (dns_tree d)
 dns_simple d is =
