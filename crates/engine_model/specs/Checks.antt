@@ -3,7 +3,7 @@ use Rattle.std.specs.Prelude.{◌≡◌, ◌≢◌, ℕ, List, [], ◌∷◌, le
 use Rattle.net_model.specs.Hardware.{hardware}
 use Rattle.net_model.specs.NetData.{NetData}
 use Rattle.host_core.specs.Faults.{Rose}
-use Rattle.host_core.specs.HostView.{State, HostView}
+use Rattle.host_core.specs.HostView.{HostView}
 use Rattle.checkpoint_cell.specs.Cell.{Checkpoint, cell_of, seen_of}
 use Rattle.checkpoint_cell.specs.Settled.{Standing, standing}
 use Rattle.checkpoint_cell.specs.declared.Seen.{Seen}

@@ -1,8 +1,7 @@
 -- What each answer says of the kernel calls that were refused, and whether any was made. Every host counts them.
-use Rattle.std.specs.Prelude.{◌≡◌, ◌⊎◌, ℕ, Result, Ok, Err}
+use Rattle.std.specs.Prelude.{◌≡◌, ◌⊎◌, Result, Ok, Err}
 use Rattle.host_core.specs.Faults.{one_more}
 use Rattle.host_core.specs.HostView.{Kernel, WasRefused, NoneRefused, dumped}
-use Rattle.engine_model.specs.declared.answers.Left.{Left}
 use Rattle.engine_model.specs.declared.answers.Left.TheVariants.{NotBegun, RolledBack, Pending}
 use Rattle.engine_model.specs.declared.answers.Applied.{Applied}
 use Rattle.engine_model.specs.declared.answers.ApplyFault.{ApplyFault}

@@ -1,5 +1,5 @@
 -- Faults of restorings, over two steps, and what follows of each.
-use Rattle.std.proofs.Common.{◌≡◌, ◌≤◌, ◌∙◌, inl, inr, arith, ℕ, sym, ap, subst, Result, Ok, Err}
+use Rattle.std.proofs.Common.{◌≡◌, ◌≤◌, ◌∙◌, inl, inr, ℕ, subst, Err}
 use Rattle.host_core.specs.Faults.{Rose}
 use Rattle.host_core.specs.HostView.{State, HostView, WasRefused, NoneRefused, Untouched}
 use Rattle.host_core.proofs.lemmas.Counts.{rose_after}

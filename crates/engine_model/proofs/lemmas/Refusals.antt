@@ -1,10 +1,9 @@
 -- Counts of calls that were refused, and of calls that were made, over two steps.
-use Rattle.std.proofs.Common.{◌≡◌, ◌⊎◌, inl, inr, ◌∙◌, ◌≤◌, arith, ℕ, refl, sym, ap, subst, Result, Ok, Err}
+use Rattle.std.proofs.Common.{◌≡◌, inl, inr, ◌∙◌, arith, ℕ, sym, ap, subst, Result, Ok, Err}
 use Rattle.host_core.specs.Faults.{Rose, one_more}
 use Rattle.host_core.specs.HostView.{State, Kernel, WasRefused, NoneRefused, dumped}
 use Rattle.engine_model.specs.Faults.{SettlesOnly}
 use Rattle.engine_model.specs.Refusals.{NoCallMade, RefusedOnce, FewRefused, ApplyCounts, BackCounts}
-use Rattle.engine_model.specs.declared.answers.Left.{Left}
 use Rattle.engine_model.specs.declared.answers.Left.TheVariants.{NotBegun, RolledBack, Pending}
 use Rattle.engine_model.specs.declared.answers.Applied.{Applied}
 use Rattle.engine_model.specs.declared.answers.ApplyFault.{ApplyFault}
