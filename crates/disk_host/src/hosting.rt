@@ -13,7 +13,7 @@ use crate::host::DiskHost;
 use crate::kept::copied;
 use crate::making::establish;
 use crate::read::{SlotFault, read_synced};
-use host_core::{Area, CallFault, Disk, DumpFault, Failed, Host, MakeFault, raised};
+use host_core::{CallFault, Disk, DumpFault, Failed, Host, MakeFault, raised};
 use net_model::{Call, Net};
 use std::alloc::Global;
 
@@ -156,14 +156,14 @@ impl<D: Disk> Host for DiskHost<D> {
     }
 
     fn cell_read(&mut self, at: u64, buf: &mut [u8]) -> Result<u64, Failed> {
-        self.disk.read_at(Area::Checkpoint.number(), at, buf)
+        self.disk.read_at(1, at, buf)
     }
 
     fn cell_write(&mut self, at: u64, bytes: &[u8]) -> Result<(), Failed> {
-        self.disk.write_at(Area::Checkpoint.number(), at, bytes)
+        self.disk.write_at(1, at, bytes)
     }
 
     fn cell_sync(&mut self) -> Result<(), Failed> {
-        self.disk.sync(Area::Checkpoint.number())
+        self.disk.sync(1)
     }
 }

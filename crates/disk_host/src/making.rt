@@ -12,7 +12,7 @@ use crate::changing::{image_of, slot_of};
 use crate::read::{SlotFault, read_synced, selected};
 use crate::slot::{SECOND, store, write_synced};
 use base_model::OutOfMemory;
-use host_core::{Area, Disk, Failed, MakeFault};
+use host_core::{Disk, Failed, MakeFault};
 use net_model::Net;
 use std::alloc::Global;
 
@@ -23,7 +23,7 @@ fn is_open<D: Disk>(disk: &mut D) -> Result<bool, Failed>
     ensures cause { HasCause (D.told disk.old).faults (D.told disk.new).faults result }
 {
     let mut gate = [1; 1];
-    disk.read_at(Area::Checkpoint.number(), 0, &mut gate)?;
+    disk.read_at(1, 0, &mut gate)?;
     Ok(gate[0] == 1)
 }
 
@@ -41,7 +41,7 @@ fn close<D: Disk>(disk: &mut D) -> Result<(), Failed>
 {
     let opens = is_open(disk)?;
     if opens {
-        return write_synced(disk, Area::Checkpoint.number(), 0, &[0]);
+        return write_synced(disk, 1, 0, &[0]);
     }
     Ok(())
 }
@@ -57,10 +57,10 @@ fn free_slot<D: Disk>(disk: &mut D) -> Result<bool, Failed>
     ensures stops { D.tells → Steps HasNone (D.told disk.old).stops (D.told disk.new).stops }
     ensures cause { HasCause (D.told disk.old).faults (D.told disk.new).faults result }
 {
-    let size = disk.size(Area::Kernel.number())?;
+    let size = disk.size(0)?;
     let second = selected(disk)?;
     if !second && size <= SECOND {
-        write_synced(disk, Area::Kernel.number(), 0, &[1])?;
+        write_synced(disk, 0, 0, &[1])?;
         return Ok(false);
     }
     Ok(!second)
@@ -110,7 +110,7 @@ pub fn establish<D: Disk>(disk: &mut D, alloc: Global, first: &Net) -> Result<()
     ensures cause { HasFault (D.told disk.old).faults (D.told disk.new).faults MakeFault.Failed result }
 {
     // Both areas are synced first, and all memory is taken before the first write.
-    match disk.sync(Area::Checkpoint.number()) {
+    match disk.sync(1) {
         Ok(()) => {}
         Err(Failed) => return Err(MakeFault::Failed),
     }
