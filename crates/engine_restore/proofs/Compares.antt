@@ -1,8 +1,7 @@
 -- What a check answers and leaves.
-use Rattle.std.proofs.Common.{◌≡◌, ◌≢◌, ◌∙◌, ◌⊎◌, inl, inr, refl, sym, ap, subst, ℕ, List, [], ◌∷◌, length, Option, Some, None}
+use Rattle.std.proofs.Common.{◌≡◌, ◌≢◌, ◌∙◌, inl, inr, refl, sym, ap, subst, ℕ, List, [], ◌∷◌, length, Option, Some, None}
 use Rattle.std.specs.Prelude.{Result, Ok, Err, IsSome, OnOk}
 use Rattle.net_model.specs.NetData.{NetData, IsNet}
-use Rattle.host_core.specs.Faults.{Rose}
 use Rattle.host_core.specs.HostView.{State, HostView}
 use Rattle.host_core.specs.Stops.{Stops, Steps, Stays}
 use Rattle.host_core.proofs.lemmas.Moments.{follow}
@@ -13,7 +12,7 @@ use Rattle.checkpoint_cell.specs.declared.Seen.{Seen}
 use Rattle.checkpoint_cell.specs.declared.loading.Pending.{Pending}
 use Rattle.engine_model.specs.Checks.{found, unless_other, differing_from, SameHardware, check_cell, check, saved_in, Compared, CheckSays, CheckAnswers, AsRead, CheckExit}
 use Rattle.engine_model.specs.Sound.{Fit, Sound, IsWhole}
-use Rattle.engine_model.specs.Stations.{Near, Within, Before, Ends, entry_of, left_by}
+use Rattle.engine_model.specs.Stations.{Within, Before, Ends, entry_of, left_by}
 use Rattle.engine_model.specs.declared.Checked.{Checked}
 use Rattle.engine_model.specs.declared.CheckFault.{CheckFault}
 use Rattle.engine_model.specs.declared.CheckFault.TheVariants.{HostFault, Damaged, HardwareDiffers, OutOfMemory}

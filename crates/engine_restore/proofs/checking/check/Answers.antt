@@ -1,9 +1,8 @@
 use Rattle.std.proofs.Common.{◌≡◌, ◌∙◌, inl, inr, refl, sym, ap, subst, ℕ, List, Err, Some, None}
 use Rattle.std.specs.Prelude.{IsSome}
-use Rattle.net_model.specs.NetData.{NetData}
 use Rattle.host_core.specs.HostView.{State, dumped}
 use Rattle.host_core.specs.Stops.{Steps, Stays}
-use Rattle.checkpoint_cell.specs.Cell.{cell_of, seen_of}
+use Rattle.checkpoint_cell.specs.Cell.{cell_of}
 use Rattle.checkpoint_cell.specs.Loaded.{IsBad, IsLoaded}
 use Rattle.checkpoint_cell.specs.Settled.{standing}
 use Rattle.engine_model.proofs.lemmas.Restores.{not_bad}

@@ -1,4 +1,4 @@
-use Rattle.std.proofs.Common.{◌≡◌, ◌∙◌, ◌≤◌, Option, Some, None, Err, ℕ, ap, subst, refl, arith}
+use Rattle.std.proofs.Common.{◌≡◌, ◌∙◌, Option, Some, None, Err, ℕ, ap, subst, refl}
 use Rattle.net_model.specs.NetData.{NetData, IsNet}
 use Rattle.kernel_model.specs.Runs.{Runs}
 use Rattle.host_core.proofs.lemmas.Counts.{rose_after}

@@ -1,4 +1,4 @@
-use Rattle.std.proofs.Common.{◌≡◌, ◌∙◌, inl, inr, Err, Ok, Some, refl, ap, arith, Option, subst, List, [], length}
+use Rattle.std.proofs.Common.{◌≡◌, ◌∙◌, inr, Err, Ok, Some, refl, ap, arith, Option, subst, List, [], length}
 use Rattle.host_core.specs.declared.host.CallFault.TheVariants.{Refused, Failed}
 use Rattle.net_model.specs.NetData.{NetData}
 use Rattle.net_model.specs.declared.Call.{Call}
