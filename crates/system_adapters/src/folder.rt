@@ -238,6 +238,12 @@ mod tests {
         files.mark(name)
     }
 
+    // Whether the file of this path holds these bytes.
+    fn holds(rt: &HostRuntime, path: &str, bytes: &[u8]) -> Result<bool, Fail> {
+        let held = fs::read(rt, path)?;
+        Ok(held.as_slice() == bytes)
+    }
+
     #[test]
     fn a_file_is_begun_and_read_to_its_end(rt: HostRuntime) -> Result<(), Fail> {
         let folder = "system_adapters_read_test";
@@ -263,8 +269,8 @@ mod tests {
         assert_eq!(rt; start(&mut files, &name), Ok(()));
         assert!(rt; read(&mut files).is_ok());
         assert_eq!(rt; mark(&mut files, &name), Ok(()));
-        let marked = fs::read(&rt, "system_adapters_mark_test/10-mtu.applied")?;
-        assert_eq!(rt; marked.as_slice(), MTU.as_bytes());
+        let marked = "system_adapters_mark_test/10-mtu.applied";
+        assert!(rt; holds(&rt, marked, MTU.as_bytes())?);
         assert!(rt; gives(rt.alloc(), &mut files, &[UP])?);
         assert_eq!(rt; files.faults, 0);
         fs::remove_dir_all(&rt, folder)?;
