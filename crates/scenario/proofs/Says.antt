@@ -1,5 +1,5 @@
 -- What the answers of the stages say, from where the run began.
-use Rattle.std.proofs.Common.{◌≡◌, ◌∙◌, ◌⊎◌, inl, inr, refl, sym, ap, subst, arith, Result, Ok, Err, Option, Some, None}
+use Rattle.std.proofs.Common.{◌≡◌, ℕ, ◌∙◌, ◌⊎◌, inl, inr, refl, sym, ap, subst, arith, Result, Ok, Err, Option, Some, None}
 use Rattle.std.specs.Prelude.{IsSome, ⊤}
 use Rattle.net_model.specs.NetData.{NetData}
 use Rattle.document_model.specs.declared.Doc.{Doc}
