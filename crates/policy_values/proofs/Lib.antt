@@ -7,5 +7,7 @@ pub mod Keeping
 pub mod Items
 pub mod Given
 pub mod Listed
+pub mod InPlace
 pub mod Known
 pub mod Sized
+pub mod Low

@@ -1,13 +1,13 @@
 //! The tree that is wanted, each place replaced by the tree to which it refers.
-ghost use Rattle.std.specs.Prelude.{◌≡◌, nat_le, map, length, Some, None, IfOk, option_map};
+ghost use Rattle.std.specs.Prelude.{◌≡◌, nat_le, map, length, true, IfOk, IfSome, option_map};
 ghost use Rattle.doc_tree.specs.Shape.{shape, shapes_of, pair_shape, pairs_of, levels, shapes_levels, pairs_levels};
 ghost use Rattle.policy_model.specs.Places.{put_in, filled, filled_among, filled_under};
 ghost use Rattle.policy_model.specs.Reading.{inside};
 ghost use Rattle.policy_model.specs.Values.{place_value, nodes, nodes_among, nodes_under};
 ghost use Rattle.policy_values.specs.Tables.{found_in, filler, seen};
-ghost use Rattle.policy_values.specs.Sizes.{left_behind};
+ghost use Rattle.policy_values.specs.Sizes.{left_behind, are_low};
 
-use crate::size::{count, fits};
+use crate::size::{count, low_fits};
 use crate::values::referred;
 use base_model::Str;
 use doc_tree::Tree;
@@ -36,40 +36,45 @@ fn text_fits(
     alloc: Global,
     captures: &[Capture],
     table: &[Option<Tree>],
+    low: Option<usize>,
     room: usize,
     text: &Str,
 ) -> Result<bool, AllocError>
-    requires { length table.now ≡ length captures.now }
+    requires whole { length table.now ≡ length captures.now }
+    requires low { IfSome low (λ n. are_low n (seen table.now) ≡ true) }
     ensures { IfOk result (λ fit. fit ≡ nat_le (levels (put_in (filler (found_in captures.now (seen table.now))) text.now (inside text.now))) room) }
 {
     match inside(text.as_str().as_bytes()) {
         Some(inner) => match place_value(alloc, captures, table, inner)? {
-            Some(tree) => Ok(fits(room, tree)),
+            Some(tree) => Ok(low_fits(low, room, tree)),
             None => Ok(room > 0),
         },
         None => Ok(room > 0),
     }
 }
 
-/// Whether the tree with its places replaced has at most so many levels.
+/// Whether the tree with its places replaced has at most so many levels. Where no tree of the table has more than `low`, those that
+/// stand for places are looked at only where there is less room.
 #[cycle(filled_levels)]
 pub(crate) fn filled_fits(
     alloc: Global,
     captures: &[Capture],
     table: &[Option<Tree>],
+    low: Option<usize>,
     room: usize,
     tree: &Tree,
 ) -> Result<bool, AllocError>
-    requires { length table.now ≡ length captures.now }
+    requires whole { length table.now ≡ length captures.now }
+    requires low { IfSome low (λ n. are_low n (seen table.now) ≡ true) }
     ensures { IfOk result (λ fit. fit ≡ nat_le (levels (filled (filler (found_in captures.now (seen table.now))) (shape tree.now))) room) }
 {
     if room == 0 {
         return Ok(false);
     }
     match tree {
-        Tree::Text(text) => text_fits(alloc, captures, table, room, text),
-        Tree::List(trees) => filled_all_fit(alloc, captures, table, room - 1, trees),
-        Tree::Map(pairs) => filled_pairs_fit(alloc, captures, table, room - 1, pairs),
+        Tree::Text(text) => text_fits(alloc, captures, table, low, room, text),
+        Tree::List(trees) => filled_all_fit(alloc, captures, table, low, room - 1, trees),
+        Tree::Map(pairs) => filled_pairs_fit(alloc, captures, table, low, room - 1, pairs),
         _ => Ok(true),
     }
 }
@@ -79,14 +84,16 @@ fn filled_all_fit(
     alloc: Global,
     captures: &[Capture],
     table: &[Option<Tree>],
+    low: Option<usize>,
     room: usize,
     trees: &Vec<Tree>,
 ) -> Result<bool, AllocError>
-    requires { length table.now ≡ length captures.now }
+    requires whole { length table.now ≡ length captures.now }
+    requires low { IfSome low (λ n. are_low n (seen table.now) ≡ true) }
     ensures { IfOk result (λ fit. fit ≡ nat_le (shapes_levels (filled_among (filler (found_in captures.now (seen table.now))) (shapes_of (map shape trees.now.items)))) room) }
 {
     for tree in trees {
-        if !filled_fits(alloc, captures, table, room, tree)? {
+        if !filled_fits(alloc, captures, table, low, room, tree)? {
             return Ok(false);
         }
     }
@@ -98,14 +105,16 @@ fn filled_pairs_fit(
     alloc: Global,
     captures: &[Capture],
     table: &[Option<Tree>],
+    low: Option<usize>,
     room: usize,
     pairs: &Vec<(Str, Tree)>,
 ) -> Result<bool, AllocError>
-    requires { length table.now ≡ length captures.now }
+    requires whole { length table.now ≡ length captures.now }
+    requires low { IfSome low (λ n. are_low n (seen table.now) ≡ true) }
     ensures { IfOk result (λ fit. fit ≡ nat_le (pairs_levels (filled_under (filler (found_in captures.now (seen table.now))) (pairs_of (map pair_shape pairs.now.items)))) room) }
 {
     for pair in pairs {
-        if !filled_fits(alloc, captures, table, room, &pair.1)? {
+        if !filled_fits(alloc, captures, table, low, room, &pair.1)? {
             return Ok(false);
         }
     }

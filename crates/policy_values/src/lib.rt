@@ -5,6 +5,8 @@
 mod filling;
 // Where a path leads.
 mod leading;
+// `:=` in a tree that no one else has.
+mod setting;
 // How deep and how large trees are.
 mod size;
 // What a step makes of a tree.

@@ -1,25 +1,16 @@
 //! What a step makes of a tree.
-ghost use Rattle.std.specs.Prelude.{◌≡◌, ◌++◌, ◌&&◌, not, IfOk, OnOk, option_map, map, bytes_eq};
-ghost use Rattle.doc_tree.specs.Shape.{shape, shapes_of, pair_shape, pairs_of};
-ghost use Rattle.policy_model.specs.Steps.{tree_of, value_of_tree, is_value, matches, some_matches, matches_under, kept, added, set, set_each, set_under, changed, only, narrowed};
-ghost use Rattle.policy_lang.specs.Parting.{pairs_onto};
+ghost use Rattle.std.specs.Prelude.{◌≡◌, ◌++◌, IfOk, OnOk, option_map, map};
+ghost use Rattle.doc_tree.specs.Shape.{shape, list, shapes_of, pair_shape, pairs_of};
+ghost use Rattle.doc_tree.specs.Lookup.{find};
+ghost use Rattle.policy_model.specs.Steps.{value_of_tree, is_value, matches, some_matches, matches_under, kept, changed, only, narrowed};
 ghost use Rattle.policy_values.specs.Lists.{kept_of};
 
+use crate::setting::{place_of, set_each};
 use base_model::Str;
 use doc_tree::Tree;
 use policy_lang::copy_tree;
 use policy_model::{Constant, Verb};
 use std::alloc::{AllocError, Global};
-
-fn tree_of(value: &Constant) -> Result<Tree, AllocError>
-    ensures { IfOk result (λ tree. shape tree ≡ tree_of value.now) }
-{
-    match value {
-        Constant::Text(text) => Ok(Tree::Text(text.copy()?)),
-        Constant::Int(n) => Ok(Tree::Int(*n)),
-        Constant::Bool(b) => Ok(Tree::Bool(*b)),
-    }
-}
 
 /// The string, number or boolean that a tree is, if it is one.
 pub(crate) fn value_of_tree(tree: &Tree) -> Result<Option<Constant>, AllocError>
@@ -115,119 +106,30 @@ fn kept(
     Ok(found)
 }
 
-// The tree with the value at the path, in every element of each list; `None` where the path leads nowhere.
-#[cycle(setting)]
-fn set(
-    alloc: Global,
-    value: &Constant,
-    path: &[Str],
-    tree: &Tree,
-) -> Result<Option<Tree>, AllocError>
-    ensures { IfOk result (λ found. option_map shape found ≡ set value.now path.now (shape tree.now)) }
+// The elements that match are left, and the others let go.
+fn keep(value: &Constant, path: &[Str], trees: Vec<Tree>) -> Vec<Tree>
+    ensures { shapes_of (map shape result.items) ≡ kept value.now path.now (shapes_of (map shape trees.items)) }
 {
-    let [key, keys @ ..] = path else {
-        return Ok(Some(tree_of(value)?));
-    };
-    match tree {
-        Tree::List(trees) => match set_each(alloc, value, path, trees)? {
-            Some(trees) => Ok(Some(Tree::List(trees))),
-            None => Ok(None),
-        },
-        Tree::Map(pairs) => match set_under(alloc, value, key, keys, pairs)? {
-            Some(pairs) => Ok(Some(Tree::Map(pairs))),
-            None => Ok(None),
-        },
-        _ => Ok(None),
-    }
+    let mut trees = trees;
+    trees.retain(|tree| matches(value, path, tree));
+    trees
 }
 
-#[cycle(setting)]
-fn set_each(
-    alloc: Global,
-    value: &Constant,
-    path: &[Str],
-    trees: &Vec<Tree>,
-) -> Result<Option<Vec<Tree>>, AllocError>
-    ensures { IfOk result (λ found. option_map (λ trees. shapes_of (map shape trees.items)) found ≡ set_each value.now path.now (shapes_of (map shape trees.now.items))) }
-{
-    let mut found = Vec::new(alloc);
-    for tree in trees {
-        let Some(tree) = set(alloc, value, path, tree)? else {
-            return Ok(None);
-        };
-        found.push(tree)?;
-    }
-    Ok(Some(found))
-}
-
-// Whether a pair is the first of this key.
-fn is_first(is_set: bool, pair: &(Str, Tree), key: &Str) -> bool
-    ensures { result ≡ (not is_set && bytes_eq pair.now.0 key.now) }
-{
-    !is_set && pair.0.as_str() == key.as_str()
-}
-
-// A missing last key comes at the end of its map.
-fn added(
-    value: &Constant,
-    key: &Str,
-    keys: &[Str],
-    found: Vec<(Str, Tree)>,
-) -> Result<Option<Vec<(Str, Tree)>>, AllocError>
-    ensures { IfOk result (λ all. option_map (λ pairs. pairs_of (map pair_shape pairs.items)) all ≡ option_map (pairs_onto (map pair_shape found.items)) (added value.now key.now keys.now)) }
-{
-    if !keys.is_empty() {
-        return Ok(None);
-    }
-    let mut found = found;
-    let name = key.copy()?;
-    found.push((name, tree_of(value)?))?;
-    Ok(Some(found))
-}
-
-#[cycle(setting)]
-fn set_under(
-    alloc: Global,
-    value: &Constant,
-    key: &Str,
-    keys: &[Str],
-    pairs: &Vec<(Str, Tree)>,
-) -> Result<Option<Vec<(Str, Tree)>>, AllocError>
-    ensures { IfOk result (λ found. option_map (λ pairs. pairs_of (map pair_shape pairs.items)) found ≡ set_under value.now key.now keys.now (pairs_of (map pair_shape pairs.now.items))) }
-{
-    let mut found = Vec::new(alloc);
-    let mut is_set = false;
-    for pair in pairs {
-        let name = pair.0.copy()?;
-        if is_first(is_set, pair, key) {
-            let Some(tree) = set(alloc, value, keys, &pair.1)? else {
-                return Ok(None);
-            };
-            found.push((name, tree))?;
-            is_set = true;
-        } else {
-            found.push((name, copy_tree(alloc, &pair.1)?))?;
-        }
-    }
-    if is_set {
-        return Ok(Some(found));
-    }
-    added(value, key, keys, found)
-}
-
-// What becomes of the elements of the first list.
+// What becomes of the first list, in its place.
 fn changed(
-    alloc: Global,
     verb: Verb,
     value: &Constant,
     path: &[Str],
-    trees: &Vec<Tree>,
-) -> Result<Option<Vec<Tree>>, AllocError>
-    ensures { IfOk result (λ found. option_map (λ trees. shapes_of (map shape trees.items)) found ≡ changed verb value.now path.now (shapes_of (map shape trees.now.items))) }
+    trees: Vec<Tree>,
+) -> Result<Option<Tree>, AllocError>
+    ensures { IfOk result (λ found. option_map shape found ≡ option_map list (changed verb value.now path.now (shapes_of (map shape trees.items)))) }
 {
     match verb {
-        Verb::Keep => Ok(Some(kept(alloc, value, path, trees)?)),
-        Verb::Set => set_each(alloc, value, path, trees),
+        Verb::Keep => Ok(Some(Tree::List(keep(value, path, trees)))),
+        Verb::Set => match set_each(value, path, trees)? {
+            Some(trees) => Ok(Some(Tree::List(trees))),
+            None => Ok(None),
+        },
     }
 }
 
@@ -240,7 +142,48 @@ fn only(alloc: Global, key: &Str, tree: Tree) -> Result<Tree, AllocError>
     Ok(Tree::Map(pairs))
 }
 
-/// The maps on the way and the first list, with its elements changed; `None` where the path leads nowhere.
+// What stands under a key, taken out of its map.
+fn taken(key: &Str, pairs: Vec<(Str, Tree)>) -> Option<Tree>
+    ensures { option_map shape result ≡ find key.now (pairs_of (map pair_shape pairs.items)) }
+{
+    let Some(i) = place_of(key, pairs.as_slice()) else {
+        return None;
+    };
+    let mut pairs = pairs;
+    let (_key, tree) = pairs.swap_remove(i);
+    Some(tree)
+}
+
+/// The maps on the way and the first list, with its elements changed; `None` where the path leads nowhere. The tree is no
+/// one else's, and what stays of it is moved.
+pub(crate) fn narrowed_of(
+    alloc: Global,
+    verb: Verb,
+    value: &Constant,
+    path: &[Str],
+    tree: Tree,
+) -> Result<Option<Tree>, AllocError>
+    ensures { IfOk result (λ found. option_map shape found ≡ narrowed verb value.now path.now (shape tree)) }
+{
+    match tree {
+        Tree::List(trees) => changed(verb, value, path, trees),
+        Tree::Map(pairs) => {
+            let [key, keys @ ..] = path else {
+                return Ok(None);
+            };
+            let Some(below) = taken(key, pairs) else {
+                return Ok(None);
+            };
+            match narrowed_of(alloc, verb, value, keys, below)? {
+                Some(found) => Ok(Some(only(alloc, key, found)?)),
+                None => Ok(None),
+            }
+        }
+        _ => Ok(None),
+    }
+}
+
+/// The same of a tree that stays. Of its elements those that are kept are copied, and all where a value is set in them.
 pub(crate) fn narrowed(
     alloc: Global,
     verb: Verb,
@@ -251,9 +194,9 @@ pub(crate) fn narrowed(
     ensures { IfOk result (λ found. option_map shape found ≡ narrowed verb value.now path.now (shape tree.now)) }
 {
     if let Tree::List(trees) = tree {
-        return match changed(alloc, verb, value, path, trees)? {
-            Some(trees) => Ok(Some(Tree::List(trees))),
-            None => Ok(None),
+        return match verb {
+            Verb::Keep => Ok(Some(Tree::List(kept(alloc, value, path, trees)?))),
+            Verb::Set => narrowed_of(alloc, verb, value, path, copy_tree(alloc, tree)?),
         };
     }
     let [key, keys @ ..] = path else {

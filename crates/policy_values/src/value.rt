@@ -12,6 +12,7 @@ ghost use Rattle.policy_lang.specs.Placing.{under};
 ghost use Rattle.policy_values.specs.Tables.{found_in, seen, filler};
 
 use crate::filling::{filled, filled_count, filled_fits, place_value};
+use crate::size::low_of;
 use crate::values::{capture_values, has_value, have_values};
 use base_model::OutOfMemory;
 use doc_tree::{MAX_LEVELS, Tree};
@@ -74,7 +75,8 @@ fn first_nowhere<'a>(
     Ok(None)
 }
 
-// The tree with its places replaced, where that isn't too deep nor too large.
+// The tree with its places replaced, where that isn't too deep nor too large. One that is too large may have far more nodes
+// than may be looked at one by one, and is told from one that is too deep as well by how deep the captured trees are.
 fn within_limits(
     alloc: Global,
     captures: &[Capture],
@@ -84,11 +86,14 @@ fn within_limits(
     requires { length table.now ≡ length captures.now }
     ensures { GivesTree (within_limits (filled (filler (found_in captures.now (seen table.now))) (shape tree.now))) result }
 {
-    if !filled_fits(alloc, captures, table, MAX_LEVELS, tree)? {
+    if filled_count(alloc, captures, table, MAX_NODES, tree)?.is_none() {
+        if filled_fits(alloc, captures, table, low_of(table), MAX_LEVELS, tree)? {
+            return Err(PolicyFault::TooLarge);
+        }
         return Err(PolicyFault::TooDeep);
     }
-    if filled_count(alloc, captures, table, MAX_NODES, tree)?.is_none() {
-        return Err(PolicyFault::TooLarge);
+    if !filled_fits(alloc, captures, table, None, MAX_LEVELS, tree)? {
+        return Err(PolicyFault::TooDeep);
     }
     Ok(filled(alloc, captures, table, tree)?)
 }

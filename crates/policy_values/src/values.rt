@@ -6,7 +6,7 @@ ghost use Rattle.policy_model.specs.declared.Operand.TheVariants.{Refers};
 ghost use Rattle.policy_values.specs.Tables.{found_in, valued, unknown, tables, names, have_values, seen, IsStep, IsPass};
 
 use crate::leading::led;
-use crate::steps::{narrowed, value_of_tree};
+use crate::steps::{narrowed, narrowed_of, value_of_tree};
 use base_model::{Items, OutOfMemory, Str};
 use doc_tree::Tree;
 use policy_lang::{copy_tree, expression_of, names_of};
@@ -86,6 +86,26 @@ fn step_value(
     }
 }
 
+// The same of a tree that no one else has.
+fn step_value_of(
+    alloc: Global,
+    captures: &[Capture],
+    table: &[Option<Tree>],
+    step: &Step,
+    tree: Tree,
+) -> Result<Option<Tree>, AllocError>
+    requires { length table.now ≡ length captures.now }
+    ensures { IfOk result (λ found. option_map shape found ≡ step_value (found_in captures.now (seen table.now)) step.now (shape tree)) }
+{
+    match &step.operand {
+        Operand::Constant(value) => narrowed_of(alloc, step.verb, value, step.path.items(), tree),
+        Operand::Refers(reference) => match referred_value(captures, table, reference)? {
+            Some(value) => narrowed_of(alloc, step.verb, &value, step.path.items(), tree),
+            None => Ok(None),
+        },
+    }
+}
+
 // What steps make of a tree that no one else has, one after another.
 fn steps_value(
     alloc: Global,
@@ -99,7 +119,7 @@ fn steps_value(
 {
     let mut made = tree;
     for step in steps {
-        match step_value(alloc, captures, table, step, &made)? {
+        match step_value_of(alloc, captures, table, step, made)? {
             Some(next) => made = next,
             None => return Ok(None),
         }
