@@ -90,7 +90,8 @@ fn filled_all_fit(
 ) -> Result<bool, AllocError>
     requires whole { length table.now ≡ length captures.now }
     requires low { IfSome low (λ n. are_low n (seen table.now) ≡ true) }
-    ensures { IfOk result (λ fit. fit ≡ nat_le (shapes_levels (filled_among (filler (found_in captures.now (seen table.now))) (shapes_of (map shape trees.now.items)))) room) }
+    ensures { IfOk result (λ fit. fit
+        ≡ nat_le (shapes_levels (filled_among (filler (found_in captures.now (seen table.now))) (shapes_of (map shape trees.now.items)))) room) }
 {
     for tree in trees {
         if !filled_fits(alloc, captures, table, low, room, tree)? {
@@ -111,7 +112,8 @@ fn filled_pairs_fit(
 ) -> Result<bool, AllocError>
     requires whole { length table.now ≡ length captures.now }
     requires low { IfSome low (λ n. are_low n (seen table.now) ≡ true) }
-    ensures { IfOk result (λ fit. fit ≡ nat_le (pairs_levels (filled_under (filler (found_in captures.now (seen table.now))) (pairs_of (map pair_shape pairs.now.items)))) room) }
+    ensures { IfOk result (λ fit. fit
+        ≡ nat_le (pairs_levels (filled_under (filler (found_in captures.now (seen table.now))) (pairs_of (map pair_shape pairs.now.items)))) room) }
 {
     for pair in pairs {
         if !filled_fits(alloc, captures, table, low, room, &pair.1)? {
@@ -173,7 +175,8 @@ fn filled_count_all(
     trees: &Vec<Tree>,
 ) -> Result<Option<usize>, AllocError>
     requires { length table.now ≡ length captures.now }
-    ensures { IfOk result (λ rest. rest ≡ left_behind left (nodes_among (filled_among (filler (found_in captures.now (seen table.now))) (shapes_of (map shape trees.now.items))))) }
+    ensures { IfOk result (λ rest. rest
+        ≡ left_behind left (nodes_among (filled_among (filler (found_in captures.now (seen table.now))) (shapes_of (map shape trees.now.items))))) }
 {
     let mut rest = left;
     for tree in trees {
@@ -194,7 +197,8 @@ fn filled_count_pairs(
     pairs: &Vec<(Str, Tree)>,
 ) -> Result<Option<usize>, AllocError>
     requires { length table.now ≡ length captures.now }
-    ensures { IfOk result (λ rest. rest ≡ left_behind left (nodes_under (filled_under (filler (found_in captures.now (seen table.now))) (pairs_of (map pair_shape pairs.now.items))))) }
+    ensures { IfOk result (λ rest. rest
+        ≡ left_behind left (nodes_under (filled_under (filler (found_in captures.now (seen table.now))) (pairs_of (map pair_shape pairs.now.items))))) }
 {
     let mut rest = left;
     for pair in pairs {
@@ -254,7 +258,8 @@ fn filled_among(
     trees: &Vec<Tree>,
 ) -> Result<Vec<Tree>, AllocError>
     requires { length table.now ≡ length captures.now }
-    ensures { IfOk result (λ found. shapes_of (map shape found.items) ≡ filled_among (filler (found_in captures.now (seen table.now))) (shapes_of (map shape trees.now.items))) }
+    ensures { IfOk result (λ found. shapes_of (map shape found.items)
+        ≡ filled_among (filler (found_in captures.now (seen table.now))) (shapes_of (map shape trees.now.items))) }
 {
     let mut found = Vec::new(alloc);
     for tree in trees {
@@ -271,7 +276,8 @@ fn filled_under(
     pairs: &Vec<(Str, Tree)>,
 ) -> Result<Vec<(Str, Tree)>, AllocError>
     requires { length table.now ≡ length captures.now }
-    ensures { IfOk result (λ found. pairs_of (map pair_shape found.items) ≡ filled_under (filler (found_in captures.now (seen table.now))) (pairs_of (map pair_shape pairs.now.items))) }
+    ensures { IfOk result (λ found. pairs_of (map pair_shape found.items)
+        ≡ filled_under (filler (found_in captures.now (seen table.now))) (pairs_of (map pair_shape pairs.now.items))) }
 {
     let mut found = Vec::new(alloc);
     for pair in pairs {

@@ -68,7 +68,8 @@ pub(crate) fn set_each(
     path: &[Str],
     trees: Vec<Tree>,
 ) -> Result<Option<Vec<Tree>>, AllocError>
-    ensures { IfOk result (λ found. option_map (λ trees. shapes_of (map shape trees.items)) found ≡ set_each value.now path.now (shapes_of (map shape trees.items))) }
+    ensures { IfOk result (λ found. option_map (λ trees. shapes_of (map shape trees.items)) found
+        ≡ set_each value.now path.now (shapes_of (map shape trees.items))) }
 {
     let mut trees = trees;
     for i in 0..trees.len() {
@@ -88,7 +89,8 @@ fn added(
     keys: &[Str],
     pairs: Vec<(Str, Tree)>,
 ) -> Result<Option<Vec<(Str, Tree)>>, AllocError>
-    ensures { IfOk result (λ all. option_map (λ pairs. pairs_of (map pair_shape pairs.items)) all ≡ option_map (pairs_onto (map pair_shape pairs.items)) (added value.now key.now keys.now)) }
+    ensures { IfOk result (λ all. option_map (λ pairs. pairs_of (map pair_shape pairs.items)) all
+        ≡ option_map (pairs_onto (map pair_shape pairs.items)) (added value.now key.now keys.now)) }
 {
     if !keys.is_empty() {
         return Ok(None);
@@ -106,7 +108,8 @@ fn set_under(
     keys: &[Str],
     pairs: Vec<(Str, Tree)>,
 ) -> Result<Option<Vec<(Str, Tree)>>, AllocError>
-    ensures { IfOk result (λ found. option_map (λ pairs. pairs_of (map pair_shape pairs.items)) found ≡ set_under value.now key.now keys.now (pairs_of (map pair_shape pairs.items))) }
+    ensures { IfOk result (λ found. option_map (λ pairs. pairs_of (map pair_shape pairs.items)) found
+        ≡ set_under value.now key.now keys.now (pairs_of (map pair_shape pairs.items))) }
 {
     let Some(i) = place_of(key, pairs.as_slice()) else {
         return added(value, key, keys, pairs);
