@@ -1,0 +1,6 @@
+pub mod Listed
+pub mod KeyOrder
+pub mod Indexed
+pub mod Edits
+pub mod Changes
+pub mod RoutePosition
