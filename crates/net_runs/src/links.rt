@@ -1,8 +1,6 @@
 //! Links from words: `NAME KIND`, and what isn't at its default: `down`, `mtu=N`, `controller=NAME`, `address=PREFIX`,
 //! `addresses=N`, `updelay=N` with `miimon` 100, `hello-time=N`.
 
-ghost use Rattle.std.specs.Prelude.{◌≡◌, None};
-
 use crate::reading::{first_word, name, number, prefix};
 use net_model::{
     Addr, BondMode, BondOpts, BridgeOpts, Items, Kind, Link, Mac, Name, PortOpts, Prefix, Proto,
@@ -41,12 +39,8 @@ fn addresses(alloc: Global, count: u32) -> Option<Vec<Prefix>> {
     Some(addrs)
 }
 
-/// A link that is up, with everything at its default.
-pub fn link(alloc: Global, name: Name, kind: Kind) -> Link
-    ensures named { result.name ≡ name }
-    ensures kind { result.kind ≡ kind }
-    ensures free { result.controller ≡ None }
-{
+// A link that is up, with everything at its default.
+fn link(alloc: Global, name: Name, kind: Kind) -> Link {
     Link {
         name,
         kind,

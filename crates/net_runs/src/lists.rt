@@ -31,9 +31,8 @@ fn set(route: &mut Route, key: &str, value: &str) -> Option<()> {
     Some(())
 }
 
-/// The route of words: `dest=PREFIX table=N metric=N via=ADDRESS dev=NAME`, each where it isn't that of the default route by
-/// `eth1`.
-pub fn route(words: &str) -> Option<Route> {
+// `dest=PREFIX table=N metric=N via=ADDRESS dev=NAME`, each where it isn't that of the default route by `eth1`.
+fn route(words: &str) -> Option<Route> {
     let mut route = Route {
         dest: Subnet::of(prefix("0.0.0.0/0")?),
         table: TableId::of(0),

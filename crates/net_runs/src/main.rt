@@ -2,8 +2,6 @@
 //! that lists break, and what is asked of a network.
 #![tactic(auto)]
 
-// What the indexes of a network list.
-mod indexes;
 // Links from words.
 mod links;
 // Lists of links, routes, rules, servers and search domains from words.
@@ -22,14 +20,13 @@ use std::io::{self, Read, Write};
 // Lists and questions.
 struct Networks;
 
-// `LISTS`, or `LISTS ? QUESTION`, where a question on indexes may have an edit first.
+// `LISTS`, or `LISTS ? QUESTION`.
 fn answer_to(alloc: Global, kind: &str, text: &str) -> Option<Vec<u8>> {
     let (lists, question) = text.split_once(" ? ").unwrap_or((text, ""));
     let lists = Lists::of(alloc, lists)?;
     match kind {
         "part" => lists::part(alloc, lists),
         "stored" => questions::stored(alloc, lists),
-        "indexed" => indexes::listed(alloc, net_of(alloc, lists)?, question),
         _ => questions::asked(alloc, &net_of(alloc, lists)?, question),
     }
 }
