@@ -23,7 +23,7 @@ use Rattle.engine_model.specs.Stations.{FrontStep}
 use Rattle.plan_model.specs.Plans.{IsPlan}
 use Rattle.plan_model.specs.Undisturbed.{IsUndisturbed}
 use Rattle.engine_core.specs.Calm.{CalmSince}
-use Rattle.engine_core.specs.Applying.{ExitApply, asked_of}
+use Rattle.engine_core.specs.Applying.{ExitApply}
 use Rattle.engine_core.proofs.Applies.{Made, made_as, makes, apply_answers}
 use Rattle.engine_core.proofs.Says.{said_left, said_doubt}
 
@@ -128,8 +128,8 @@ module _ (a : Asked) (old new : HostView) (from to : NetData) (fit : Fit old.sta
   done_calm P (Err fa.OutOfMemory) answers memory p = absurd (memory refl)
 
 -- it is done where nothing failed, from how the change ended
-pub ended_calm : (doc : Doc) (opts : ApplyOpts) (now : ℕ) (tells : Type 0) (old new : HostView) → new.stops.may_leave new.state → Fit old.state → (result : Result Applied ApplyFault) → ExitApply (asked_of doc opts now) old result new
-    → IfOk result (λ applied. applied.deadline ≡ (if opts.no_commit then Some (asked_of doc opts now).deadline else None)) → ApplySays tells (asked doc opts now) old new result
+pub ended_calm : (doc : Doc) (opts : ApplyOpts) (now : ℕ) (tells : Type 0) (old new : HostView) → new.stops.may_leave new.state → Fit old.state → (result : Result Applied ApplyFault) → ExitApply (asked doc opts now) old result new
+    → IfOk result (λ applied. applied.deadline ≡ (if opts.no_commit then Some (deadline_of (asked doc opts now)) else None)) → ApplySays tells (asked doc opts now) old new result
     → (from to : NetData) → standing old.state ≡ restored_to from → merge from doc ≡ Ok to → (Rose old.faults new.faults → ⊥) → (result ≡ Err fa.OutOfMemory → ⊥) → (P : Type 0) → OnOk result P → P
 ended_calm doc opts now tells old new there fit result exit value says from to is merges quiet memory P done =
     done_calm (asked doc opts now) old new from to fit is merges quiet P result

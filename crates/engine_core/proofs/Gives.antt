@@ -13,12 +13,12 @@ use Rattle.engine_model.specs.Answers.{IsHealthy, IsBefore, IsTaken}
 use Rattle.checkpoint_cell.specs.Cell.{saved_net, cell_of}
 use Rattle.checkpoint_cell.specs.Steps.{Holds}
 use Rattle.checkpoint_cell.proofs.lemmas.Saved.{saved_is}
-use Rattle.engine_model.specs.Machine.{apply_fault}
+use Rattle.engine_model.specs.Machine.{Asked, apply_fault, deadline_of}
 use Rattle.engine_model.specs.Failing.{Fails}
 use Rattle.engine_model.proofs.lemmas.Failing.{fails_rose}
 use Rattle.engine_core.specs.Attempts.{sealed, done, IsEither, IsFault, IsOnWay}
 use Rattle.engine_core.specs.Saying.{taken_back_as, pending_as, stopped_as}
-use Rattle.engine_core.specs.Applying.{GaveUp, Exit, Asked, Change, IsStation, IsApplied, AfterSettling, Unsettled, ExitApply}
+use Rattle.engine_core.specs.Applying.{GaveUp, Exit, Change, IsStation, IsApplied, AfterSettling, Unsettled, ExitApply}
 use Rattle.engine_model.specs.declared.answers.Left.{Left}
 use Rattle.engine_model.specs.declared.answers.Left.TheVariants.{NotBegun, RolledBack, Pending}
 use Rattle.engine_model.specs.declared.answers.BackFault.{BackFault}
@@ -64,7 +64,7 @@ pub sealed_net : (no_commit : Bool) (made deadline : ℕ) (from : NetData) (host
 sealed_net true made deadline from host holds = saved_is _ host.state.cell holds.cell
 sealed_net false made deadline from host holds = saved_is _ host.state.cell holds.cell
 
-module _ (asked : Asked) (before : Standing) (change : Change asked before) (old mid : ℕ) (new : HostView) (onway : AllNear (IsOnWay asked.no_commit asked.made asked.deadline change.from change.to) new) where
+module _ (asked : Asked) (before : Standing) (change : Change asked before) (old mid : ℕ) (new : HostView) (onway : AllNear (IsOnWay asked.opts.no_commit asked.now (deadline_of asked) change.from change.to) new) where
   failed_exit : (fault : ApplyFault) → Rose old mid → mid ≤ new.faults → GaveUp change.from mid fault new → Exit asked before old (Err fault) new
   failed_exit (HostFault RolledBack) rose later gave = subst (λ (x : Standing). Ends x new) (sym change.stood) gave
   failed_exit (HostFault Pending) rose later gave = (rose_twice old mid new.faults rose gave, (change, onway))
@@ -131,12 +131,12 @@ settled_exit asked entry (Err (fault.Damaged area)) new exit = exit
 settled_exit asked entry (Err (fault.HardwareDiffers names)) new exit = exit
 
 -- an exit from the settling itself
-module _ (asked : Asked) (entry new : HostView) (during : Steps (Leads (IsSettled asked.made entry.state)) entry.stops new.stops) where
-  on_way : IsTaken asked.made (cell_of entry.state.cell) → FromRead (IsSettled asked.made entry.state) entry new → Unsettled asked entry new
+module _ (asked : Asked) (entry new : HostView) (during : Steps (Leads (IsSettled asked.now entry.state)) entry.stops new.stops) where
+  on_way : IsTaken asked.now (cell_of entry.state.cell) → FromRead (IsSettled asked.now entry.state) entry new → Unsettled asked entry new
   on_way taken going = record { taken = taken; during = during; going = going }
 
-  pub unsettled_exit : (tells : Type 0) (why : BackFault) → IsHealthy why → Fails tells entry new why → (why ≡ back.HostFault Pending → IsTaken asked.made (cell_of entry.state.cell)) → (why ≡ back.OutOfMemory → IsTaken asked.made (cell_of entry.state.cell))
-      → ((IsBefore why → ⊥) → FromRead (IsSettled asked.made entry.state) entry new) → ExitApply asked entry (Err (apply_fault why)) new
+  pub unsettled_exit : (tells : Type 0) (why : BackFault) → IsHealthy why → Fails tells entry new why → (why ≡ back.HostFault Pending → IsTaken asked.now (cell_of entry.state.cell)) → (why ≡ back.OutOfMemory → IsTaken asked.now (cell_of entry.state.cell))
+      → ((IsBefore why → ⊥) → FromRead (IsSettled asked.now entry.state) entry new) → ExitApply asked entry (Err (apply_fault why)) new
   unsettled_exit tells back.NoCheckpoint healthy fails pending memory going = absurd fails
   unsettled_exit tells (back.HostFault NotBegun) healthy fails pending memory going = inl fails.1.stops
   unsettled_exit tells (back.HostFault RolledBack) healthy fails pending memory going = absurd healthy
@@ -146,33 +146,32 @@ module _ (asked : Asked) (entry new : HostView) (during : Steps (Leads (IsSettle
   unsettled_exit tells (back.HardwareDiffers names) healthy fails pending memory going = absurd healthy
   unsettled_exit tells back.OutOfMemory healthy fails pending memory going = inl (on_way (memory refl) (going (λ x. x)))
 
-pub change_exit : (asked given : Asked) (before stood : Standing) (old mid : ℕ) (result : Result Applied ApplyFault) (new : HostView) → given ≡ asked → before ≡ stood → old ≤ mid → Exit given stood mid result new → Exit asked before old result new
-change_exit asked given before stood old mid result new same is le exit =
-    exit_later asked before old mid result new le (subst (λ (b : Standing). Exit asked b mid result new) (sym is) (subst (λ (a : Asked). Exit a stood mid result new) same exit))
+pub change_exit : (asked : Asked) (before stood : Standing) (old mid : ℕ) (result : Result Applied ApplyFault) (new : HostView) → before ≡ stood → old ≤ mid → Exit asked stood mid result new → Exit asked before old result new
+change_exit asked before stood old mid result new is le exit = exit_later asked before old mid result new le (subst (λ (b : Standing). Exit asked b mid result new) (sym is) exit)
 
 -- where a change ends, after settling
-pub either_station : (asked : Asked) (before : Standing) (change : Change asked before) (deadline : ℕ) → deadline ≡ asked.deadline → (a : Standing) → IsEither asked.no_commit asked.made deadline change.from change.to a → IsStation asked before a
+pub either_station : (asked : Asked) (before : Standing) (change : Change asked before) (deadline : ℕ) → deadline ≡ deadline_of asked → (a : Standing) → IsEither asked.opts.no_commit asked.now deadline change.from change.to a → IsStation asked before a
 either_station asked before change deadline same a (inl is) = inl (is ∙ sym change.stood)
-either_station asked before change deadline same a (inr is) = inr (change, is ∙ (λ i. done asked.no_commit asked.made (same i) change.from change.to))
+either_station asked before change deadline same a (inr is) = inr (change, is ∙ (λ i. done asked.opts.no_commit asked.now (same i) change.from change.to))
 
 pub now_ends : (stands : Standing) (mid : HostView) → mid.stops.may_leave mid.state → Ends stands mid → Ends (standing mid.state) mid
 now_ends stands mid here ends s left = ends s left ∙ sym (ends mid.state here)
 
-module _ (asked : Asked) (entry mid new : HostView) (here : mid.stops.may_leave mid.state) (done_so : (stands : Standing) × IsSettled asked.made entry.state stands × Ends stands mid) where
-  stood : IsSettled asked.made entry.state (standing mid.state)
+module _ (asked : Asked) (entry mid new : HostView) (here : mid.stops.may_leave mid.state) (done_so : (stands : Standing) × IsSettled asked.now entry.state stands × Ends stands mid) where
+  stood : IsSettled asked.now entry.state (standing mid.state)
   stood = done_so.1 ∙ ap (λ (x : Standing). Some x) (sym (done_so.2 mid.state here))
 
   pub after_exit : (result : Result Applied ApplyFault) → entry.faults ≤ mid.faults → Exit asked (standing mid.state) mid.faults result new → ExitApply asked entry result new
   after_exit result le exit = settled_exit asked entry result new (standing mid.state, stood, exit_later asked (standing mid.state) entry.faults mid.faults result new le exit)
 
-  pub after_kept : Kept (IsSettled asked.made entry.state) entry mid → Kept (IsStation asked (standing mid.state)) mid new → Kept (IsApplied asked entry.state) entry new
+  pub after_kept : Kept (IsSettled asked.now entry.state) entry mid → Kept (IsStation asked (standing mid.state)) mid new → Kept (IsApplied asked entry.state) entry new
   after_kept one two = kept_on (IsApplied asked entry.state) entry mid new
-      (kept_wider (IsSettled asked.made entry.state) (IsApplied asked entry.state) (λ a is. inl is) entry mid one)
+      (kept_wider (IsSettled asked.now entry.state) (IsApplied asked entry.state) (λ a is. inl is) entry mid one)
       (kept_wider (IsStation asked (standing mid.state)) (IsApplied asked entry.state) (λ a is. inr (standing mid.state, stood, is)) mid new two)
 
 -- where the attempt succeeded
 pub finished_exit : (asked : Asked) (before : Standing) (change : Change asked before) (faults : ℕ) (result : Result Applied ApplyFault) (new : HostView)
-    → OnOk result (Ends (done asked.no_commit asked.made asked.deadline change.from change.to) new) → IfErr result (λ why. why ≡ fault.InDoubt) → HasNet (Some change.to) new
-    → AllNear (IsEither asked.no_commit asked.made asked.deadline change.from change.to) new → Exit asked before faults result new
+    → OnOk result (Ends (done asked.opts.no_commit asked.now (deadline_of asked) change.from change.to) new) → IfErr result (λ why. why ≡ fault.InDoubt) → HasNet (Some change.to) new
+    → AllNear (IsEither asked.opts.no_commit asked.now (deadline_of asked) change.from change.to) new → Exit asked before faults result new
 finished_exit asked before change faults (Ok applied) new ends doubt nets near = (change, ends)
 finished_exit asked before change faults (Err why) new ends doubt nets near = subst (λ (a : ApplyFault). Exit asked before faults (Err a) new) (sym doubt) (change, nets, near)

@@ -1,30 +1,28 @@
 //! The whole change: what is wanted, the attempt, and what follows where it fails.
-ghost use Rattle.std.specs.Prelude.{◌≡◌, ◌≢◌, ◌⊎◌, ◌≤◌, ◌+◌, ◌^◌, ◌-◌, ℕ, Bool, Option, if◌then◌else◌, min, true, false, None, Some, Ok, Err, OnOk, OnErr, IfOk, IfErr, IsErrOf, IsSome};
-ghost use Rattle.net_model.specs.Hardware.{hardware};
+ghost use Rattle.std.specs.Prelude.{◌≡◌, ◌≢◌, ◌≤◌, ◌-◌, ℕ, Option, if◌then◌else◌, true, false, None, Some, Ok, Err, OnOk, OnErr, IfOk, IfErr, IsErrOf};
 ghost use Rattle.net_model.specs.NetData.{NetData};
 ghost use Rattle.document_model.specs.declared.Doc.{Doc};
 ghost use Rattle.document_model.specs.declared.Refused.{Refused};
 ghost use Rattle.document_model.specs.Entries.{is_document};
-ghost use Rattle.kernel_model.specs.Runs.{Runs};
-ghost use Rattle.host_core.specs.Faults.{Rose, RoseTwice, HasCause};
+ghost use Rattle.host_core.specs.Faults.{Rose};
 ghost use Rattle.host_core.specs.Stops.{Steps, Stays};
-ghost use Rattle.host_core.specs.HostView.{State, HostView, HasNet, SameKernel, SameNet};
+ghost use Rattle.host_core.specs.HostView.{State, HasNet, SameKernel, SameNet};
 ghost use Rattle.plan_model.specs.Plans.{IsPlan};
-ghost use Rattle.checkpoint_cell.specs.Cell.{Checkpoint, applying, cell_of, saved_net};
+ghost use Rattle.checkpoint_cell.specs.Cell.{cell_of, saved_net};
 ghost use Rattle.checkpoint_cell.specs.Steps.{Holds};
-ghost use Rattle.checkpoint_cell.specs.Settled.{standing, Standing, restored_to};
+ghost use Rattle.checkpoint_cell.specs.Settled.{standing, restored_to};
 ghost use Rattle.merge_model.specs.MergedNet.{merge};
-ghost use Rattle.engine_model.specs.Machine.{asked, apply, change, apply_fault, recover};
-ghost use Rattle.engine_model.specs.Undone.{stand, undone};
+ghost use Rattle.engine_model.specs.Machine.{asked, apply, change, apply_fault, deadline_of, recover};
+ghost use Rattle.engine_model.specs.Undone.{stand};
 ghost use Rattle.engine_model.specs.Sound.{WhereSound};
-ghost use Rattle.engine_model.specs.Stations.{Only, Kept, Ends, AllNear, IsSettled, Waits};
-ghost use Rattle.engine_model.specs.Answers.{IsUndone, IsTaken};
+ghost use Rattle.engine_model.specs.Stations.{Only, Kept, Ends};
+ghost use Rattle.engine_model.specs.Answers.{IsUndone};
 ghost use Rattle.engine_model.specs.Refusals.{NoCallMade, ApplyCounts};
 ghost use Rattle.engine_model.specs.Faults.{ApplySays, ApplyExact, MayStandHalf, Tries, FailsTwice, Dumps, Backs, HasTaken};
-ghost use Rattle.engine_core.specs.Attempts.{sealed, done, IsOnWay, IsEither, IsFault, WhereRuns};
-ghost use Rattle.engine_core.specs.Saying.{Start, Follows, DamagedSince, Why, SettledBy, Said, taken_back_as, pending_as, damaged_as, stopped_as};
-ghost use Rattle.engine_core.specs.Calm.{CalmSince};
-ghost use Rattle.engine_core.specs.Applying.{GaveUp, Hurt, Exit, Asked, IsStation, IsApplied, ExitApply, asked_of};
+ghost use Rattle.engine_core.specs.Attempts.{sealed, done, IsEither, IsFault, WhereRuns};
+ghost use Rattle.engine_core.specs.Saying.{Start, Follows, WhereMerges, DamagedSince, Why, SettledBy, Said, taken_back_as, pending_as, damaged_as, stopped_as};
+ghost use Rattle.engine_core.specs.Calm.{CalmSince, UpToNow};
+ghost use Rattle.engine_core.specs.Applying.{GaveUp, Hurt, Exit, IsStation, IsApplied, ExitApply};
 
 use crate::attempting::attempt;
 use crate::missed::Missed;
@@ -176,26 +174,24 @@ fn carry_out<H: Host>(
         (H.told host.new))) }
     ensures exit { WhereSound H.honest (H.told host.old) (Ends (restored_to from.now) (H.told host.old)
         → WhereRuns calls.now from.now to.now (H.told host.old) ((doc : Doc) → merge from.now doc ≡ Ok to.now
-        → Exit (record { doc = doc; no_commit = opts.now.no_commit; made = made; deadline = deadline }) (restored_to from.now)
-        (H.told host.old).faults result (H.told host.new))) }
+        → deadline ≡ deadline_of (asked doc opts.now made)
+        → Exit (asked doc opts.now made) (restored_to from.now) (H.told host.old).faults result (H.told host.new))) }
     // On an honest host, sound or not.
     ensures ends { H.honest
         → WhereRuns calls.now from.now to.now (H.told host.old) (OnOk result (Ends (done opts.now.no_commit made deadline from.now to.now) (H.told host.new))) }
     ensures hurt { H.honest
         → WhereRuns calls.now from.now to.now (H.told host.old) (IfErr result (λ fault. Hurt (Rose (H.told host.old).faults (H.told host.new).faults) to.now
         (H.told host.new) fault)) }
-    ensures calm { H.honest → (t : ℕ) → t ≤ (H.told host.old).stops.moment
-        → (H.told host.old).state.net ≡ Some from.now → IsPlan from.now to.now calls.now
+    ensures calm { H.honest → UpToNow (H.told host.old) (λ t. (H.told host.old).state.net ≡ Some from.now → IsPlan from.now to.now calls.now
         → CalmSince from.now to.now t (H.told host.old)
-        → OnOk result (CalmSince from.now to.now t (H.told host.new)) }
+        → OnOk result (CalmSince from.now to.now t (H.told host.new))) }
     ensures value { IfOk result (λ applied. applied.deadline ≡ (if opts.now.no_commit then Some deadline else None)) }
     // On every host.
-    ensures says { (doc : Doc) (start : Start) → Follows start (H.told host.old) → (H.told host.old).kernel.calls ≡ 0 → merge from.now doc ≡ Ok to.now
-        → SettledBy H.tells made start (H.told host.old) → Said H.tells (asked doc opts.now made) start (H.told host.new) result }
-    ensures counts { (doc : Doc) (start : Start) → Follows start (H.told host.old) → (H.told host.old).kernel.calls ≡ 0 → merge from.now doc ≡ Ok to.now
-        → ApplyCounts start.kernel (H.told host.new).kernel result }
-    ensures tries { (doc : Doc) (start : Start) → Follows start (H.told host.old) → (H.told host.old).kernel.calls ≡ 0 → merge from.now doc ≡ Ok to.now
-        → Tries (opts.now.no_verify ≡ false) start.faults start.kernel.refusals (H.told host.new) result }
+    ensures says { WhereMerges from.now to.now (H.told host.old) (λ doc start. SettledBy H.tells made start (H.told host.old)
+        → Said H.tells (asked doc opts.now made) start (H.told host.new) result) }
+    ensures counts { WhereMerges from.now to.now (H.told host.old) (λ doc start. ApplyCounts start.kernel (H.told host.new).kernel result) }
+    ensures tries { WhereMerges from.now to.now (H.told host.old) (λ doc start.
+        Tries (opts.now.no_verify ≡ false) start.faults start.kernel.refusals (H.told host.new) result) }
     ensures twice { H.honest → WhereRuns calls.now from.now to.now (H.told host.old) (FailsTwice ⊥ (H.told host.old).faults (H.told host.new) result) }
     ensures dumps { (H.tells → (H.told host.old).fresh ≡ Some from.now) → Dumps H.tells opts.now.no_verify (H.told host.new) result }
     ensures backs { H.honest → Backs (H.told host.old).state.net (H.told host.new) result }
@@ -222,19 +218,19 @@ fn change<H: Host>(
     requires none { H.tells → Holds None (H.told host.old) }
     requires left { left ≢ Left.Pending }
     ensures kept { WhereSound H.honest (H.told host.old) (Ends (standing (H.told host.old).state) (H.told host.old)
-        → Kept (IsStation (asked_of doc.now opts.now now) (standing (H.told host.old).state)) (H.told host.old) (H.told host.new)) }
+        → Kept (IsStation (asked doc.now opts.now now) (standing (H.told host.old).state)) (H.told host.old) (H.told host.new)) }
     ensures exit { WhereSound H.honest (H.told host.old) (Ends (standing (H.told host.old).state) (H.told host.old)
-        → Exit (asked_of doc.now opts.now now) (standing (H.told host.old).state) (H.told host.old).faults result (H.told host.new)) }
+        → Exit (asked doc.now opts.now now) (standing (H.told host.old).state) (H.told host.old).faults result (H.told host.new)) }
     // On an honest host, sound or not.
     ensures exact { H.honest → ApplyExact (Rose (H.told host.old).faults (H.told host.new).faults)
         (change (asked doc.now opts.now now) (standing (H.told host.old).state) (H.told host.old).state.net)
         (H.told host.new) result }
     ensures unbegun { IsErrOf result (ApplyFault.HostFault Left.NotBegun) → (left ≡ Left.NotBegun)
         × Steps Stays (H.told host.old).stops (H.told host.new).stops }
-    ensures calm { H.honest → (t : ℕ) → t ≤ (H.told host.old).stops.moment → (from to : NetData)
+    ensures calm { H.honest → UpToNow (H.told host.old) (λ t. (from to : NetData)
         → (H.told host.old).state.net ≡ Some from → merge from doc.now ≡ Ok to → CalmSince from to t (H.told host.old)
-        → OnOk result (CalmSince from to t (H.told host.new)) }
-    ensures value { IfOk result (λ applied. applied.deadline ≡ (if opts.now.no_commit then Some (asked_of doc.now opts.now now).deadline else None)) }
+        → OnOk result (CalmSince from to t (H.told host.new))) }
+    ensures value { IfOk result (λ applied. applied.deadline ≡ (if opts.now.no_commit then Some (deadline_of (asked doc.now opts.now now)) else None)) }
     // On every host.
     ensures says { (start : Start) → Follows start (H.told host.old) → SettledBy H.tells now start (H.told host.old)
         → (left ≡ Left.NotBegun → H.tells → (H.told host.old).state ≡ start.state)
@@ -291,22 +287,22 @@ pub fn settle_and_change<H: Host>(
     now: u64,
 ) -> Result<Applied, ApplyFault>
     requires { is_document doc.now ≡ true }
-    ensures kept { WhereSound H.honest (H.told host.old) (Kept (IsApplied (asked_of doc.now opts.now now) (H.told host.old).state) (H.told host.old)
+    ensures kept { WhereSound H.honest (H.told host.old) (Kept (IsApplied (asked doc.now opts.now now) (H.told host.old).state) (H.told host.old)
         (H.told host.new)) }
-    ensures exit { WhereSound H.honest (H.told host.old) (ExitApply (asked_of doc.now opts.now now) (H.told host.old) result (H.told host.new)) }
+    ensures exit { WhereSound H.honest (H.told host.old) (ExitApply (asked doc.now opts.now now) (H.told host.old) result (H.told host.new)) }
     // On an honest host, sound or not.
     ensures exact { H.honest → ApplyExact (Rose (H.told host.old).faults (H.told host.new).faults)
         (apply (asked doc.now opts.now now) (standing (H.told host.old).state)) (H.told host.new) result }
     ensures unbegun { IsErrOf result (ApplyFault.HostFault Left.NotBegun) → Steps Stays (H.told host.old).stops (H.told host.new).stops }
-    ensures calm { H.honest → (t : ℕ) → t ≤ (H.told host.old).stops.moment → (from to : NetData)
+    ensures calm { H.honest → UpToNow (H.told host.old) (λ t. (from to : NetData)
         → standing (H.told host.old).state ≡ restored_to from → merge from doc.now ≡ Ok to → CalmSince from to t (H.told host.old)
-        → OnOk result (CalmSince from to t (H.told host.new)) }
-    ensures value { IfOk result (λ applied. applied.deadline ≡ (if opts.now.no_commit then Some (asked_of doc.now opts.now now).deadline else None)) }
+        → OnOk result (CalmSince from to t (H.told host.new))) }
+    ensures value { IfOk result (λ applied. applied.deadline ≡ (if opts.now.no_commit then Some (deadline_of (asked doc.now opts.now now)) else None)) }
     // On every host.
     ensures says { ApplySays H.tells (asked doc.now opts.now now) (H.told host.old) (H.told host.new) result }
     ensures counts { ApplyCounts (H.told host.old).kernel (H.told host.new).kernel result }
-    ensures damaged { H.tells → (t area : ℕ) → t ≤ (H.told host.old).stops.moment → IsErrOf result (ApplyFault.Damaged area)
-        → DamagedSince t area (H.told host.new) }
+    ensures damaged { H.tells → UpToNow (H.told host.old) (λ t. (area : ℕ) → IsErrOf result (ApplyFault.Damaged area)
+        → DamagedSince t area (H.told host.new)) }
     // That a change may stand half way is told only where a restoring was tried.
     ensures tries { Tries (MayStandHalf H.tells (asked doc.now opts.now now) (H.told host.old))
         (H.told host.old).faults (H.told host.old).kernel.refusals (H.told host.new) result }

@@ -1,13 +1,12 @@
 //! A change from one network to another, behind a checkpoint.
-ghost use Rattle.std.specs.Prelude.{◌≡◌, ◌≢◌, ◌⊎◌, ◌≤◌, ℕ, Bool, true, false, None, Some, Ok, OnOk, OnErr, IfOk, IfErr, IsErrOf};
+ghost use Rattle.std.specs.Prelude.{◌≡◌, ◌≢◌, ◌⊎◌, ◌≤◌, ℕ, true, false, None, Some, Ok, OnOk, OnErr, IfErr, IsErrOf};
 ghost use Rattle.net_model.specs.NetData.{NetData};
 ghost use Rattle.document_model.specs.declared.Doc.{Doc};
-ghost use Rattle.kernel_model.specs.Runs.{Runs};
 ghost use Rattle.host_core.specs.Faults.{Rose, HasCause};
 ghost use Rattle.host_core.specs.Stops.{Steps, Stays};
-ghost use Rattle.host_core.specs.HostView.{State, SameKernel, SameNet, NoneRefused};
+ghost use Rattle.host_core.specs.HostView.{SameKernel, SameNet, NoneRefused};
 ghost use Rattle.plan_model.specs.Plans.{IsPlan};
-ghost use Rattle.checkpoint_cell.specs.Cell.{Checkpoint, applying, cell_of, saved_net};
+ghost use Rattle.checkpoint_cell.specs.Cell.{applying, cell_of, saved_net};
 ghost use Rattle.checkpoint_cell.specs.Steps.{Holds};
 ghost use Rattle.checkpoint_cell.specs.Settled.{restored_to};
 ghost use Rattle.merge_model.specs.MergedNet.{merge};
@@ -15,8 +14,8 @@ ghost use Rattle.engine_model.specs.Undone.{stand};
 ghost use Rattle.engine_model.specs.Sound.{WhereSound};
 ghost use Rattle.engine_model.specs.Stations.{Only, Kept, Ends, AllNear};
 ghost use Rattle.engine_core.specs.Attempts.{sealed, IsOnWay, IsFault, WhereRuns};
-ghost use Rattle.engine_core.specs.Saying.{Start, Follows, IsSet, Why};
-ghost use Rattle.engine_core.specs.Calm.{CalmSince};
+ghost use Rattle.engine_core.specs.Saying.{Start, Follows, WhereMerges, IsSet, Why};
+ghost use Rattle.engine_core.specs.Calm.{CalmSince, UpToNow};
 
 use crate::missed::Missed;
 use checkpoint_cell::{PutFault, mark_waiting, put};
@@ -44,10 +43,9 @@ fn begin<H: Host>(
     ensures reached { H.honest → (to : NetData) → WhereRuns calls.now from.now to (H.told host.old) (OnOk result (((H.told host.new).state.net ≡ Some to)
         × Ends (stand to (Some (applying made deadline from.now))) (H.told host.new))) }
     ensures missed { H.honest → (to : NetData) → WhereRuns calls.now from.now to (H.told host.old) (IfErr result (λ missed. IsFault missed)) }
-    ensures calm { H.honest → (to : NetData) (t : ℕ) → t ≤ (H.told host.old).stops.moment
-        → (H.told host.old).state.net ≡ Some from.now → IsPlan from.now to calls.now
-        → CalmSince from.now to t (H.told host.old)
-        → OnOk result (CalmSince from.now to t (H.told host.new)) }
+    ensures calm { H.honest → (to : NetData) → UpToNow (H.told host.old) (λ t. (H.told host.old).state.net ≡ Some from.now
+        → IsPlan from.now to calls.now → CalmSince from.now to t (H.told host.old)
+        → OnOk result (CalmSince from.now to t (H.told host.new))) }
     ensures fault { IsErrOf result Missed.Failed → Rose (H.told host.old).faults (H.told host.new).faults }
     // No dump is made. Where no checkpoint stands behind it, no call was made.
     ensures fresh { H.tells → OnOk result (((H.told host.new).fresh ≡ (H.told host.old).fresh) ⊎ ((H.told host.new).fresh ≡ None)) }
@@ -205,14 +203,12 @@ pub fn attempt<H: Host>(
     ensures missed { H.honest → WhereRuns calls.now from.now to.now (H.told host.old) (IfErr result (λ missed. IsFault missed)) }
     ensures memory { WhereSound H.honest (H.told host.old) (Ends (restored_to from.now) (H.told host.old)
         → WhereRuns calls.now from.now to.now (H.told host.old) (IsErrOf result Missed.OutOfMemory → AllNear (Only (restored_to from.now)) (H.told host.new))) }
-    ensures calm { H.honest → (t : ℕ) → t ≤ (H.told host.old).stops.moment
-        → (H.told host.old).state.net ≡ Some from.now → IsPlan from.now to.now calls.now
+    ensures calm { H.honest → UpToNow (H.told host.old) (λ t. (H.told host.old).state.net ≡ Some from.now → IsPlan from.now to.now calls.now
         → CalmSince from.now to.now t (H.told host.old)
-        → OnOk result (CalmSince from.now to.now t (H.told host.new)) }
+        → OnOk result (CalmSince from.now to.now t (H.told host.new))) }
     ensures fault { IsErrOf result Missed.Failed → Rose (H.told host.old).faults (H.told host.new).faults }
     // On every host.
-    ensures says { (doc : Doc) (start : Start) → Follows start (H.told host.old) → (H.told host.old).kernel.calls ≡ 0
-        → merge from.now doc ≡ Ok to.now → IfErr result (λ missed. Why H.tells doc start (H.told host.new) missed) }
+    ensures says { WhereMerges from.now to.now (H.told host.old) (λ doc start. IfErr result (λ missed. Why H.tells doc start (H.told host.new) missed)) }
     ensures quiet { OnOk result (NoneRefused (H.told host.old).kernel (H.told host.new).kernel) }
     ensures compared { (found : NetData) → IsErrOf result (Missed.Differs found) → opts.now.no_verify ≡ false }
     // A change that is verified was dumped after its last call; in one that isn't no dump is made.

@@ -1,7 +1,8 @@
-ghost use Rattle.std.specs.Prelude.{◌≡◌, ◌⊎◌, ◌≤◌, ℕ, true, None, Some, OnOk, OnErr, IfErr, IsErrOf};
+//! The end of a change that waits: it is committed, and its checkpoint cleared.
+ghost use Rattle.std.specs.Prelude.{◌≡◌, ◌⊎◌, ◌≤◌, ℕ, true, None, Some, OnOk, IfErr, IsErrOf};
 ghost use Rattle.host_core.specs.Faults.{Rose};
 ghost use Rattle.host_core.specs.Stops.{Steps, Stays};
-ghost use Rattle.host_core.specs.HostView.{State, SameKernel};
+ghost use Rattle.host_core.specs.HostView.{SameKernel};
 ghost use Rattle.checkpoint_cell.specs.Cell.{Checkpoint, cell_of, is_due};
 ghost use Rattle.checkpoint_cell.specs.Steps.{Holds};
 ghost use Rattle.engine_model.specs.Sound.{WhereSound};

@@ -1,5 +1,5 @@
 //! The calls that begin a change, and end one that waits.
-ghost use Rattle.std.specs.Prelude.{◌≡◌, ◌≢◌, ◌⊎◌, ◌≤◌, ℕ, true, false, Some, Ok, Err, IsErrOf};
+ghost use Rattle.std.specs.Prelude.{◌≡◌, ◌≢◌, ◌≤◌, ℕ, true, Some, Ok, Err, IsErrOf};
 ghost use Rattle.net_model.specs.NetData.{NetData};
 ghost use Rattle.document_model.specs.Entries.{is_document};
 ghost use Rattle.host_core.specs.Faults.{Rose, RoseTwice};
@@ -14,7 +14,7 @@ ghost use Rattle.engine_model.specs.Stations.{Only, Settled, Either, Kept, at, e
 ghost use Rattle.engine_model.specs.Exit.{ApplyExit, CommitExit};
 ghost use Rattle.engine_model.specs.Refusals.{ApplyCounts};
 ghost use Rattle.engine_model.specs.Faults.{ApplyAnswers, ApplyExact, CommitAnswers, ApplySays, MayStandHalf, Tries, FailsTwice, Dumps, Backs, HasTaken};
-ghost use Rattle.engine_core.specs.Calm.{CalmSince};
+ghost use Rattle.engine_core.specs.Calm.{CalmSince, UpToNow};
 ghost use Rattle.engine_core.specs.Saying.{DamagedSince};
 
 use crate::applying::settle_and_change;
@@ -60,10 +60,10 @@ pub fn apply<H: Host>(
     // For a command that began earlier: the same of each pair that was left since that moment, where it holds of those before
     // this call; and what is damaged was left since that moment, too.
     ensures calm { WhereSound H.honest (H.told host.old) ((from to : NetData) → standing (H.told host.old).state ≡ restored_to from → merge from doc.now ≡ Ok to
-        → (Rose (H.told host.old).faults (H.told host.new).faults → ⊥) → result ≢ Err ApplyFault.OutOfMemory → (since : ℕ)
-        → since ≤ (H.told host.old).stops.moment → CalmSince from to since (H.told host.old) → CalmSince from to since (H.told host.new)) }
-    ensures damaged { H.tells → (since area : ℕ) → since ≤ (H.told host.old).stops.moment → IsErrOf result (ApplyFault.Damaged area)
-        → DamagedSince since area (H.told host.new) }
+        → (Rose (H.told host.old).faults (H.told host.new).faults → ⊥) → result ≢ Err ApplyFault.OutOfMemory
+        → UpToNow (H.told host.old) (λ since. CalmSince from to since (H.told host.old) → CalmSince from to since (H.told host.new))) }
+    ensures damaged { H.tells → UpToNow (H.told host.old) (λ since. (area : ℕ) → IsErrOf result (ApplyFault.Damaged area)
+        → DamagedSince since area (H.told host.new)) }
     // That a change may stand half way is told only where a restoring was tried.
     ensures tries { Tries (MayStandHalf H.tells (asked doc.now opts.now now) (H.told host.old))
         (H.told host.old).faults (H.told host.old).kernel.refusals (H.told host.new) result }

@@ -1,9 +1,6 @@
 //! A test of what is stored: whether the commands can work with it.
-ghost use Rattle.std.specs.Prelude.{◌≡◌, ◌≢◌, ◌≤◌, ℕ, [], List, None, Some, length, IfOk, OnOk, IsErrOf};
-ghost use Rattle.net_model.specs.NetData.{NetData};
-ghost use Rattle.host_core.specs.Faults.{Rose};
+ghost use Rattle.std.specs.Prelude.{◌≡◌, ◌≢◌, ◌≤◌, [], None, Some, length, IfOk, OnOk};
 ghost use Rattle.host_core.specs.Stops.{Steps, Stays};
-ghost use Rattle.checkpoint_cell.specs.Cell.{cell_of};
 ghost use Rattle.checkpoint_cell.specs.Settled.{standing};
 ghost use Rattle.engine_model.specs.Refusals.{NoCallMade};
 ghost use Rattle.engine_model.specs.Sound.{Sound, WhereSound};

@@ -5,7 +5,7 @@ ghost use Rattle.std.specs.Option.{option_to_list};
 ghost use Rattle.net_model.specs.Hardware.{device_of, hardware, same_device};
 ghost use Rattle.net_model.specs.Order.{name_cmp};
 ghost use Rattle.net_model.specs.Words.{is_among, sorted};
-ghost use Rattle.engine_model.specs.Differing.{lacking, either, differing};
+ghost use Rattle.engine_model.specs.Differing.{lacking, differing};
 
 use base_model::{Items, OutOfMemory};
 use net_model::{Kind, Link, Mac, Name, Net};

@@ -1,15 +1,15 @@
-ghost use Rattle.std.specs.Prelude.{◌≡◌, ◌≢◌, ◌⊎◌, ◌≤◌, ℕ, not, true, false, [], length, List, None, Some, OnOk, OnErr, IfOk, IfErr, IsErrOf, IsSome};
+//! A restoring, from its barrier to the clearing.
+ghost use Rattle.std.specs.Prelude.{◌≡◌, ◌≢◌, ◌≤◌, ℕ, not, true, false, [], length, None, Some, OnOk, IfOk, IfErr, IsErrOf, IsSome};
 ghost use Rattle.net_model.specs.NetData.{NetData, IsNet};
 ghost use Rattle.kernel_model.specs.Runs.{Runs};
-ghost use Rattle.host_core.specs.Faults.{Rose, HasCause, HasFault};
+ghost use Rattle.host_core.specs.Faults.{HasCause};
 ghost use Rattle.host_core.specs.Stops.{Steps, Stays};
-ghost use Rattle.host_core.specs.HostView.{State, HasNet, SameKernel, NoneRefused};
-ghost use Rattle.checkpoint_cell.specs.Cell.{Checkpoint, cell_of, saved_net, is_due, applying, in_phase};
+ghost use Rattle.host_core.specs.HostView.{State, SameKernel, NoneRefused};
+ghost use Rattle.checkpoint_cell.specs.Cell.{Checkpoint, cell_of, saved_net, applying, in_phase};
 ghost use Rattle.checkpoint_cell.specs.Steps.{Holds};
-ghost use Rattle.checkpoint_cell.specs.Loaded.{IsBad};
-ghost use Rattle.checkpoint_cell.specs.Settled.{Standing, standing, settled, taken_back, Alike};
+ghost use Rattle.checkpoint_cell.specs.Settled.{Standing, standing, settled, taken_back};
 ghost use Rattle.engine_model.specs.Machine.{saved_on};
-ghost use Rattle.engine_model.specs.Undone.{undone, stand};
+ghost use Rattle.engine_model.specs.Undone.{stand};
 ghost use Rattle.engine_model.specs.Sound.{WhereSound};
 ghost use Rattle.engine_model.specs.Stations.{Only, Kept, Ends, IsSettled, Waits, FromRead, Any};
 ghost use Rattle.checkpoint_cell.specs.Settled.{restored_to};

@@ -1,9 +1,10 @@
-ghost use Rattle.std.specs.Prelude.{◌≡◌, ◌⊎◌, ◌≤◌, ◌+◌, ℕ, [], length, None, Some, OnOk, OnErr, IsErrOf};
+//! Kernel calls in turn.
+ghost use Rattle.std.specs.Prelude.{◌≡◌, ◌⊎◌, ◌+◌, ℕ, [], length, None, Some, OnOk, IsErrOf};
 ghost use Rattle.net_model.specs.NetData.{NetData};
 ghost use Rattle.kernel_model.specs.Runs.{Runs};
 ghost use Rattle.host_core.specs.Faults.{HasFault};
 ghost use Rattle.host_core.specs.Stops.{Steps};
-ghost use Rattle.host_core.specs.HostView.{State, SameCell, WasRefused, NoneRefused};
+ghost use Rattle.host_core.specs.HostView.{SameCell, WasRefused, NoneRefused};
 ghost use Rattle.engine_model.specs.Refusals.{RefusedOnce};
 ghost use Rattle.engine_model.specs.Stations.{RunStep, FrontStep};
 

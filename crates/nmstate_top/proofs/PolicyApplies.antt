@@ -33,7 +33,7 @@ use Rattle.engine_model.specs.declared.ApplyFault.TheVariants.{Pending, MergeRef
 use Rattle.engine_model.specs.declared.ApplyOpts.{ApplyOpts}
 use Rattle.engine_model.proofs.lemmas.Leading.{alike_is, near_wider, both, kept_on, kept_stays}
 use Rattle.engine_model.proofs.lemmas.Refusals.{quiet_on, quiet_dumped, unmade_on}
-use Rattle.engine_core.specs.Calm.{CalmSince}
+use Rattle.engine_core.specs.Calm.{CalmSince, UpToNow}
 use Rattle.engine_core.specs.Saying.{DamagedSince}
 use Rattle.top_model.specs.Said.{Said, Says, said_applied}
 use Rattle.top_model.specs.Orders.{Text, Inputs, Order, document_on, applying_policy, committing, rolling_back, recovering, order_of}
@@ -452,7 +452,7 @@ module _ (r : Run) (p : PolicyData) (opts : ApplyOpts) (doc : Doc) (done : Recov
       (kept : r.honest → Sound mid → Kept (Either (Settled r.now (entry_of mid)) (Only (apply Ask (standing mid.state)).after)) mid r.host_after)
       (calm : r.honest → Sound mid → (from to : NetData) → standing mid.state ≡ restored_to from → merge from doc ≡ Ok to → (Rose mid.faults r.host_after.faults → ⊥) → result ≢ Err OutOfMemory
       → (since : ℕ) → since ≤ mid.stops.moment → CalmSince from to since mid → CalmSince from to since r.host_after)
-      (damaged : r.host_tells → (since area : ℕ) → since ≤ mid.stops.moment → IsErrOf result (Damaged area) → DamagedSince since area r.host_after) where
+      (damaged : r.host_tells → UpToNow mid (λ since. (area : ℕ) → IsErrOf result (Damaged area) → DamagedSince since area r.host_after)) where
     abbrev back : Left
     back = side_of done
 
@@ -464,7 +464,7 @@ module _ (r : Run) (p : PolicyData) (opts : ApplyOpts) (doc : Doc) (done : Recov
 
     had_damaged : (area : ℕ) → result ≡ Err (Damaged area) → r.host_tells → HadDamaged area r.host r.host_after
     had_damaged area is t =
-        let d = damaged t r.host.stops.moment area moment (subst (λ (x : Result Applied ApplyFault). IsErrOf x (Damaged area)) (sym is) refl) in
+        let d = damaged t r.host.stops.moment moment area (subst (λ (x : Result Applied ApplyFault). IsErrOf x (Damaged area)) (sym is) refl) in
         record { pair = d.pair; left = d.left; damaged = d.damaged }
 
     says_all : ApplySays r.host_tells Ask r.host r.host_after told_result

@@ -1,4 +1,5 @@
-use Rattle.std.proofs.Common.{◌≡◌, false, arith, inl, inr, Some, Err, ap, subst, sym, refl}
+use Rattle.std.proofs.Common.{◌≡◌, ℕ, false, arith, inl, inr, Some, Err, ap, subst, sym, refl}
+use Rattle.std.specs.Prelude.{OnOk}
 use Rattle.kernel_model.specs.Runs.{Runs}
 use Rattle.host_core.specs.HostView.{State}
 use Rattle.checkpoint_cell.specs.Settled.{Standing}
@@ -7,7 +8,8 @@ use Rattle.engine_model.specs.Stations.{Only, Kept, Ends, Near, AllNear}
 use Rattle.checkpoint_cell.specs.Settled.{restored_to}
 use Rattle.engine_model.specs.Answers.{IsUndone}
 use Rattle.engine_core.specs.Attempts.{IsOnWay, IsEither, done}
-use Rattle.engine_core.specs.Applying.{Change, Asked}
+use Rattle.engine_core.specs.Applying.{Change}
+use Rattle.engine_model.specs.Machine.{Asked, asked, deadline_of}
 use Rattle.engine_model.proofs.lemmas.Leading.{kept_on, kept_wider, near_kept, near_ends}
 use Rattle.std.proofs.lemmas.Result.{on_ok_weaker}
 use Rattle.engine_core.proofs.Calms.{calm_on}
@@ -50,7 +52,7 @@ returns-in-Err-clause-kept g c = λ honest sound ends is runs.
     (c.give_up.ensures.kept honest first.sound c.args.from.now (back g at honest sound ends is runs)))
 
 pub returns-in-Err-clause-exit : goal.returns-in-Err-clause-exit
-returns-in-Err-clause-exit g c = λ honest sound ends is runs doc merges.
+returns-in-Err-clause-exit g c = λ honest sound ends is runs doc merges until.
     let at = (goal.at.returns-in-Err-clause-exit g c).After-attempt in
     let old = g.H.Host.told c.args.host.now in
     let mid = g.H.Host.told c.attempt.new.host in
@@ -59,9 +61,9 @@ returns-in-Err-clause-exit g c = λ honest sound ends is runs doc merges.
     let kept = c.give_up.ensures.kept honest first.sound c.args.from.now (back g at honest sound ends is runs) in
     let onway = near_kept (IsOnWay c.args.opts.now.no_commit c.args.made c.args.deadline c.args.from.now c.args.to.now) mid new (way g at honest sound ends is runs)
     (kept_wider (Only (restored_to c.args.from.now)) (IsOnWay c.args.opts.now.no_commit c.args.made c.args.deadline c.args.from.now c.args.to.now) (λ a same. inl same) mid new kept) in
-    let asked : Asked = record { doc = doc; no_commit = c.args.opts.now.no_commit; made = c.args.made; deadline = c.args.deadline } in
-    let change : Change asked (restored_to c.args.from.now) = record { from = c.args.from.now; to = c.args.to.now; stood = refl; merges = merges } in
-    gave_up_exit asked (restored_to c.args.from.now) change old.faults mid.faults new onway c.in-Err.missed c.give_up.result
+    let want : Asked = asked doc c.args.opts.now c.args.made in
+    let change : Change want (restored_to c.args.from.now) = record { from = c.args.from.now; to = c.args.to.now; stood = refl; merges = merges } in
+    gave_up_exit want (restored_to c.args.from.now) change old.faults mid.faults new (subst (λ (d : ℕ). AllNear (IsOnWay c.args.opts.now.no_commit c.args.made d c.args.from.now c.args.to.now) new) until onway) c.in-Err.missed c.give_up.result
     (c.in-Err.ensures.missed honest is runs) (λ failed. c.in-Err.ensures.fault (ap (λ e. Err e) failed)) c.give_up.ensures.later c.give_up.ensures.memory
     (λ memory. near_kept (Only (restored_to c.args.from.now)) mid new (c.in-Err.ensures.memory honest sound ends is runs (ap (λ e. Err e) memory)) kept)
     (c.give_up.ensures.exit honest first.sound c.args.from.now (back g at honest sound ends is runs) (c.in-Err.ensures.missed honest is runs))
@@ -87,20 +89,20 @@ pub returns-in-Ok-clause-kept : goal.returns-in-Ok-clause-kept
 returns-in-Ok-clause-kept g c = λ honest sound ends is runs. whole g (goal.at.returns-in-Ok-clause-kept g c).After-finish honest sound ends is runs
 
 pub returns-in-Ok-clause-exit : goal.returns-in-Ok-clause-exit
-returns-in-Ok-clause-exit g c = λ honest sound ends is runs doc merges.
+returns-in-Ok-clause-exit g c = λ honest sound ends is runs doc merges until.
     let tells = g.met.H.Host.honest_tells honest in
     let at = (goal.at.returns-in-Ok-clause-exit g c).After-finish in
     let mid = g.H.Host.told c.attempt.new.host in
     let new = g.H.Host.told c.finish.new.host in
-    let asked : Asked = record { doc = doc; no_commit = c.args.opts.now.no_commit; made = c.args.made; deadline = c.args.deadline } in
-    let change : Change asked (restored_to c.args.from.now) = record { from = c.args.from.now; to = c.args.to.now; stood = refl; merges = merges } in
+    let want : Asked = asked doc c.args.opts.now c.args.made in
+    let change : Change want (restored_to c.args.from.now) = record { from = c.args.from.now; to = c.args.to.now; stood = refl; merges = merges } in
     let there = c.in-Ok.ensures.ends honest is runs in
     let near : AllNear (IsEither c.args.opts.now.no_commit c.args.made c.args.deadline c.args.from.now c.args.to.now) mid = λ s left. subst (λ (x : Standing). Near (IsEither c.args.opts.now.no_commit c.args.made c.args.deadline c.args.from.now c.args.to.now) x) (sym (there s left)) (sealed_near c.args.opts.now.no_commit c.args.made c.args.deadline c.args.from.now c.args.to.now) in
-    finished_exit asked (restored_to c.args.from.now) change (g.H.Host.told c.args.host.now).faults c.finish.result new
-    (c.finish.ensures.ends tells c.args.made c.args.deadline c.args.from.now c.args.to.now (c.in-Ok.ensures.set tells) there) c.finish.ensures.doubt
+    finished_exit want (restored_to c.args.from.now) change (g.H.Host.told c.args.host.now).faults c.finish.result new
+    (subst (λ (d : ℕ). OnOk c.finish.result (Ends (done c.args.opts.now.no_commit c.args.made d c.args.from.now c.args.to.now) new)) until (c.finish.ensures.ends tells c.args.made c.args.deadline c.args.from.now c.args.to.now (c.in-Ok.ensures.set tells) there)) c.finish.ensures.doubt
     (c.finish.ensures.nets tells c.args.made c.args.deadline c.args.from.now c.args.to.now there)
-    (near_kept (IsEither c.args.opts.now.no_commit c.args.made c.args.deadline c.args.from.now c.args.to.now) mid new near
-    (kept_wider (Only (done c.args.opts.now.no_commit c.args.made c.args.deadline c.args.from.now c.args.to.now)) (IsEither c.args.opts.now.no_commit c.args.made c.args.deadline c.args.from.now c.args.to.now) (λ a same. inr same) mid new (finished g at honest sound ends is runs)))
+    (subst (λ (d : ℕ). AllNear (IsEither c.args.opts.now.no_commit c.args.made d c.args.from.now c.args.to.now) new) until (near_kept (IsEither c.args.opts.now.no_commit c.args.made c.args.deadline c.args.from.now c.args.to.now) mid new near
+    (kept_wider (Only (done c.args.opts.now.no_commit c.args.made c.args.deadline c.args.from.now c.args.to.now)) (IsEither c.args.opts.now.no_commit c.args.made c.args.deadline c.args.from.now c.args.to.now) (λ a same. inr same) mid new (finished g at honest sound ends is runs))))
 
 pub returns-in-Ok-clause-says : goal.returns-in-Ok-clause-says
 returns-in-Ok-clause-says g c = λ doc start follows calls merges settled.

@@ -10,7 +10,7 @@ use Rattle.engine_model.specs.Sound.{Sound}
 use Rattle.engine_model.specs.Stations.{Kept, Ends}
 use Rattle.checkpoint_cell.specs.Settled.{restored_to}
 use Rattle.engine_core.specs.Attempts.{IsEither}
-use Rattle.engine_core.specs.Applying.{IsStation, Exit, Change, Asked, asked_of}
+use Rattle.engine_core.specs.Applying.{IsStation, Exit, Change}
 use Rattle.engine_model.proofs.lemmas.Leading.{kept_on, kept_wider, kept_stays, ends_stays, sound_stays}
 use Rattle.std.proofs.lemmas.Result.{on_ok_weaker}
 use Rattle.plan_model.specs.Plans.{IsPlan}
@@ -28,7 +28,7 @@ use Rattle.engine_core.proofs.Counts.{left_counts}
 use Rattle.host_core.specs.HostView.{Kernel, NoneRefused}
 use Rattle.checkpoint_cell.specs.Cell.{cell_of}
 use Rattle.host_core.specs.Stops.{Stays}
-use Rattle.engine_model.specs.Machine.{asked}
+use Rattle.engine_model.specs.Machine.{Asked, asked, deadline_of}
 use Rattle.engine_model.specs.Faults.{IsDamaged}
 use Rattle.std.proofs.Common.{Option, false}
 use Rattle.engine_model.specs.Faults.{Backs}
@@ -43,7 +43,7 @@ record Begun (g : _) (c : After-carry_out g) : Type 0 where
   net : (g.H.Host.told c.dump.new.self).state.net ≡ Some c.in-Ok.found
   runs : Runs c.deref.result.now c.in-Ok.found c.in-Ok-merge.to
   merges : merge c.in-Ok.found c.args.doc.now ≡ Ok c.in-Ok-merge.to
-  deadline : c.saturating_add-deadline.result ≡ (asked_of c.args.doc.now c.args.opts.now c.args.now).deadline
+  deadline : c.saturating_add-deadline.result ≡ deadline_of (asked c.args.doc.now c.args.opts.now c.args.now)
 
 begun : (g : _) (c : After-carry_out g) → g.H.Host.honest → Sound (g.H.Host.told c.args.host.now) → Ends (standing (g.H.Host.told c.args.host.now).state) (g.H.Host.told c.args.host.now) → Begun g c
 begun g c honest sound ends =
@@ -62,26 +62,24 @@ begun g c honest sound ends =
     }
 
 out : (g : _) (c : After-carry_out g) → g.H.Host.honest → Sound (g.H.Host.told c.args.host.now) → Ends (standing (g.H.Host.told c.args.host.now).state) (g.H.Host.told c.args.host.now)
-    → Exit (asked_of c.args.doc.now c.args.opts.now c.args.now) (standing (g.H.Host.told c.args.host.now).state) (g.H.Host.told c.args.host.now).faults c.carry_out.result (g.H.Host.told c.carry_out.new.host)
+    → Exit (asked c.args.doc.now c.args.opts.now c.args.now) (standing (g.H.Host.told c.args.host.now).state) (g.H.Host.told c.args.host.now).faults c.carry_out.result (g.H.Host.told c.carry_out.new.host)
 out g c honest sound ends =
     let b = begun g c honest sound ends in
-    let asked = asked_of c.args.doc.now c.args.opts.now c.args.now in
-    change_exit asked (record { doc = c.args.doc.now; no_commit = c.args.opts.now.no_commit; made = c.args.now; deadline = c.saturating_add-deadline.result }) _ (restored_to c.in-Ok.found) _ (g.H.Host.told c.dump.new.self).faults _ _
-    (λ i. record { doc = c.args.doc.now; no_commit = c.args.opts.now.no_commit; made = c.args.now; deadline = b.deadline i }) b.stood c.dump.ensures.cause.later
-    (c.carry_out.ensures.exit honest b.sound b.ends b.net b.runs c.args.doc.now b.merges)
+    change_exit (asked c.args.doc.now c.args.opts.now c.args.now) _ (restored_to c.in-Ok.found) _ (g.H.Host.told c.dump.new.self).faults _ _
+    b.stood c.dump.ensures.cause.later (c.carry_out.ensures.exit honest b.sound b.ends b.net b.runs c.args.doc.now b.merges b.deadline)
 
 kept : (g : _) (c : After-carry_out g) → g.H.Host.honest → Sound (g.H.Host.told c.args.host.now) → Ends (standing (g.H.Host.told c.args.host.now).state) (g.H.Host.told c.args.host.now)
-    → Kept (IsStation (asked_of c.args.doc.now c.args.opts.now c.args.now) (standing (g.H.Host.told c.args.host.now).state)) (g.H.Host.told c.args.host.now) (g.H.Host.told c.carry_out.new.host)
+    → Kept (IsStation (asked c.args.doc.now c.args.opts.now c.args.now) (standing (g.H.Host.told c.args.host.now).state)) (g.H.Host.told c.args.host.now) (g.H.Host.told c.carry_out.new.host)
 kept g c honest sound ends =
     let b = begun g c honest sound ends in
-    let asked : Asked = asked_of c.args.doc.now c.args.opts.now c.args.now in
+    let want : Asked = asked c.args.doc.now c.args.opts.now c.args.now in
     let old = g.H.Host.told c.args.host.now in
     let mid = g.H.Host.told c.dump.new.self in
     let new = g.H.Host.told c.carry_out.new.host in
-    let change : Change asked (standing old.state) = record { from = c.in-Ok.found; to = c.in-Ok-merge.to; stood = b.stood; merges = b.merges } in
-    kept_on (IsStation asked (standing old.state)) old mid new (kept_stays (IsStation asked (standing old.state)) old mid sound c.dump.ensures.stops)
-    (kept_wider (IsEither c.args.opts.now.no_commit c.args.now c.saturating_add-deadline.result c.in-Ok.found c.in-Ok-merge.to) (IsStation asked (standing old.state))
-    (λ a is. either_station asked (standing old.state) change c.saturating_add-deadline.result b.deadline a is) mid new
+    let change : Change want (standing old.state) = record { from = c.in-Ok.found; to = c.in-Ok-merge.to; stood = b.stood; merges = b.merges } in
+    kept_on (IsStation want (standing old.state)) old mid new (kept_stays (IsStation want (standing old.state)) old mid sound c.dump.ensures.stops)
+    (kept_wider (IsEither c.args.opts.now.no_commit c.args.now c.saturating_add-deadline.result c.in-Ok.found c.in-Ok-merge.to) (IsStation want (standing old.state))
+    (λ a is. either_station want (standing old.state) change c.saturating_add-deadline.result b.deadline a is) mid new
     (c.carry_out.ensures.kept honest b.sound b.ends b.net b.runs))
 
 pub returns-clause-exit : goal.returns-clause-exit
@@ -90,8 +88,8 @@ returns-clause-exit g c = λ honest sound ends. out g (goal.at.returns-clause-ex
 pub returns-clause-kept : goal.returns-clause-kept
 returns-clause-kept g c = λ honest sound ends. kept g (goal.at.returns-clause-kept g c).After-carry_out honest sound ends
 
-stays : (g : _) (c : After-dump g) → Sound (g.H.Host.told c.args.host.now) → Kept (IsStation (asked_of c.args.doc.now c.args.opts.now c.args.now) (standing (g.H.Host.told c.args.host.now).state)) (g.H.Host.told c.args.host.now) (g.H.Host.told c.dump.new.self)
-stays g c sound = kept_stays (IsStation (asked_of c.args.doc.now c.args.opts.now c.args.now) (standing (g.H.Host.told c.args.host.now).state)) (g.H.Host.told c.args.host.now) (g.H.Host.told c.dump.new.self) sound c.dump.ensures.stops
+stays : (g : _) (c : After-dump g) → Sound (g.H.Host.told c.args.host.now) → Kept (IsStation (asked c.args.doc.now c.args.opts.now c.args.now) (standing (g.H.Host.told c.args.host.now).state)) (g.H.Host.told c.args.host.now) (g.H.Host.told c.dump.new.self)
+stays g c sound = kept_stays (IsStation (asked c.args.doc.now c.args.opts.now c.args.now) (standing (g.H.Host.told c.args.host.now).state)) (g.H.Host.told c.args.host.now) (g.H.Host.told c.dump.new.self) sound c.dump.ensures.stops
 
 pub returns-in-Err-Refused-clause-kept : goal.returns-in-Err-Refused-clause-kept
 returns-in-Err-Refused-clause-kept g c = λ honest sound ends. stays g (goal.at.returns-in-Err-Refused-clause-kept g c).After-dump sound
@@ -112,7 +110,7 @@ returns-in-Err-Refused-clause-exit g c = λ honest sound ends.
 
 pub returns-clause-value : goal.returns-clause-value
 returns-clause-value g c =
-    let same : c.saturating_add-deadline.result ≡ (asked_of c.args.doc.now c.args.opts.now c.args.now).deadline = omega (arith, c.saturating_add-deadline.ensures) in
+    let same : c.saturating_add-deadline.result ≡ deadline_of (asked c.args.doc.now c.args.opts.now c.args.now) = omega (arith, c.saturating_add-deadline.ensures) in
     subst (λ (d : ℕ). IfOk c.carry_out.result (λ applied. applied.deadline ≡ (if c.args.opts.now.no_commit then Some d else None))) same c.carry_out.ensures.value
 
 -- ---- on every host
@@ -258,7 +256,7 @@ returns-clause-exact g c = λ honest.
     let opts = c.args.opts.now in
     let net : mid.state.net ≡ Some found = ap (λ (s : State). s.net) (c.dump.ensures.state tells) ∙ c.in-Ok.ensures.net honest in
     let runs : Runs c.deref.result.now found aim = subst (λ (l : List Call). Runs l found aim) (sym c.deref.ensures.value) c.in-Ok-plan.ensures.run in
-    let deadline : c.saturating_add-deadline.result ≡ (asked_of c.args.doc.now opts c.args.now).deadline = omega (arith, c.saturating_add-deadline.ensures) in
+    let deadline : c.saturating_add-deadline.result ≡ deadline_of (asked c.args.doc.now opts c.args.now) = omega (arith, c.saturating_add-deadline.ensures) in
     made_exact (asked c.args.doc.now opts c.args.now) (standing old.state) found aim mid new old.faults c.carry_out.result (c.in-Ok.ensures.net honest) c.in-Ok-merge.ensures.merged ((g.met.H.Host.lawful c.carry_out.new.host).reads tells)
     c.dump.ensures.cause.later
     (subst (λ (d : ℕ). IfOk c.carry_out.result (λ applied. applied.deadline ≡ (if opts.no_commit then Some d else None))) deadline c.carry_out.ensures.value)

@@ -3,7 +3,7 @@ use Rattle.host_core.specs.HostView.{State}
 use Rattle.checkpoint_cell.specs.Settled.{Standing}
 use Rattle.engine_model.specs.declared.answers.ApplyFault.{ApplyFault}
 use Rattle.engine_model.specs.Stations.{IsSettled}
-use Rattle.engine_core.specs.Applying.{IsApplied, ExitApply, asked_of}
+use Rattle.engine_core.specs.Applying.{IsApplied, ExitApply}
 use Rattle.engine_model.proofs.lemmas.Leading.{kept_wider}
 use Rattle.engine_model.specs.Machine.{asked}
 use Rattle.engine_model.specs.Faults.{ApplySays}
@@ -40,7 +40,7 @@ use Rattle.engine_core.proofs.applying.settle_and_change.Goals as goal
 use Rattle.engine_core.proofs.applying.settle_and_change.Goals.{After-take_back, In-Ok-Nothing, In-Ok-Restored}
 
 pub returns-in-Ok-Waiting-clause-kept : goal.returns-in-Ok-Waiting-clause-kept
-returns-in-Ok-Waiting-clause-kept g c = λ honest sound. kept_wider (IsSettled c.args.now (g.H.Host.told c.args.host.now).state) (IsApplied (asked_of c.args.doc.now c.args.opts.now c.args.now) (g.H.Host.told c.args.host.now).state) (λ a is. inl is) (g.H.Host.told c.args.host.now) (g.H.Host.told c.take_back.new.host) (c.take_back.ensures.kept honest sound)
+returns-in-Ok-Waiting-clause-kept g c = λ honest sound. kept_wider (IsSettled c.args.now (g.H.Host.told c.args.host.now).state) (IsApplied (asked c.args.doc.now c.args.opts.now c.args.now) (g.H.Host.told c.args.host.now).state) (λ a is. inl is) (g.H.Host.told c.args.host.now) (g.H.Host.told c.take_back.new.host) (c.take_back.ensures.kept honest sound)
 
 pub returns-in-Ok-Waiting-clause-exit : goal.returns-in-Ok-Waiting-clause-exit
 returns-in-Ok-Waiting-clause-exit g c = λ honest sound.
@@ -50,18 +50,18 @@ returns-in-Ok-Waiting-clause-exit g c = λ honest sound.
 pub returns-in-Err-clause-exit : goal.returns-in-Err-clause-exit
 returns-in-Err-clause-exit g c = λ honest sound.
     let tells = g.met.H.Host.honest_tells honest in
-    subst (λ (a : ApplyFault). ExitApply (asked_of c.args.doc.now c.args.opts.now c.args.now) (g.H.Host.told c.args.host.now) (Err a) (g.H.Host.told c.take_back.new.host)) (sym c.unsettled.ensures)
-    (unsettled_exit (asked_of c.args.doc.now c.args.opts.now c.args.now) (g.H.Host.told c.args.host.now) (g.H.Host.told c.take_back.new.host) (c.take_back.ensures.kept honest sound).during g.H.Host.tells c.in-Err.fault (c.in-Err.ensures.healthy honest sound)
+    subst (λ (a : ApplyFault). ExitApply (asked c.args.doc.now c.args.opts.now c.args.now) (g.H.Host.told c.args.host.now) (Err a) (g.H.Host.told c.take_back.new.host)) (sym c.unsettled.ensures)
+    (unsettled_exit (asked c.args.doc.now c.args.opts.now c.args.now) (g.H.Host.told c.args.host.now) (g.H.Host.told c.take_back.new.host) (c.take_back.ensures.kept honest sound).during g.H.Host.tells c.in-Err.fault (c.in-Err.ensures.healthy honest sound)
     c.in-Err.ensures.fails (λ is. c.in-Err.ensures.pending tells (ap (λ e. Err e) is)) (λ is. c.in-Err.ensures.memory tells (ap (λ e. Err e) is)) (c.in-Err.ensures.going honest sound))
 
 pub returns-in-Err-clause-kept : goal.returns-in-Err-clause-kept
-returns-in-Err-clause-kept g c = λ honest sound. kept_wider (IsSettled c.args.now (g.H.Host.told c.args.host.now).state) (IsApplied (asked_of c.args.doc.now c.args.opts.now c.args.now) (g.H.Host.told c.args.host.now).state) (λ a is. inl is) (g.H.Host.told c.args.host.now) (g.H.Host.told c.take_back.new.host) (c.take_back.ensures.kept honest sound)
+returns-in-Err-clause-kept g c = λ honest sound. kept_wider (IsSettled c.args.now (g.H.Host.told c.args.host.now).state) (IsApplied (asked c.args.doc.now c.args.opts.now c.args.now) (g.H.Host.told c.args.host.now).state) (λ a is. inl is) (g.H.Host.told c.args.host.now) (g.H.Host.told c.take_back.new.host) (c.take_back.ensures.kept honest sound)
 
 pub returns-in-Ok-Nothing-clause-exit : goal.returns-in-Ok-Nothing-clause-exit
 returns-in-Ok-Nothing-clause-exit g c = λ honest sound.
     let here = (g.met.H.Host.lawful c.take_back.new.host).reads (g.met.H.Host.honest_tells honest) in
     let ends = c.in-Ok-Nothing.ensures.ends honest sound in
-    after_exit (asked_of c.args.doc.now c.args.opts.now c.args.now) (g.H.Host.told c.args.host.now) (g.H.Host.told c.take_back.new.host) (g.H.Host.told c.change.new.host) here ends c.change.result c.take_back.ensures.later
+    after_exit (asked c.args.doc.now c.args.opts.now c.args.now) (g.H.Host.told c.args.host.now) (g.H.Host.told c.take_back.new.host) (g.H.Host.told c.change.new.host) here ends c.change.result c.take_back.ensures.later
     (c.change.ensures.exit honest (c.take_back.ensures.kept honest sound).sound (now_ends ends.0 (g.H.Host.told c.take_back.new.host) here ends.2))
 
 pub returns-in-Ok-Nothing-clause-kept : goal.returns-in-Ok-Nothing-clause-kept
@@ -69,14 +69,14 @@ returns-in-Ok-Nothing-clause-kept g c = λ honest sound.
     let here = (g.met.H.Host.lawful c.take_back.new.host).reads (g.met.H.Host.honest_tells honest) in
     let ends = c.in-Ok-Nothing.ensures.ends honest sound in
     let first = c.take_back.ensures.kept honest sound in
-    after_kept (asked_of c.args.doc.now c.args.opts.now c.args.now) (g.H.Host.told c.args.host.now) (g.H.Host.told c.take_back.new.host) (g.H.Host.told c.change.new.host) here ends first
+    after_kept (asked c.args.doc.now c.args.opts.now c.args.now) (g.H.Host.told c.args.host.now) (g.H.Host.told c.take_back.new.host) (g.H.Host.told c.change.new.host) here ends first
     (c.change.ensures.kept honest first.sound (now_ends ends.0 (g.H.Host.told c.take_back.new.host) here ends.2))
 
 pub returns-in-Ok-Restored-clause-exit : goal.returns-in-Ok-Restored-clause-exit
 returns-in-Ok-Restored-clause-exit g c = λ honest sound.
     let here = (g.met.H.Host.lawful c.take_back.new.host).reads (g.met.H.Host.honest_tells honest) in
     let ends = c.in-Ok-Restored.ensures.ends honest sound in
-    after_exit (asked_of c.args.doc.now c.args.opts.now c.args.now) (g.H.Host.told c.args.host.now) (g.H.Host.told c.take_back.new.host) (g.H.Host.told c.change-in-Ok-Restored.new.host) here ends c.change-in-Ok-Restored.result c.take_back.ensures.later
+    after_exit (asked c.args.doc.now c.args.opts.now c.args.now) (g.H.Host.told c.args.host.now) (g.H.Host.told c.take_back.new.host) (g.H.Host.told c.change-in-Ok-Restored.new.host) here ends c.change-in-Ok-Restored.result c.take_back.ensures.later
     (c.change-in-Ok-Restored.ensures.exit honest (c.take_back.ensures.kept honest sound).sound (now_ends ends.0 (g.H.Host.told c.take_back.new.host) here ends.2))
 
 pub returns-in-Ok-Restored-clause-kept : goal.returns-in-Ok-Restored-clause-kept
@@ -84,7 +84,7 @@ returns-in-Ok-Restored-clause-kept g c = λ honest sound.
     let here = (g.met.H.Host.lawful c.take_back.new.host).reads (g.met.H.Host.honest_tells honest) in
     let ends = c.in-Ok-Restored.ensures.ends honest sound in
     let first = c.take_back.ensures.kept honest sound in
-    after_kept (asked_of c.args.doc.now c.args.opts.now c.args.now) (g.H.Host.told c.args.host.now) (g.H.Host.told c.take_back.new.host) (g.H.Host.told c.change-in-Ok-Restored.new.host) here ends first
+    after_kept (asked c.args.doc.now c.args.opts.now c.args.now) (g.H.Host.told c.args.host.now) (g.H.Host.told c.take_back.new.host) (g.H.Host.told c.change-in-Ok-Restored.new.host) here ends first
     (c.change-in-Ok-Restored.ensures.kept honest first.sound (now_ends ends.0 (g.H.Host.told c.take_back.new.host) here ends.2))
 
 -- ---- on every host
@@ -184,7 +184,7 @@ since_then : (g : _) (c : After-take_back g) (t : ℕ) → t ≤ (g.H.Host.told 
 since_then g c t le quiet = record { faults = c.take_back.ensures.later; moment = omega (arith, le, c.take_back.ensures.moves.later); quiet = quiet }
 
 pub returns-in-Ok-Nothing-clause-damaged : goal.returns-in-Ok-Nothing-clause-damaged
-returns-in-Ok-Nothing-clause-damaged g c = λ tells t area le is.
+returns-in-Ok-Nothing-clause-damaged g c = λ tells t le area is.
     let start = start_since t (g.H.Host.told c.args.host.now) in
     said_damaged g.H.Host.tells (asked c.args.doc.now c.args.opts.now c.args.now) start (g.H.Host.told c.change.new.host) c.change.result area is
     (c.change.ensures.says start (since_then g (goal.at.returns-in-Ok-Nothing-clause-damaged g c).After-take_back t le c.in-Ok-Nothing.ensures.quiet)
@@ -192,7 +192,7 @@ returns-in-Ok-Nothing-clause-damaged g c = λ tells t area le is.
     (λ same told. c.take_back.ensures.nothing_same told (c.in-Ok-Nothing.is ∙ ap (λ r. Ok r) c.in-Ok-Nothing.field-0-is))) tells
 
 pub returns-in-Ok-Restored-clause-damaged : goal.returns-in-Ok-Restored-clause-damaged
-returns-in-Ok-Restored-clause-damaged g c = λ tells t area le is.
+returns-in-Ok-Restored-clause-damaged g c = λ tells t le area is.
     let start = start_since t (g.H.Host.told c.args.host.now) in
     said_damaged g.H.Host.tells (asked c.args.doc.now c.args.opts.now c.args.now) start (g.H.Host.told c.change-in-Ok-Restored.new.host) c.change-in-Ok-Restored.result area is
     (c.change-in-Ok-Restored.ensures.says start (since_then g (goal.at.returns-in-Ok-Restored-clause-damaged g c).After-take_back t le c.in-Ok-Restored.ensures.quiet)
@@ -200,7 +200,7 @@ returns-in-Ok-Restored-clause-damaged g c = λ tells t area le is.
     (λ same. let e : RolledBack ≡ NotBegun = same in absurd (cc))) tells
 
 pub returns-in-Err-clause-damaged : goal.returns-in-Err-clause-damaged
-returns-in-Err-clause-damaged g c = λ tells t area le is.
+returns-in-Err-clause-damaged g c = λ tells t le area is.
     unsettled_damaged g.H.Host.tells tells t area (g.H.Host.told c.args.host.now) (g.H.Host.told c.take_back.new.host) (g.met.H.Host.lawful c.args.host.now).stops ((g.met.H.Host.lawful c.args.host.now).reads tells) le
     c.unsettled.result c.in-Err.fault c.unsettled.ensures is c.in-Err.ensures.fails
 

@@ -3,7 +3,7 @@ use Rattle.engine_model.specs.declared.answers.Left.TheVariants.{NotBegun}
 use Rattle.engine_core.proofs.Says.{said_left, said_doubt}
 use Rattle.engine_model.specs.Stations.{Only, Either, Settled, entry_of}
 use Rattle.engine_model.specs.Machine.{apply, asked}
-use Rattle.engine_core.specs.Applying.{IsApplied, asked_of}
+use Rattle.engine_core.specs.Applying.{IsApplied}
 use Rattle.checkpoint_cell.specs.Settled.{Standing, standing}
 use Rattle.engine_model.proofs.lemmas.Leading.{kept_wider}
 use Rattle.engine_core.specs.Calm.{CalmSince}
@@ -15,7 +15,7 @@ pub returns-clause-kept : goal.returns-clause-kept
 returns-clause-kept g c = λ honest sound.
     let old = g.H.Host.told c.args.host.now in
     let here = (g.met.H.Host.lawful c.args.host.now).reads (g.met.H.Host.honest_tells honest) in
-    kept_wider (IsApplied (asked_of c.args.doc.now c.args.opts.now c.args.now) old.state) (Either (Settled c.args.now (entry_of old)) (Only (apply (asked c.args.doc.now c.args.opts.now c.args.now) (standing old.state)).after))
+    kept_wider (IsApplied (asked c.args.doc.now c.args.opts.now c.args.now) old.state) (Either (Settled c.args.now (entry_of old)) (Only (apply (asked c.args.doc.now c.args.opts.now c.args.now) (standing old.state)).after))
     (applied_is c.args.doc.now c.args.opts.now c.args.now old (sound.fit old.state here)) old (g.H.Host.told c.settle_and_change.new.host) (c.settle_and_change.ensures.kept honest sound)
 
 pub returns-clause-exit : goal.returns-clause-exit
