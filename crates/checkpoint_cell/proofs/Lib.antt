@@ -4,3 +4,4 @@ pub mod Marks
 pub mod Puts
 pub mod Heads
 pub mod Loads
+pub mod Twice

@@ -12,8 +12,7 @@ use Rattle.net_model.specs.declared.link.Link.{Link}
 use Rattle.net_model.proofs.lemmas.Truth.{and_left, and_right, and_both, or_right}
 use Rattle.net_model.proofs.lemmas.Found.{one_name, itself}
 use Rattle.net_model.proofs.lemmas.Grounded.{found_named, any_found}
-use Rattle.kernel_model.specs.Words.{changed, edit_link}
-use Rattle.kernel_model.specs.Ports.{attached}
+use Rattle.net_model.specs.Edits.{changed, edit_link, attached}
 use Rattle.net_model.proofs.lemmas.ByName.{or_left, all_found, some_found, some_same}
 use Rattle.kernel_laws.proofs.lemmas.Changed.{changed_keeps, changed_at, changed_off}
 use Rattle.net_model.proofs.lemmas.Maps.{names_map}

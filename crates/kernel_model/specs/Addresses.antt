@@ -1,17 +1,16 @@
 -- Calls that add an address to a link and take one away.
 use Rattle.std.specs.Prelude.{ℕ, Bool, not, ◌&&◌, ◌||◌, nat_le, List, [], ◌∷◌, filter}
 use Rattle.std.specs.List.{list_any}
-use Rattle.net_model.specs.Name.{same_bytes}
 use Rattle.net_model.specs.Address.{Block}
 use Rattle.net_model.specs.Words.{put}
 use Rattle.net_model.specs.Order.{block_cmp}
 use Rattle.net_model.specs.Links.{named_passes}
-use Rattle.net_model.specs.Valid.{is_bond_or_bridge_port, same_address, same_block, address_count, route_on_link}
+use Rattle.net_model.specs.Valid.{is_bond_or_bridge_port, same_address, same_block, address_count}
 use Rattle.net_model.specs.Lists.{NetData}
 use Rattle.net_model.specs.declared.limits.TheConstants.{MAX_LINK_ADDRESSES, MAX_ADDRESSES}
 use Rattle.net_model.specs.declared.Link.{Link}
-use Rattle.net_model.specs.declared.Route.{Route}
-use Rattle.kernel_model.specs.Words.{has_link, is_full, edit_link}
+use Rattle.kernel_model.specs.Words.{has_link, is_full}
+use Rattle.net_model.specs.Edits.{edit_link, stays_on_link}
 use Rattle.kernel_model.specs.declared.refusal.TheConstants.{NO_LINK, PORT_ADDRESS, ADDRESS_EXISTS, LINK_DOWN, LIMIT, NO_ADDRESS}
 
 -- the address stands among these, with any length
@@ -43,10 +42,6 @@ del_address_refusals name block net = (NO_LINK, not (has_link name net.links)) �
 
 abbrev pub without_address : Block → Link → Link
 without_address block l = record l { addrs = filter (λ b. not (same_block block b)) l.addrs }
-
--- the route is of another device, or its gateway is on-link at the named one of these links
-abbrev pub stays_on_link : List ℕ → List Link → Route → Bool
-stays_on_link name links r = not (same_bytes r.dev name) || named_passes (λ l. route_on_link l r) links name
 
 -- the address goes, and of the link's routes those whose gateway isn't on-link any more
 abbrev pub after_del_address : List ℕ → Block → NetData → NetData

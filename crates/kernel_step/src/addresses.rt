@@ -2,16 +2,16 @@
 ghost use Rattle.std.specs.Prelude.{◌≡◌, ◌≤◌, true, false, not, filter, insert, length, OnOk, OnErr};
 ghost use Rattle.std.specs.List.{list_any, list_all};
 ghost use Rattle.net_model.specs.Words.{rises, put};
-ghost use Rattle.net_model.specs.Order.{block_cmp, link_cmp};
+ghost use Rattle.net_model.specs.Order.{block_cmp, link_cmp, route_cmp};
 ghost use Rattle.net_model.specs.Links.{named_passes};
-ghost use Rattle.net_model.specs.Valid.{same_block, route_on_link};
-ghost use Rattle.kernel_model.specs.Words.{edit_link};
-ghost use Rattle.kernel_model.specs.Addresses.{has_block, with_address, without_address, stays_on_link, after_add_address, after_del_address};
+ghost use Rattle.net_model.specs.Valid.{same_block};
+ghost use Rattle.net_model.specs.Edits.{edit_link};
+ghost use Rattle.kernel_model.specs.Addresses.{has_block, with_address, without_address, after_add_address, after_del_address};
 
 use crate::places::address_gap;
 use crate::refuse::same_block;
 use link_step::place_of;
-use net_model::{Items, Link, Name, OutOfMemory, Parts, Prefix, Route, find_link, route_on_link};
+use net_model::{Items, Link, Name, OutOfMemory, Parts, Prefix};
 use std::mem;
 
 fn insert_at(addrs: &mut Vec<Prefix>, i: usize, addr: Prefix) -> Result<(), OutOfMemory>
@@ -59,6 +59,17 @@ fn give_named(links: &mut [Link], name: &Name, addr: &Prefix) -> Result<(), OutO
     }
 }
 
+// The same on the vector.
+fn give_in(links: &mut Vec<Link>, name: &Name, addr: &Prefix) -> Result<(), OutOfMemory>
+    requires names { rises link_cmp links.old.items ≡ true }
+    requires in_order { list_all (λ l. rises block_cmp l.addrs) links.old.items ≡ true }
+    requires new { named_passes (λ l. has_block addr.now l.addrs) links.old.items name.now ≡ false }
+    ensures ok { OnOk result (links.new.items ≡ edit_link name.now (with_address addr.now) links.old.items) }
+    ensures err { OnErr result (links.new.items ≡ links.old.items) }
+{
+    give_named(links, name, addr)
+}
+
 // Gives the named link an address that it doesn't have.
 pub(crate) fn add_address(parts: &mut Parts, name: &Name, addr: &Prefix) -> Result<(), OutOfMemory>
     requires names { rises link_cmp parts.old.links ≡ true }
@@ -67,7 +78,7 @@ pub(crate) fn add_address(parts: &mut Parts, name: &Name, addr: &Prefix) -> Resu
     ensures ok { OnOk result (parts.new ≡ after_add_address name.now addr.now parts.old) }
     ensures err { OnErr result (parts.new ≡ parts.old) }
 {
-    give_named(&mut parts.links, name, addr)
+    give_in(&mut parts.links, name, addr)
 }
 
 fn keep_others(addrs: &mut Vec<Prefix>, addr: &Prefix)
@@ -102,33 +113,21 @@ fn take_named(links: &mut [Link], name: &Name, addr: &Prefix)
     }
 }
 
-#[tactic(auto, using(net_model::proofs::lemmas::Found::named_passes_found))]
-fn is_on_link_at(links: &[Link], name: &Name, route: &Route) -> bool
-    requires { rises link_cmp links.now ≡ true }
-    ensures { result ≡ named_passes (λ l. route_on_link l route.now) links.now name.now }
+// The same on the vector.
+fn take_in(links: &mut Vec<Link>, name: &Name, addr: &Prefix)
+    requires { rises link_cmp links.old.items ≡ true }
+    ensures edit { links.new.items ≡ edit_link name.now (without_address addr.now) links.old.items }
+    ensures rise { rises link_cmp links.new.items ≡ true }
 {
-    find_link(links, name).is_some_and(|link| route_on_link(link, route))
-}
-
-fn stays_on_link(links: &[Link], name: &Name, route: &Route) -> bool
-    requires { rises link_cmp links.now ≡ true }
-    ensures { result ≡ stays_on_link name.now links.now route.now }
-{
-    route.dev != *name || is_on_link_at(links, name, route)
-}
-
-fn keep_on_link(routes: &mut Vec<Route>, links: &[Link], name: &Name)
-    requires { rises link_cmp links.now ≡ true }
-    ensures { routes.new.items ≡ filter (stays_on_link name.now links.now) routes.old.items }
-{
-    routes.retain(|route| stays_on_link(links, name, route));
+    take_named(links, name, addr);
 }
 
 // Takes an address from the named link, and its routes whose gateway isn't on-link any more.
 pub(crate) fn del_address(parts: &mut Parts, name: &Name, addr: &Prefix)
-    requires { rises link_cmp parts.old.links ≡ true }
+    requires links { rises link_cmp parts.old.links ≡ true }
+    requires routes { rises route_cmp parts.old.routes ≡ true }
     ensures { parts.new ≡ after_del_address name.now addr.now parts.old }
 {
-    take_named(&mut parts.links, name, addr);
-    keep_on_link(&mut parts.routes, &parts.links, name);
+    take_in(&mut parts.links, name, addr);
+    parts.keep_on_link(name);
 }

@@ -72,18 +72,6 @@ pub(crate) fn address_gap(addrs: &[Prefix], addr: &Prefix) -> usize
     }
 }
 
-// Where a route belongs whose key isn't there.
-pub(crate) fn route_gap(routes: &[Route], route: &Route) -> usize
-    requires { rises route_cmp routes.now ≡ true }
-    ensures inside { result ≤ length routes.now }
-    ensures puts { list_any (same_key route.now) routes.now ≡ false → insert routes.now result route.now ≡ put route_cmp route.now routes.now }
-{
-    match search_routes(routes, route) {
-        Ok(i) => i,
-        Err(i) => i,
-    }
-}
-
 // Where a rule belongs that isn't there.
 pub(crate) fn rule_gap(rules: &[Rule], rule: &Rule) -> usize
     requires { rises rule_cmp rules.now ≡ true }

@@ -1,5 +1,5 @@
 //! Rules and DNS.
-ghost use Rattle.std.specs.Prelude.{◌≡◌, ◌≤◌, true, false, not, filter, insert, length, IfOk, OnOk, OnErr};
+ghost use Rattle.std.specs.Prelude.{◌≡◌, ◌≤◌, true, false, not, filter, insert, length, OnOk, OnErr};
 ghost use Rattle.std.specs.List.{list_any};
 ghost use Rattle.net_model.specs.Words.{rises};
 ghost use Rattle.net_model.specs.Order.{rule_cmp};

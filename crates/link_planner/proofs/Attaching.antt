@@ -11,7 +11,7 @@ use Rattle.net_model.specs.declared.link.Link.{Link}
 use Rattle.net_model.specs.declared.call.Call.TheVariants.{Attach}
 use Rattle.net_model.proofs.lemmas.FactsHold.{facts}
 use Rattle.net_model.proofs.lemmas.Same.{same_block_exact, default_port_exact}
-use Rattle.kernel_model.specs.Ports.{attached}
+use Rattle.net_model.specs.Edits.{attached}
 use Rattle.kernel_model.specs.Addresses.{has_block}
 use Rattle.kernel_model.specs.Kernel.{step, after}
 use Rattle.kernel_laws.specs.Frames.{Leads}

@@ -18,7 +18,7 @@ use Rattle.net_model.proofs.lemmas.FactsHold.{facts}
 use Rattle.kernel_model.specs.Words.{hangs_on}
 use Rattle.kernel_model.specs.UpDown.{lowered, v4_alone}
 use Rattle.kernel_model.specs.Addresses.{has_block}
-use Rattle.kernel_model.specs.Routes.{same_route}
+use Rattle.net_model.specs.Edits.{same_route}
 use Rattle.kernel_model.specs.Kernel.{step, after}
 use Rattle.kernel_laws.specs.Frames.{Leads}
 use Rattle.net_model.proofs.lemmas.ByName.{passing_found, some_same}

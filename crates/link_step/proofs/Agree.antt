@@ -4,7 +4,7 @@ use Rattle.std.proofs.lemmas.List.Elements.{filter_agree}
 use Rattle.net_model.specs.Lists.{NetData}
 use Rattle.net_model.specs.declared.link.Link.{Link}
 use Rattle.net_model.specs.declared.route.Route.{Route}
-use Rattle.kernel_model.specs.MadeLinks.{unless_gone, port_freed, freed, without}
+use Rattle.net_model.specs.Edits.{unless_gone, port_freed, freed, without}
 use Rattle.kernel_model.specs.UpDown.{lowered, fallen}
 
 pub map_agree : {X Y : Type 0} (f g : X → Y) → ((x : X) → f x ≡ g x) → (xs : List X) → map f xs ≡ map g xs

@@ -14,8 +14,8 @@ use Rattle.net_model.proofs.lemmas.Grounded.{found_named, any_found}
 use Rattle.net_model.proofs.lemmas.FactsHold.{facts}
 use Rattle.net_model.proofs.lemmas.ByName.{some_found, or_left}
 use Rattle.net_model.proofs.lemmas.Ranks.{or_elim, stands_reaches, reaches_further, reaches_enough}
-use Rattle.kernel_model.specs.Words.{has_link, edit_link}
-use Rattle.kernel_model.specs.Ports.{attached}
+use Rattle.kernel_model.specs.Words.{has_link}
+use Rattle.net_model.specs.Edits.{edit_link, attached}
 use Rattle.link_step.proofs.Cycles.{differ, controlling, attach_cycles, ethernet_reaches}
 
 same_truth : (a b : Bool) → (a ≡ true → b ≡ true) → (b ≡ true → a ≡ true) → a ≡ b

@@ -5,8 +5,8 @@ ghost use Rattle.net_model.specs.Words.{rises};
 ghost use Rattle.net_model.specs.Order.{link_cmp};
 ghost use Rattle.net_model.specs.Links.{is_named, is_port_of};
 ghost use Rattle.net_model.specs.Dependence.{has_base, reaches, no_cycle};
-ghost use Rattle.kernel_model.specs.Words.{has_link, edit_link};
-ghost use Rattle.kernel_model.specs.Ports.{attached};
+ghost use Rattle.kernel_model.specs.Words.{has_link};
+ghost use Rattle.net_model.specs.Edits.{edit_link, attached};
 ghost use Rattle.link_step.specs.Arrows.{FindsOnly, Draws};
 
 use crate::lookup::place_of;

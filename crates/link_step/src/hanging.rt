@@ -1,15 +1,13 @@
 //! What hangs on a link: the link, and the VLANs over it in any depth.
 ghost use Rattle.std.specs.Prelude.{◌≡◌, ◌<◌, true, IfOk, length, map, filter, slice_index_or};
-ghost use Rattle.std.specs.List.{list_any};
-ghost use Rattle.net_model.specs.Words.{rises, is_among};
+ghost use Rattle.net_model.specs.Words.{rises};
 ghost use Rattle.net_model.specs.Order.{link_cmp, name_cmp};
 ghost use Rattle.net_model.specs.Links.{is_named};
-ghost use Rattle.net_model.specs.Dependence.{has_base};
 ghost use Rattle.net_model.specs.declared.Link.{Link};
 ghost use Rattle.link_step.specs.Hanging.{IsBasePlace, AreBases, IsOverAt, AreOver, hangs, hanging};
 
 use crate::lookup::place_of;
-use net_model::{Kind, Link, Name, has_base};
+use net_model::{Kind, Link, Name, Parts, find_link};
 use std::alloc::{AllocError, Global};
 
 // The place of the base of a VLAN.
@@ -137,53 +135,39 @@ fn names_over(alloc: Global, links: &[Link], root: &Name) -> Result<Vec<Name>, A
     Ok(names)
 }
 
-// Whether the root is the base of a VLAN.
-fn is_base(links: &[Link], root: &Name) -> bool
-    ensures { result ≡ list_any (λ l. has_base l.kind root.now) links.now }
-{
-    links.iter().any(|link| has_base(&link.kind, root))
-}
-
 // The root's name, if the link is there.
 fn own_name(alloc: Global, links: &[Link], root: &Name) -> Result<Vec<Name>, AllocError>
+    requires { rises link_cmp links.now ≡ true }
     ensures { IfOk result (λ names. names.items ≡ map (λ l. l.name) (filter (is_named root.now) links.now)) }
 {
-    links
-        .iter()
-        .filter(|link| link.name == *root)
-        .map(|link| link.name)
-        .collect(alloc)
+    match find_link(links, root) {
+        Some(link) => {
+            let mut names = Vec::new(alloc);
+            names.push(link.name)?;
+            Ok(names)
+        }
+        None => Ok(Vec::new(alloc)),
+    }
 }
 
-// The names of what hangs on the root. Chains of bases are walked only where it is the base of a VLAN.
-fn names(alloc: Global, links: &[Link], root: &Name) -> Result<Vec<Name>, AllocError>
-    requires { rises link_cmp links.now ≡ true }
-    ensures { IfOk result (λ names. names.items ≡ hanging links.now root.now) }
+// The names of what hangs on the root. Chains of bases are walked only where the index says that it is the base of a VLAN.
+fn names(alloc: Global, parts: &Parts, root: &Name) -> Result<Vec<Name>, AllocError>
+    requires { rises link_cmp parts.now.links ≡ true }
+    ensures { IfOk result (λ names. names.items ≡ hanging parts.now.links root.now) }
 {
-    if is_base(links, root) {
-        names_over(alloc, links, root)
+    if parts.over(root).is_empty() {
+        own_name(alloc, &parts.links, root)
     } else {
-        own_name(alloc, links, root)
+        names_over(alloc, &parts.links, root)
     }
 }
 
 // The names of what hangs on the root, in order.
-pub(crate) fn hanging(alloc: Global, links: &[Link], root: &Name) -> Result<Vec<Name>, AllocError>
-    requires { rises link_cmp links.now ≡ true }
-    ensures names { IfOk result (λ names. names.items ≡ hanging links.now root.now) }
+pub(crate) fn hanging(alloc: Global, parts: &Parts, root: &Name) -> Result<Vec<Name>, AllocError>
+    requires { rises link_cmp parts.now.links ≡ true }
+    ensures names { IfOk result (λ names. names.items ≡ hanging parts.now.links root.now) }
     ensures in_order { IfOk result (λ names. rises name_cmp names.items ≡ true) }
 {
-    let names = names(alloc, links, root)?;
+    let names = names(alloc, parts, root)?;
     Ok(names)
-}
-
-// Whether the name is one of these, by binary search.
-pub(crate) fn is_among(names: &[Name], name: &Name) -> bool
-    requires { rises name_cmp names.now ≡ true }
-    ensures { result ≡ is_among names.now name.now }
-{
-    match names.binary_search(name) {
-        Ok(_) => true,
-        Err(_) => false,
-    }
 }

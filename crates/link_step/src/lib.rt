@@ -3,8 +3,6 @@
 
 // Whether attaching makes a cycle.
 mod cycle;
-// Ports that are detached.
-mod detach;
 // What hangs on a link.
 mod hanging;
 // Links by name, in lists that rise by name.

@@ -1,11 +1,11 @@
 //! Links that go down.
-ghost use Rattle.std.specs.Prelude.{◌≡◌, true, map, filter, not, OnOk, OnErr};
+ghost use Rattle.std.specs.Prelude.{◌≡◌, true, map, OnOk, OnErr};
 ghost use Rattle.net_model.specs.Words.{rises, is_among};
 ghost use Rattle.net_model.specs.Order.{link_cmp, name_cmp};
 ghost use Rattle.kernel_model.specs.UpDown.{v4_alone, lowered, fallen, after_down};
 
-use crate::hanging::{hanging, is_among};
-use net_model::{Items, Link, Name, OutOfMemory, Parts, Prefix, Route};
+use crate::hanging::hanging;
+use net_model::{Items, Link, Name, OutOfMemory, Parts, Prefix, is_among};
 use std::alloc::Global;
 use std::mem;
 
@@ -43,19 +43,20 @@ fn lower_links(links: &mut [Link], falls: &[Name])
     }
 }
 
-fn remove_routes(routes: &mut Vec<Route>, falls: &[Name])
+// The same on the vector.
+fn lower_each(links: &mut Vec<Link>, falls: &[Name])
     requires { rises name_cmp falls.now ≡ true }
-    ensures { routes.new.items ≡ filter (λ r. not (is_among falls.now r.dev)) routes.old.items }
+    ensures { links.new.items ≡ map (lowered (is_among falls.now)) links.old.items }
 {
-    routes.retain(|route| !is_among(falls, &route.dev));
+    lower_links(links, falls);
 }
 
 fn lower_all(parts: &mut Parts, falls: &[Name])
     requires { rises name_cmp falls.now ≡ true }
     ensures { parts.new ≡ fallen (is_among falls.now) parts.old }
 {
-    lower_links(&mut parts.links, falls);
-    remove_routes(&mut parts.routes, falls);
+    lower_each(&mut parts.links, falls);
+    parts.remove_routes_of(falls);
 }
 
 // Takes down the link and the VLANs over it. The memory for their names is taken first.
@@ -64,7 +65,7 @@ pub(crate) fn down(alloc: Global, parts: &mut Parts, name: &Name) -> Result<(), 
     ensures ok { OnOk result (parts.new ≡ after_down name.now parts.old) }
     ensures err { OnErr result (parts.new ≡ parts.old) }
 {
-    let falls = hanging(alloc, &parts.links, name)?;
+    let falls = hanging(alloc, parts, name)?;
     lower_all(parts, &falls);
     Ok(())
 }

@@ -1,13 +1,13 @@
 //! A new MTU, which the VLANs over the link don't pass.
 ghost use Rattle.std.specs.Prelude.{◌≡◌, true, map, min, OnOk, OnErr, if◌then◌else◌};
 ghost use Rattle.net_model.specs.Words.{rises, is_among};
-ghost use Rattle.net_model.specs.Order.{link_cmp, name_cmp};
+ghost use Rattle.net_model.specs.Order.{name_cmp};
 ghost use Rattle.net_model.specs.NetData.{IsNet};
 ghost use Rattle.kernel_model.specs.Settings.{after_set_mtu};
 ghost use Rattle.link_step.specs.Clamped.{clamped};
 
-use crate::hanging::{hanging, is_among};
-use net_model::{Link, Name, OutOfMemory, Parts};
+use crate::hanging::hanging;
+use net_model::{Link, Name, OutOfMemory, Parts, is_among};
 use std::alloc::Global;
 
 fn lesser(a: u32, b: u32) -> u32
@@ -36,11 +36,19 @@ fn clamp_links(links: &mut [Link], name: &Name, mtu: u32, over: &[Name])
     }
 }
 
+// The same on the vector.
+fn clamp_each(links: &mut Vec<Link>, name: &Name, mtu: u32, over: &[Name])
+    requires { rises name_cmp over.now ≡ true }
+    ensures { links.new.items ≡ map (clamped name.now mtu over.now) links.old.items }
+{
+    clamp_links(links, name, mtu, over);
+}
+
 fn clamp_all(parts: &mut Parts, name: &Name, mtu: u32, over: &[Name])
     requires { rises name_cmp over.now ≡ true }
     ensures { parts.new ≡ record parts.old { links = map (clamped name.now mtu over.now) parts.old.links } }
 {
-    clamp_links(&mut parts.links, name, mtu, over);
+    clamp_each(&mut parts.links, name, mtu, over);
 }
 
 // Sets the MTU of the link, and lowers those of the VLANs over it. The memory for their names is taken first.
@@ -54,7 +62,7 @@ pub(crate) fn set_mtu(
     ensures ok { OnOk result (parts.new ≡ after_set_mtu name.now mtu parts.old) }
     ensures err { OnErr result (parts.new ≡ parts.old) }
 {
-    let over = hanging(alloc, &parts.links, name)?;
+    let over = hanging(alloc, parts, name)?;
     clamp_all(parts, name, mtu, &over);
     Ok(())
 }

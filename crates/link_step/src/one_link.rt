@@ -2,11 +2,11 @@
 ghost use Rattle.std.specs.Prelude.{◌≡◌, true};
 ghost use Rattle.net_model.specs.Words.{rises};
 ghost use Rattle.net_model.specs.Order.{link_cmp};
-ghost use Rattle.kernel_model.specs.Words.{edit_link};
+ghost use Rattle.net_model.specs.Edits.{edit_link};
 ghost use Rattle.link_step.specs.OneLink.{written};
 
 use crate::lookup::place_of;
-use net_model::{Call, Link, Name, Parts, PortOpts};
+use net_model::{Call, Link, Name, Parts};
 
 fn write(link: &mut Link, call: &Call)
     ensures { link.new ≡ written call.now link.old }
@@ -16,10 +16,6 @@ fn write(link: &mut Link, call: &Call)
         Call::SetMac { mac, .. } => link.mac = *mac,
         Call::SetBond { opts, .. } => link.bond = *opts,
         Call::SetBridge { opts, .. } => link.bridge = *opts,
-        Call::Attach { controller, .. } => {
-            link.controller = Some(*controller);
-            link.port = PortOpts::defaults();
-        }
         Call::SetPort { opts, .. } => link.port = *opts,
         _ => {}
     }
@@ -35,10 +31,18 @@ fn write_named(links: &mut [Link], name: &Name, call: &Call)
     }
 }
 
-// Writes what the call says on the named link.
+// The same on the vector.
+fn write_each(links: &mut Vec<Link>, name: &Name, call: &Call)
+    requires { rises link_cmp links.old.items ≡ true }
+    ensures { links.new.items ≡ edit_link name.now (written call.now) links.old.items }
+{
+    write_named(links, name, call);
+}
+
+// Writes what the call says on the named link, which no index reads.
 pub(crate) fn write_on(parts: &mut Parts, name: &Name, call: &Call)
     requires { rises link_cmp parts.old.links ≡ true }
     ensures { parts.new ≡ record parts.old { links = edit_link name.now (written call.now) parts.old.links } }
 {
-    write_named(&mut parts.links, name, call);
+    write_each(&mut parts.links, name, call);
 }

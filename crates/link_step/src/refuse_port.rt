@@ -2,7 +2,7 @@
 ghost use Rattle.std.specs.Prelude.{◌≡◌, ◌&&◌, true, not, is_some, IfOk};
 ghost use Rattle.net_model.specs.Words.{rises, is_empty};
 ghost use Rattle.net_model.specs.Order.{link_cmp};
-ghost use Rattle.net_model.specs.Links.{named_passes, takes, is_bond, is_bridge, is_bond_or_bridge};
+ghost use Rattle.net_model.specs.Links.{named_passes, takes, is_bond, is_bond_or_bridge};
 ghost use Rattle.net_model.specs.Options.{port_in_range};
 ghost use Rattle.net_model.specs.Valid.{is_bridge_port};
 ghost use Rattle.kernel_model.specs.Words.{has_link};

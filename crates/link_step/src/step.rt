@@ -3,15 +3,14 @@ ghost use Rattle.std.specs.Prelude.{◌≡◌, ℕ, true, Some, None, Ok, Err, O
 ghost use Rattle.net_model.specs.Words.{rises};
 ghost use Rattle.net_model.specs.Order.{link_cmp};
 ghost use Rattle.net_model.specs.NetData.{IsNet};
-ghost use Rattle.kernel_model.specs.Words.{edit_link};
+ghost use Rattle.net_model.specs.Edits.{edit_link};
 ghost use Rattle.kernel_model.specs.Outcome.{first_true};
-ghost use Rattle.kernel_model.specs.Ports.{after_detach};
+ghost use Rattle.kernel_model.specs.Ports.{attach_refusals, after_attach, after_detach};
 ghost use Rattle.kernel_model.specs.Kernel.{refusals, after, step};
 ghost use Rattle.kernel_model.specs.declared.fault.StepFault.TheVariants.{Refused};
 ghost use Rattle.link_step.specs.Calls.{is_on_links};
 ghost use Rattle.link_step.specs.OneLink.{written};
 
-use crate::detach::detach_all;
 use crate::lower::down;
 use crate::made::{add_link, del_link};
 use crate::mtu::set_mtu;
@@ -51,11 +50,22 @@ fn write_call(parts: &mut Parts, name: &Name, call: &Call) -> Result<(), OutOfMe
     Ok(())
 }
 
+// Attaches a port that has no controller.
+fn attach(parts: &mut Parts, port: &Name, controller: &Name) -> Result<(), OutOfMemory>
+    requires in_order { rises link_cmp parts.old.links ≡ true }
+    requires accepted { first_true (attach_refusals port.now controller.now parts.old) ≡ None }
+    ensures ok { OnOk result (parts.new ≡ after_attach port.now controller.now parts.old) }
+    ensures err { OnErr result (parts.new ≡ parts.old) }
+{
+    parts.attach(port, controller)
+}
+
 fn detach(parts: &mut Parts, port: &Name) -> Result<(), OutOfMemory>
+    requires { rises link_cmp parts.old.links ≡ true }
     ensures ok { OnOk result (parts.new ≡ after_detach port.now parts.old) }
     ensures err { OnErr result (parts.new ≡ parts.old) }
 {
-    detach_all(parts, port);
+    parts.detach(port);
     Ok(())
 }
 
@@ -76,7 +86,7 @@ fn edit(alloc: Global, parts: &mut Parts, call: &Call) -> Result<(), OutOfMemory
         Call::SetMac { name, .. } => write_call(parts, name, call),
         Call::SetBond { name, .. } => write_call(parts, name, call),
         Call::SetBridge { name, .. } => write_call(parts, name, call),
-        Call::Attach { port, .. } => write_call(parts, port, call),
+        Call::Attach { port, controller } => attach(parts, port, controller),
         Call::Detach { port } => detach(parts, port),
         Call::SetPort { port, .. } => write_call(parts, port, call),
         _ => Ok(()),

@@ -27,3 +27,9 @@ pub mod InOrder
 pub mod Differing
 pub mod Arranged
 pub mod Cycles
+pub mod Listing
+pub mod ListChanges
+pub mod Editing
+pub mod LinkIndexes
+pub mod RouteIndexes
+pub mod Changing

@@ -17,3 +17,9 @@ pub mod Hardware
 pub mod Facts
 pub mod Positions
 pub mod SameLists
+pub mod Listed
+pub mod KeyOrder
+pub mod Indexed
+pub mod Edits
+pub mod Changes
+pub mod RoutePosition

@@ -3,6 +3,8 @@
 
 // Addresses, prefixes and subnets.
 mod address;
+// Indexes of lists as they stand.
+mod build;
 // The calls of the kernel.
 mod call;
 // The settings of DNS.
@@ -13,10 +15,16 @@ mod domain;
 mod hardware;
 // Numbers of routing tables and of VLANs.
 mod id;
+// An index: for each name a list.
+mod index;
+// The indexes of a network: what each edit adds to them and takes out.
+mod indexes;
 // The limits of a network and of its parts.
 mod limits;
 // Links and their kinds.
 mod link;
+// Edits of links alone.
+mod link_edits;
 // Finding links by name in lists that are sorted by name, and what kinds of links go together.
 mod lookup;
 // Hardware addresses.
@@ -29,14 +37,20 @@ mod net;
 mod options;
 // Whether lists are strictly sorted, as those of a network are.
 mod order;
-// The lists of a network that is taken apart, or not yet closed.
+// The lists of a network that is taken apart, or not yet closed, with their indexes.
 mod parts;
 // Where something stands in a list of a network, or where it belongs, by binary search.
 mod position;
 // Routes.
 mod route;
+// Edits of routes alone.
+mod route_edits;
+// The key of a route, by which routes are ordered.
+mod route_key;
 // Rules that choose the routing table of a packet.
 mod rule;
+// The lists of a network, put in order.
+mod sorting;
 // What is valid: the thirteen parts, asked one after another.
 mod valid;
 // The part of validity that looks at which link depends on which.
@@ -63,6 +77,7 @@ pub use limits::{
     MAX_NAME_LEN, MAX_ROUTES, MAX_RULES, MAX_SEARCH, MAX_SERVERS, MAX_VLAN_ID, MIN_MTU,
 };
 pub use link::{Kind, Link};
+pub use link_edits::is_among;
 pub use lookup::{
     can_be_base, find_link, has_base, has_peer, is_bond, is_bond_or_bridge, is_bridge, is_ethernet,
     is_port_of, is_twin, peer_of, ports_of, takes,
@@ -74,6 +89,8 @@ pub use options::{BondMode, BondOpts, BridgeOpts, HashPolicy, LacpRate, PortOpts
 pub use parts::Parts;
 pub use position::{Position, address_position, link_position, route_position, rule_position};
 pub use route::Route;
+pub use route_edits::same_route;
+pub use route_key::RouteKey;
 pub use rule::{Rule, Target};
 pub use valid_dependence::no_cycle;
 pub use valid_limits::{is_default_bond, is_default_bridge, is_default_port};

@@ -1,11 +1,14 @@
 //! A network.
-ghost use Rattle.std.specs.Prelude.{◌≡◌, ◌↔◌, [], Some, None, if◌then◌else◌, is_some, IfOk, IsTrue, option_copied};
+ghost use Rattle.std.specs.Prelude.{◌≡◌, ◌↔◌, true, [], Some, None, if◌then◌else◌, is_some, IfOk, IsTrue, option_copied};
 ghost use Rattle.net_model.specs.Address.{Address, Block};
 ghost use Rattle.net_model.specs.Facts.{Facts};
 ghost use Rattle.net_model.specs.Hardware.{hardware};
-ghost use Rattle.net_model.specs.Links.{find_link};
+ghost use Rattle.net_model.specs.Links.{find_link, ports_of};
+ghost use Rattle.net_model.specs.Indexed.{over, routes_of};
+ghost use Rattle.net_model.specs.KeyOrder.{key_cmp};
+ghost use Rattle.net_model.specs.Words.{rises};
 ghost use Rattle.net_model.specs.NetData.{NetData, IsNet, IsRearranged, net_of, no_dns, ordered, is_net, Makes};
-ghost use Rattle.net_model.specs.Order.{route_cmp, rule_cmp};
+ghost use Rattle.net_model.specs.Order.{name_cmp, route_cmp, rule_cmp};
 ghost use Rattle.net_model.specs.Positions.{LinkPosition, Located};
 ghost use Rattle.net_model.specs.Rule.{RuleParts};
 ghost use Rattle.net_model.specs.SameLists.{SameLinks, SameAddresses, SameRoutes, SameRules};
@@ -16,12 +19,14 @@ use crate::hardware::same_devices;
 use crate::link::Link;
 use crate::lookup::find_link;
 use crate::name::Name;
-use crate::parts::{Parts, sorted_parts};
+use crate::parts::Parts;
 use crate::position::Position;
 use crate::route::Route;
+use crate::route_key::RouteKey;
 use crate::rule::Rule;
+use crate::sorting::sorted_parts;
 use crate::valid::least_broken;
-use base_model::{Items, OutOfMemory};
+use base_model::OutOfMemory;
 use std::alloc::{AllocError, Global};
 use std::marker::Model;
 use std::mem;
@@ -57,9 +62,15 @@ impl From<OutOfMemory> for NetFault {
 }
 
 /// A network: valid, with each list in order, so that equal networks are equal values.
-#[derive(Drop)]
 pub struct Net {
     parts: Parts,
+}
+
+// By hand, so that a proof sees one call where a network is dropped, and not each list and index of it.
+impl Drop for Net {
+    fn drop(self) {
+        let Net { parts: _ } = self;
+    }
 }
 
 impl Model for Net {
@@ -128,15 +139,7 @@ impl Net {
         ensures { result ≡ net_of [] [] [] no_dns }
     {
         Net {
-            parts: Parts {
-                links: Vec::new(alloc),
-                routes: Vec::new(alloc),
-                rules: Vec::new(alloc),
-                dns: Dns {
-                    servers: Items::of(Vec::new(alloc)),
-                    search: Items::of(Vec::new(alloc)),
-                },
-            },
+            parts: Parts::empty(alloc),
         }
     }
 
@@ -178,6 +181,30 @@ impl Net {
         ensures { result.now.items ≡ self.now.rules }
     {
         &self.parts.rules
+    }
+
+    /// The names of the VLANs directly over a base, in order. It takes no memory.
+    pub fn over(&self, base: &Name) -> &[Name]
+        ensures names { result.now ≡ over self.now.links base.now }
+        ensures in_order { rises name_cmp result.now ≡ true }
+    {
+        self.parts.over(base)
+    }
+
+    /// The names of the ports of a controller, in order. It takes no memory.
+    pub fn ports_of(&self, controller: &Name) -> &[Name]
+        ensures names { result.now ≡ ports_of self.now.links controller.now }
+        ensures in_order { rises name_cmp result.now ≡ true }
+    {
+        self.parts.ports_of(controller)
+    }
+
+    /// The keys of the routes of a device, in order. It takes no memory.
+    pub fn routes_of(&self, dev: &Name) -> &[RouteKey]
+        ensures keys { result.now ≡ routes_of self.now.routes dev.now }
+        ensures in_order { rises key_cmp result.now ≡ true }
+    {
+        self.parts.routes_of(dev)
     }
 
     /// The settings of DNS, as they were given.

@@ -1,41 +1,98 @@
-//! The lists of a network that is taken apart, or not yet closed.
-ghost use Rattle.std.specs.Prelude.{◌≡◌, true, IfOk, OnOk, map, IsPermutation, IsSorted};
-ghost use Rattle.net_model.specs.Words.{rises, sorted};
-ghost use Rattle.net_model.specs.Order.{block_cmp, link_cmp, route_cmp, rule_cmp};
-ghost use Rattle.net_model.specs.NetData.{net_of, arranged, is_in_order, IsSorting};
-ghost use Rattle.net_model.specs.Positions.{LinkPosition, Located};
+//! The lists of a network that is taken apart, or not yet closed, with their indexes.
+ghost use Rattle.std.specs.Prelude.{◌≡◌, true, false, None, [], filter, map, not, is_some, IfOk, OnOk, OnErr};
+ghost use Rattle.std.specs.List.{list_any};
+ghost use Rattle.std.specs.Fn.{FnOnceReturnsAtMut};
+ghost use Rattle.net_model.specs.Name.{same_bytes};
+ghost use Rattle.net_model.specs.Words.{rises, put, is_among};
+ghost use Rattle.net_model.specs.Order.{name_cmp, link_cmp, route_cmp, rule_cmp};
+ghost use Rattle.net_model.specs.Links.{find_link, named_passes, ports_of};
+ghost use Rattle.net_model.specs.Lists.{net_of, no_dns};
 ghost use Rattle.net_model.specs.Valid.{same_key, same_rule};
+ghost use Rattle.net_model.specs.declared.link.Kind.TheVariants.{Veth};
+ghost use Rattle.net_model.specs.Changes.{Keeps, EditsNamed};
+ghost use Rattle.net_model.specs.Edits.{edit_link, attached, detached, without, same_route, stays_on_link};
+ghost use Rattle.net_model.specs.Indexed.{over, routes_of};
+ghost use Rattle.net_model.specs.KeyOrder.{key_cmp};
+ghost use Rattle.net_model.specs.NetData.{is_in_order};
+ghost use Rattle.net_model.specs.Positions.{LinkPosition, Located};
 
-use crate::address::Prefix;
 use crate::dns::Dns;
+use crate::indexes::{
+    Indexes, leave_out_key, leave_out_port, leave_out_ports, leave_out_vlans, put_key, put_name,
+    put_vlan,
+};
 use crate::link::Link;
+use crate::link_edits::{attach_named, change_named, detach_named, insert_link, remove_links};
 use crate::name::Name;
 use crate::order::{each_in_order, links_in_order, routes_in_order, rules_in_order};
 use crate::position::{Position, link_position, route_position, rule_position};
 use crate::route::Route;
+use crate::route_edits::{insert_route, keep_on_link, position_of, remove_routes};
+use crate::route_key::RouteKey;
 use crate::rule::Rule;
 use base_model::{Items, OutOfMemory};
 use std::alloc::{AllocError, Global};
 use std::marker::Model;
 
-/// The lists of a network, of which nothing is known: a network that is taken apart to be changed.
+/// The lists of a network, of which nothing is known but that the indexes list what stands in them: a network that is taken
+/// apart to be changed. Contracts see the lists alone.
 #[derive(Drop)]
 pub struct Parts {
     pub links: Vec<Link>,
     pub routes: Vec<Route>,
     pub rules: Vec<Rule>,
     pub dns: Dns,
+    indexes: Indexes,
 }
 
 impl Model for Parts {
     ghost use Rattle.net_model.specs.Lists.{NetData};
+    ghost use Rattle.net_model.specs.Indexed.{AreIndexes};
 
     ghost Value = { NetData };
 
     ghost view = { λ n. record { links = n.links.items; routes = n.routes.items; rules = n.rules.items; dns = n.dns } };
+
+    ghost invariant = { λ n. AreIndexes n.links.items n.routes.items n.indexes };
 }
 
 impl Parts {
+    /// These lists, as they stand.
+    pub fn of(
+        alloc: Global,
+        links: Vec<Link>,
+        routes: Vec<Route>,
+        rules: Vec<Rule>,
+        dns: Dns,
+    ) -> Result<Parts, OutOfMemory>
+        ensures { IfOk result (λ parts. parts ≡ net_of links.items routes.items rules.items dns) }
+    {
+        let indexes = Indexes::of(alloc, &links, &routes)?;
+        Ok(Parts {
+            links,
+            routes,
+            rules,
+            dns,
+            indexes,
+        })
+    }
+
+    /// The lists of the network without links. It takes no memory.
+    pub fn empty(alloc: Global) -> Parts
+        ensures { result ≡ net_of [] [] [] no_dns }
+    {
+        Parts {
+            links: Vec::new(alloc),
+            routes: Vec::new(alloc),
+            rules: Vec::new(alloc),
+            dns: Dns {
+                servers: Items::of(Vec::new(alloc)),
+                search: Items::of(Vec::new(alloc)),
+            },
+            indexes: Indexes::new(alloc),
+        }
+    }
+
     /// Whether the lists are in order, as those of a network are: links by name, addresses, routes by destination, table
     /// and metric, and rules by all their fields.
     pub fn is_in_order(&self) -> bool
@@ -74,12 +131,165 @@ impl Parts {
     pub(crate) fn copy(&self) -> Result<Parts, OutOfMemory>
         ensures { IfOk result (λ parts. parts ≡ self.now) }
     {
-        Ok(Parts {
-            links: copy_links(&self.links)?,
-            routes: copy_routes(&self.routes)?,
-            rules: copy_rules(&self.rules)?,
-            dns: self.dns.copy()?,
-        })
+        let alloc = *self.links.allocator();
+        Parts::of(
+            alloc,
+            copy_links(&self.links)?,
+            copy_routes(&self.routes)?,
+            copy_rules(&self.rules)?,
+            self.dns.copy()?,
+        )
+    }
+
+    /// The names of the VLANs directly over a base, in the order of the links. It takes no memory.
+    pub fn over(&self, base: &Name) -> &[Name]
+        ensures names { result.now ≡ over self.now.links base.now }
+        ensures sorted { rises link_cmp self.now.links ≡ true → rises name_cmp result.now ≡ true }
+    {
+        self.indexes.over.at(base)
+    }
+
+    /// The names of the ports of a controller, in the order of the links. It takes no memory.
+    pub fn ports_of(&self, controller: &Name) -> &[Name]
+        ensures names { result.now ≡ ports_of self.now.links controller.now }
+        ensures sorted { rises link_cmp self.now.links ≡ true → rises name_cmp result.now ≡ true }
+    {
+        self.indexes.ports.at(controller)
+    }
+
+    /// The keys of the routes of a device, in the order of the routes. It takes no memory.
+    pub fn routes_of(&self, dev: &Name) -> &[RouteKey]
+        ensures keys { result.now ≡ routes_of self.now.routes dev.now }
+        ensures sorted { rises route_cmp self.now.routes ≡ true → rises key_cmp result.now ≡ true }
+    {
+        self.indexes.routes.at(dev)
+    }
+
+    /// Puts a link into its place whose name none has and that has no controller. What has to grow grows before the first
+    /// change.
+    pub fn put_link(&mut self, link: Link) -> Result<(), OutOfMemory>
+        requires in_order { rises link_cmp self.old.links ≡ true }
+        requires new { find_link link.name self.old.links ≡ None }
+        requires free { link.controller ≡ None }
+        ensures ok { OnOk result (self.new ≡ record self.old { links = put link_cmp link self.old.links }) }
+        ensures err { OnErr result (self.new ≡ self.old) }
+    {
+        self.links.reserve(1)?;
+        put_vlan(&mut self.indexes.over, &link)?;
+        insert_link(&mut self.links, link);
+        Ok(())
+    }
+
+    /// Puts both ends of a pair of veths into their places, of names that none has, without controllers, or neither. What has
+    /// to grow grows before the first change.
+    pub fn put_pair(&mut self, first: Link, second: Link) -> Result<(), OutOfMemory>
+        requires in_order { rises link_cmp self.old.links ≡ true }
+        requires first_new { find_link first.name self.old.links ≡ None }
+        requires second_new { find_link second.name self.old.links ≡ None }
+        requires differ { same_bytes first.name second.name ≡ false }
+        requires first_end { first.kind ≡ Veth second.name }
+        requires second_end { second.kind ≡ Veth first.name }
+        requires first_free { first.controller ≡ None }
+        requires second_free { second.controller ≡ None }
+        ensures ok { OnOk result (self.new ≡ record self.old { links = put link_cmp second (put link_cmp first self.old.links) }) }
+        ensures err { OnErr result (self.new ≡ self.old) }
+    {
+        self.links.reserve(2)?;
+        insert_link(&mut self.links, first);
+        insert_link(&mut self.links, second);
+        Ok(())
+    }
+
+    /// Makes a link that is there and has no controller a port. What has to grow grows before the first change.
+    pub fn attach(&mut self, port: &Name, controller: &Name) -> Result<(), OutOfMemory>
+        requires in_order { rises link_cmp self.old.links ≡ true }
+        requires there { is_some (find_link port.now self.old.links) ≡ true }
+        requires free { named_passes (λ p. is_some p.controller) self.old.links port.now ≡ false }
+        ensures ok { OnOk result (self.new ≡ record self.old { links = edit_link port.now (attached controller.now) self.old.links }) }
+        ensures err { OnErr result (self.new ≡ self.old) }
+    {
+        put_name(&mut self.indexes.ports, controller, port)?;
+        attach_named(&mut self.links, port, controller);
+        Ok(())
+    }
+
+    /// Detaches a port, which is then no bond's primary. It takes no memory.
+    pub fn detach(&mut self, port: &Name)
+        requires { rises link_cmp self.old.links ≡ true }
+        ensures { self.new ≡ record self.old { links = map (detached port.now) self.old.links } }
+    {
+        leave_out_port(&mut self.indexes.ports, &self.links, port);
+        detach_named(&mut self.links, port);
+    }
+
+    /// Changes the link of a name, where it is there, in what no index reads: all but its name, its kind and its controller.
+    /// It takes no memory.
+    pub fn change_link<F: FnOnce(&mut Link)>(&mut self, name: &Name, change: F)
+        requires in_order { rises link_cmp self.old.links ≡ true }
+        requires callable { F.IsAlwaysCallable change }
+        requires keeps { Keeps (λ l m. FnOnceReturnsAtMut F.FnOnce change l tt m) }
+        ensures { EditsNamed (λ l m. FnOnceReturnsAtMut F.FnOnce change l tt m) name.now self.old self.new }
+    {
+        change_named(&mut self.links, name, change);
+    }
+
+    /// Takes out the links of these names, which are sorted, and the routes over them. What had one as its controller has none
+    /// then, and what had one as its primary neither. It takes no memory.
+    pub fn remove_links(&mut self, goes: &[Name])
+        requires in_order { rises link_cmp self.old.links ≡ true }
+        requires names { rises name_cmp goes.now ≡ true }
+        ensures { self.new ≡ without (is_among goes.now) self.old }
+    {
+        leave_out_vlans(&mut self.indexes.over, &self.links, goes);
+        leave_out_ports(&mut self.indexes.ports, &self.links, goes);
+        self.indexes.ports.clear_all(goes);
+        remove_links(&mut self.links, goes);
+        self.remove_routes_of(goes);
+    }
+
+    /// Puts a route into its place whose key none has. What has to grow grows before the first change.
+    pub fn put_route(&mut self, route: Route) -> Result<(), OutOfMemory>
+        requires in_order { rises route_cmp self.old.routes ≡ true }
+        requires new { list_any (same_key route) self.old.routes ≡ false }
+        ensures ok { OnOk result (self.new ≡ record self.old { routes = put route_cmp route self.old.routes }) }
+        ensures err { OnErr result (self.new ≡ self.old) }
+    {
+        self.routes.reserve(1)?;
+        put_key(&mut self.indexes.routes, &route)?;
+        insert_route(&mut self.routes, route);
+        Ok(())
+    }
+
+    /// Takes out a route, where it is there with all its fields. It takes no memory.
+    pub fn remove_route(&mut self, route: &Route)
+        requires { rises route_cmp self.old.routes ≡ true }
+        ensures { self.new ≡ record self.old { routes = filter (λ r. not (same_route route.now r)) self.old.routes } }
+    {
+        if let Some(i) = position_of(&self.routes, route) {
+            leave_out_key(&mut self.indexes.routes, route);
+            self.routes.remove(i);
+        }
+    }
+
+    /// Takes out the routes of the devices of these names, which are sorted. It takes no memory.
+    pub fn remove_routes_of(&mut self, devs: &[Name])
+        requires { rises name_cmp devs.now ≡ true }
+        ensures { self.new ≡ record self.old { routes = filter (λ r. not (is_among devs.now r.dev)) self.old.routes } }
+    {
+        self.indexes.routes.clear_all(devs);
+        remove_routes(&mut self.routes, devs);
+    }
+
+    /// Takes out the routes of a device whose gateway isn't on-link there. It takes no memory.
+    pub fn keep_on_link(&mut self, dev: &Name)
+        requires links { rises link_cmp self.old.links ≡ true }
+        requires routes { rises route_cmp self.old.routes ≡ true }
+        ensures { self.new ≡ record self.old { routes = filter (stays_on_link dev.now self.old.links) self.old.routes } }
+    {
+        self.indexes
+            .routes
+            .keep_on_link(&self.links, &self.routes, dev);
+        keep_on_link(&mut self.routes, &self.links, dev);
     }
 }
 
@@ -99,103 +309,4 @@ fn copy_rules(rules: &Vec<Rule>) -> Result<Vec<Rule>, AllocError>
     ensures { IfOk result (λ copy. copy.items ≡ rules.now.items) }
 {
     rules.clone()
-}
-
-fn sort_addresses(addrs: &mut Vec<Prefix>) -> Result<(), AllocError>
-    ensures sorted { OnOk result (IsSorted block_cmp addrs.new.items) }
-    ensures moved { IsPermutation addrs.old.items addrs.new.items }
-{
-    addrs.sort()
-}
-
-fn sorted_addresses(addrs: Items<Prefix>) -> Result<Items<Prefix>, AllocError>
-    ensures { IfOk result (λ in_order. in_order ≡ sorted block_cmp addrs) }
-{
-    let mut addrs = addrs.into_vec();
-    sort_addresses(&mut addrs)?;
-    Ok(Items::of(addrs))
-}
-
-fn arranged(link: Link) -> Result<Link, AllocError>
-    ensures { IfOk result (λ l. l ≡ arranged link) }
-{
-    let Link {
-        name,
-        kind,
-        up,
-        mtu,
-        mac,
-        controller,
-        bond,
-        bridge,
-        port,
-        addrs,
-    } = link;
-    let addrs = sorted_addresses(addrs)?;
-    Ok(Link {
-        name,
-        kind,
-        up,
-        mtu,
-        mac,
-        controller,
-        bond,
-        bridge,
-        port,
-        addrs,
-    })
-}
-
-// The links, each with its addresses in order.
-fn each_arranged(alloc: Global, links: Vec<Link>) -> Result<Vec<Link>, AllocError>
-    ensures { IfOk result (λ done. done.items ≡ map arranged links.items) }
-{
-    let mut done = Vec::new(alloc);
-    for link in links {
-        done.push(arranged(link)?)?;
-    }
-    Ok(done)
-}
-
-fn sort_links(links: &mut Vec<Link>) -> Result<(), AllocError>
-    ensures sorted { OnOk result (IsSorted link_cmp links.new.items) }
-    ensures moved { IsPermutation links.old.items links.new.items }
-{
-    links.sort_by_key(|link| link.name)
-}
-
-fn sort_routes(routes: &mut Vec<Route>) -> Result<(), AllocError>
-    ensures sorted { OnOk result (IsSorted route_cmp routes.new.items) }
-    ensures moved { IsPermutation routes.old.items routes.new.items }
-{
-    routes.sort_by_key(|route| (route.dest, route.table, route.metric))
-}
-
-fn sort_rules(rules: &mut Vec<Rule>) -> Result<(), AllocError>
-    ensures sorted { OnOk result (IsSorted rule_cmp rules.new.items) }
-    ensures moved { IsPermutation rules.old.items rules.new.items }
-{
-    rules.sort()
-}
-
-// The lists, each sorted, but for those of DNS.
-pub(crate) fn sorted_parts(
-    alloc: Global,
-    links: Vec<Link>,
-    mut routes: Vec<Route>,
-    mut rules: Vec<Rule>,
-    dns: Dns,
-) -> Result<Parts, AllocError>
-    ensures { IfOk result (λ parts. IsSorting (net_of links.items routes.items rules.items dns) parts) }
-{
-    let mut links = each_arranged(alloc, links)?;
-    sort_links(&mut links)?;
-    sort_routes(&mut routes)?;
-    sort_rules(&mut rules)?;
-    Ok(Parts {
-        links,
-        routes,
-        rules,
-        dns,
-    })
 }

@@ -30,6 +30,14 @@ fn kind(word: &str, other: &str) -> Option<Kind> {
     }
 }
 
+// The VLAN with this number.
+fn with_id(kind: &Kind, id: VlanId) -> Option<Kind> {
+    match *kind {
+        Kind::Vlan { base, proto, .. } => Some(Kind::Vlan { base, id, proto }),
+        _ => None,
+    }
+}
+
 // So many addresses, each with a number of its own.
 fn addresses(alloc: Global, count: u32) -> Option<Vec<Prefix>> {
     let mut addrs = Vec::new(alloc);
@@ -58,6 +66,7 @@ fn link(alloc: Global, name: Name, kind: Kind) -> Link {
 fn set(alloc: Global, link: &mut Link, key: &str, value: &str) -> Option<()> {
     match key {
         "down" => link.up = false,
+        "id" => link.kind = with_id(&link.kind, VlanId::of(number(value)?.try_into().ok()?)?)?,
         "mtu" => link.mtu = number(value)?,
         "controller" => link.controller = Some(name(value)?),
         "address" => link.addrs.push(prefix(value)?).ok()?,

@@ -4,9 +4,9 @@ use crate::lists::{Lists, rule};
 use crate::reading::{addr, first_word, name, number, prefix};
 use base_model::push_decimal;
 use net_model::{
-    Addr, Dns, Items, Link, Mac, Net, Parts, Position, Rule, Subnet, TableId, bridge_in_range,
-    can_be_base, is_bond, is_bridge, is_default_bond, is_default_bridge, is_default_port,
-    is_ethernet, is_on_link, mtu_in_range, port_in_range, takes,
+    Addr, Dns, Items, Link, Mac, Name, Net, Parts, Position, RouteKey, Rule, Subnet, TableId,
+    bridge_in_range, can_be_base, is_bond, is_bridge, is_default_bond, is_default_bridge,
+    is_default_port, is_ethernet, is_on_link, mtu_in_range, port_in_range, takes,
 };
 use net_search::{find_address, find_route};
 use net_text::{write_addr, write_mac, write_prefix};
@@ -67,6 +67,40 @@ fn priorities(alloc: Global, rules: &[Rule]) -> Option<Vec<u8>> {
     Some(out)
 }
 
+// The names, or `none` where there are none.
+fn names(alloc: Global, names: &[Name]) -> Option<Vec<u8>> {
+    if names.is_empty() {
+        return text(alloc, "none");
+    }
+    let mut out = Vec::new(alloc);
+    for (at, name) in names.iter().enumerate() {
+        if at > 0 {
+            out.push(b' ').ok()?;
+        }
+        out.extend_from_slice(name.as_bytes()).ok()?;
+    }
+    Some(out)
+}
+
+// Destination, table and metric of each key, or `none` where there are none.
+fn keys(alloc: Global, keys: &[RouteKey]) -> Option<Vec<u8>> {
+    if keys.is_empty() {
+        return text(alloc, "none");
+    }
+    let mut out = Vec::new(alloc);
+    for (at, key) in keys.iter().enumerate() {
+        if at > 0 {
+            out.extend_from_slice(b"; ").ok()?;
+        }
+        write_prefix(&key.dest.prefix(), &mut out).ok()?;
+        out.push(b' ').ok()?;
+        push_decimal(key.table.id(), &mut out).ok()?;
+        out.push(b' ').ok()?;
+        push_decimal(key.metric, &mut out).ok()?;
+    }
+    Some(out)
+}
+
 // The MAC address of a virtual link of this name.
 fn mac(alloc: Global, word: &str) -> Option<Vec<u8>> {
     let mut out = Vec::new(alloc);
@@ -117,6 +151,9 @@ pub fn asked(alloc: Global, net: &Net, question: &str) -> Option<Vec<u8>> {
         "has-link" => flag(alloc, net.has_link(&name(rest)?)),
         "link-position" => place(alloc, net.link_position(&name(rest)?)),
         "rule-position" => place(alloc, net.rule_position(&rule(number(rest)?))),
+        "over" => names(alloc, net.over(&name(rest)?)),
+        "ports-of" => names(alloc, net.ports_of(&name(rest)?)),
+        "routes-of" => keys(alloc, net.routes_of(&name(rest)?)),
         "route" => route(alloc, net, rest),
         "address" => address(alloc, net, rest),
         "mac" => mac(alloc, rest),
@@ -139,12 +176,7 @@ pub fn stored(alloc: Global, lists: Lists) -> Option<Vec<u8>> {
         servers: Items::of(servers),
         search: Items::of(domains),
     };
-    let parts = Parts {
-        links,
-        routes,
-        rules,
-        dns,
-    };
+    let parts = Parts::of(alloc, links, routes, rules, dns).ok()?;
     match Net::of_parts(alloc, parts).ok()? {
         Some(_) => text(alloc, "a network"),
         None => text(alloc, "none"),

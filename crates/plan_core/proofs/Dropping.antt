@@ -16,8 +16,8 @@ use Rattle.net_model.specs.declared.call.Call.{Call}
 use Rattle.net_model.specs.declared.call.Call.TheVariants.{DelRule, DelRoute, DelAddress, SetDns}
 use Rattle.net_model.proofs.lemmas.FactsHold.{facts}
 use Rattle.net_model.proofs.lemmas.Found.{one_name}
-use Rattle.kernel_model.specs.Addresses.{has_block, without_address, stays_on_link}
-use Rattle.kernel_model.specs.Routes.{same_route}
+use Rattle.kernel_model.specs.Addresses.{has_block, without_address}
+use Rattle.net_model.specs.Edits.{stays_on_link, same_route}
 use Rattle.kernel_model.specs.Kernel.{step, after}
 use Rattle.kernel_laws.specs.Frames.{Leads}
 use Rattle.kernel_laws.proofs.lemmas.Leading.{has_frame}

@@ -12,7 +12,7 @@ use Rattle.net_model.specs.declared.route.Route.{Route}
 use Rattle.net_model.proofs.lemmas.Same.{same_address_exact, same_block_exact, same_rule_exact}
 use Rattle.net_model.proofs.lemmas.Found.{one_name, itself}
 use Rattle.net_model.proofs.lemmas.Truth.{and_left, and_right, and_both, not_true}
-use Rattle.kernel_model.specs.Routes.{same_route}
+use Rattle.net_model.specs.Edits.{same_route}
 use Rattle.plan_core.proofs.Places.{none_less}
 
 number : (a b : ℕ) → (a == b) ≡ true → a ≡ b

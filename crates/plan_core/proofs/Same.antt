@@ -9,7 +9,7 @@ use Rattle.net_model.specs.NetData.{NetData, IsNet}
 use Rattle.net_model.specs.declared.link.Link.{Link}
 use Rattle.net_model.proofs.lemmas.FactsHold.{facts}
 use Rattle.net_model.proofs.lemmas.SameLists.{same_links, same_addresses, same_routes, same_rules}
-use Rattle.kernel_model.specs.Routes.{same_route}
+use Rattle.net_model.specs.Edits.{same_route}
 use Rattle.link_planner.specs.LinkPlans.{without_addrs, ReachesLinks}
 use Rattle.plan_core.specs.Parts.{HasAddress, HasRoute, HasRule, IsPartOf}
 use Rattle.plan_core.proofs.Members.{same_found}

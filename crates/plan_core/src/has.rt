@@ -5,7 +5,7 @@ ghost use Rattle.net_model.specs.Words.{rises};
 ghost use Rattle.net_model.specs.Order.{block_cmp};
 ghost use Rattle.net_model.specs.Valid.{addresses_differ, same_block, same_rule};
 ghost use Rattle.kernel_model.specs.Addresses.{has_block};
-ghost use Rattle.kernel_model.specs.Routes.{same_route};
+ghost use Rattle.net_model.specs.Edits.{same_route};
 ghost use Rattle.plan_model.specs.Undisturbed.{has_route};
 ghost use Rattle.plan_core.specs.Parts.{has_address};
 

@@ -9,7 +9,7 @@ use Rattle.net_model.specs.declared.link.Link.{Link}
 use Rattle.net_model.proofs.lemmas.Found.{one_name}
 use Rattle.net_model.proofs.lemmas.Grounded.{found_named}
 use Rattle.net_model.proofs.lemmas.Changes.{all_mapped}
-use Rattle.kernel_model.specs.Words.{changed}
+use Rattle.net_model.specs.Edits.{changed}
 
 pub changed_at : (name : List ℕ) (g : Link → Link) (l : Link) → is_named name l ≡ true → changed name g l ≡ g l
 changed_at name g l h = rw h refl

@@ -10,7 +10,7 @@ use Rattle.net_model.specs.Valid.{names_differ}
 use Rattle.net_model.specs.declared.link.Link.{Link}
 use Rattle.net_model.proofs.lemmas.Truth.{and_left, and_right, not_true, or_left_false, or_right_false}
 use Rattle.net_model.proofs.lemmas.Found.{one_name}
-use Rattle.kernel_model.specs.Words.{changed, edit_link}
+use Rattle.net_model.specs.Edits.{changed, edit_link}
 use Rattle.kernel_laws.proofs.lemmas.Changed.{changed_at, changed_off}
 
 -- one that passes at some place

@@ -7,6 +7,7 @@ use Rattle.call_journal.specs.Replay.{replayed}
 use Rattle.call_journal.specs.Area.{slot_at, slot_of}
 use Rattle.call_journal.proofs.lemmas.Slots.{journaled_held, gate_held, full_held, bad_journal, cut_journal}
 use Rattle.disk_host.proofs.SlotReads.{all_there, slot_size, journal_is}
+use Rattle.disk_host.proofs.Twice.{untouched_twice}
 use Rattle.disk_host.proofs.read.read_journal.Goals as goal
 
 -- the read of the journal, at its place in the area
@@ -103,3 +104,26 @@ returns-clause-held g c = λ tells.
     let whole : c.deref.result.now ≡ drop from slot = c.deref.ensures.value ∙ take_at c.read_at.new.buf _ _ (omega (arith, c.deref_mut.ensures.len)) ∙ journal_is c.args.second from there c.in_ok-filled.filled area c.deref_mut.result.now c.read_at.new.buf le has.inside many long filled in
     let all : replayed image (drop from slot) ≡ Some (c.replay.new.net, c.in-Ok-replay.end) = ap (replayed image) (sym whole) ∙ c.in-Ok-replay.ensures.replayed in
     journaled_held slot n first image has ∙ full_held first from c.in-Ok-replay.end slot image c.replay.new.net all (omega (arith, c.if-end-there.false, size)) (omega (arith, c.if-there-room.false, size, many, le))
+
+-- ---- what is touched
+
+pub returns-in_err-filled-clause-untouched : goal.returns-in_err-filled-clause-untouched
+returns-in_err-filled-clause-untouched g c = untouched_twice g.D.Disk.tells (g.D.Disk.told c.args.disk.now) (g.D.Disk.told c.size.new.self) (g.D.Disk.told c.read_at.new.self) c.size.ensures.untouched c.read_at.ensures.untouched
+
+pub returns-then-filled-there-clause-untouched : goal.returns-then-filled-there-clause-untouched
+returns-then-filled-there-clause-untouched g c = untouched_twice g.D.Disk.tells (g.D.Disk.told c.args.disk.now) (g.D.Disk.told c.size.new.self) (g.D.Disk.told c.read_at.new.self) c.size.ensures.untouched c.read_at.ensures.untouched
+
+pub returns-in-Err-Bad-clause-untouched : goal.returns-in-Err-Bad-clause-untouched
+returns-in-Err-Bad-clause-untouched g c = untouched_twice g.D.Disk.tells (g.D.Disk.told c.args.disk.now) (g.D.Disk.told c.size.new.self) (g.D.Disk.told c.read_at.new.self) c.size.ensures.untouched c.read_at.ensures.untouched
+
+pub returns-in-Err-OutOfMemory-clause-untouched : goal.returns-in-Err-OutOfMemory-clause-untouched
+returns-in-Err-OutOfMemory-clause-untouched g c = untouched_twice g.D.Disk.tells (g.D.Disk.told c.args.disk.now) (g.D.Disk.told c.size.new.self) (g.D.Disk.told c.read_at.new.self) c.size.ensures.untouched c.read_at.ensures.untouched
+
+pub returns-then-end-there-clause-untouched : goal.returns-then-end-there-clause-untouched
+returns-then-end-there-clause-untouched g c = untouched_twice g.D.Disk.tells (g.D.Disk.told c.args.disk.now) (g.D.Disk.told c.size.new.self) (g.D.Disk.told c.read_at.new.self) c.size.ensures.untouched c.read_at.ensures.untouched
+
+pub returns-then-there-room-clause-untouched : goal.returns-then-there-room-clause-untouched
+returns-then-there-room-clause-untouched g c = untouched_twice g.D.Disk.tells (g.D.Disk.told c.args.disk.now) (g.D.Disk.told c.size.new.self) (g.D.Disk.told c.read_at.new.self) c.size.ensures.untouched c.read_at.ensures.untouched
+
+pub returns-clause-untouched : goal.returns-clause-untouched
+returns-clause-untouched g c = untouched_twice g.D.Disk.tells (g.D.Disk.told c.args.disk.now) (g.D.Disk.told c.size.new.self) (g.D.Disk.told c.read_at.new.self) c.size.ensures.untouched c.read_at.ensures.untouched

@@ -5,7 +5,7 @@ use Rattle.net_model.specs.Address.{Block}
 use Rattle.net_model.specs.declared.link.Link.{Link}
 use Rattle.net_model.proofs.lemmas.Found.{names_differ-rises}
 use Rattle.net_model.proofs.lemmas.Maps.{rises_map}
-use Rattle.kernel_model.specs.Words.{changed, edit_link}
+use Rattle.net_model.specs.Edits.{changed, edit_link}
 use Rattle.kernel_model.specs.Addresses.{without_address}
 use Rattle.kernel_laws.proofs.lemmas.Changed.{changed_keeps}
 use Rattle.kernel_laws.proofs.lemmas.InPlace.{set_is_edit, edit_none}

@@ -13,8 +13,7 @@ pub returns-clause-ok : goal.returns-clause-ok
 returns-clause-ok c =
     let net : NetData = c.args.parts.now in
     let root : List ℕ = c.args.name.now in
-    let names : c.deref-2.result.now ≡ hanging net.links root =
-    c.deref-2.ensures.value ∙ c.in_ok-falls.ensures.names ∙ ap (λ (ls : List Link). hanging ls root) (c.deref.ensures.value ∙ ap (λ (n : NetData). n.links) c.parts.view_is) in
+    let names : c.deref.result.now ≡ hanging net.links root = c.deref.ensures.value ∙ c.in_ok-falls.ensures.names in
     c.lower_all.ensures
     ∙ ap (λ (ns : List (List ℕ)). fallen (is_among ns) net) names
     ∙ fallen_agree (is_among (hanging net.links root)) (hangs_on net.links root) (among_hanging net.links root) net

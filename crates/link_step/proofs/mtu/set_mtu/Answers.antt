@@ -11,7 +11,6 @@ returns-clause-ok c =
     let net : NetData = c.args.parts.now in
     let root : List ℕ = c.args.name.now in
     let mtu : ℕ = c.args.mtu in
-    let names : c.deref-2.result.now ≡ hanging net.links root =
-    c.deref-2.ensures.value ∙ c.in_ok-over.ensures.names ∙ ap (λ (ls : List Link). hanging ls root) (c.deref.ensures.value ∙ ap (λ (n : NetData). n.links) c.parts.view_is) in
+    let names : c.deref.result.now ≡ hanging net.links root = c.deref.ensures.value ∙ c.in_ok-over.ensures.names in
     c.clamp_all.ensures
     ∙ ap (λ (ls : List Link). let n : NetData = record net { links = ls } in n) (ap (λ (ns : List (List ℕ)). map (clamped root mtu ns) net.links) names ∙ clamped_all net c.requires root mtu)

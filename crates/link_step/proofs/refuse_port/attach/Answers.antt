@@ -1,9 +1,9 @@
 use Rattle.std.proofs.Common.{◌≡◌, ◌∙◌, ℕ, Bool, true, false, not, ◌&&◌, List, ◌∷◌, sym, ap, refl, rules}
 use Rattle.net_model.specs.Dependence.{no_cycle}
 use Rattle.net_model.specs.declared.link.Link.{Link}
-use Rattle.kernel_model.specs.Words.{has_link, edit_link}
+use Rattle.kernel_model.specs.Words.{has_link}
+use Rattle.net_model.specs.Edits.{edit_link, attached}
 use Rattle.kernel_model.specs.Outcome.{first_true}
-use Rattle.kernel_model.specs.Ports.{attached}
 use Rattle.kernel_model.specs.declared.refusal.TheConstants.{NO_LINK, CYCLE}
 use Rattle.link_step.specs.Pairs.{pair_refusals}
 use Rattle.link_step.proofs.refuse_port.attach.Goals as goal

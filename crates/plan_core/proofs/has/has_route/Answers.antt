@@ -1,6 +1,6 @@
 use Rattle.std.proofs.Common.{◌∙◌, sym, rules}
 use Rattle.net_model.specs.Valid.{same_key}
-use Rattle.kernel_model.specs.Routes.{same_route}
+use Rattle.net_model.specs.Edits.{same_route}
 use Rattle.plan_core.proofs.Places.{none_less, as_there}
 use Rattle.plan_core.proofs.Exact.{route_key}
 use Rattle.plan_core.proofs.has.has_route.Goals as goal

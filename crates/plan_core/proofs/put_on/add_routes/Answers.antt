@@ -1,7 +1,7 @@
 use Rattle.std.proofs.Common.{arith, rules, ◌≡◌, ◌<◌, ◌≤◌, List, length, get_or, sym, ap, subst, ◌∙◌}
 use Rattle.net_model.specs.Lists.{NetData}
 use Rattle.net_model.specs.declared.route.Route.{Route}
-use Rattle.kernel_model.specs.Routes.{same_route}
+use Rattle.net_model.specs.Edits.{same_route}
 use Rattle.link_planner.specs.Drafts.{DraftData}
 use Rattle.plan_core.specs.Parts.{HasRoute}
 use Rattle.plan_core.proofs.Exact.{one_route, route_itself}

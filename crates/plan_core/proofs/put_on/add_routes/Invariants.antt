@@ -1,4 +1,4 @@
-use Rattle.kernel_model.specs.Routes.{same_route}
+use Rattle.net_model.specs.Edits.{same_route}
 use Rattle.link_planner.specs.Drafts.{DraftData}
 use Rattle.plan_core.specs.Parts.{HasRoute}
 use Rattle.plan_core.specs.Steps.{PutsOn}

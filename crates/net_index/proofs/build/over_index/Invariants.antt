@@ -1,8 +1,0 @@
-use Rattle.std.proofs.Common.{◌≡◌, ℕ, List, take}
-use Rattle.net_index.specs.Listed.{listed}
-use Rattle.net_index.specs.Indexed.{over}
-use Rattle.net_index.proofs.build.over_index.Given as goal
-
--- the lists of those so far
-abbrev pub invariant-loop-at : goal.invariant-loop-at
-invariant-loop-at l = (k : List ℕ) → listed l.index k ≡ over (take l.at l.links) k

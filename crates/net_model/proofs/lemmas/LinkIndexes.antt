@@ -1,0 +1,241 @@
+-- What edits of links do to the indexes.
+use Rattle.std.proofs.Common.{◌≡◌, ◌∙◌, ℕ, Bool, true, false, not, ◌&&◌, ◌||◌, cond, List, [], ◌∷◌, map, filter, Some, None, Option, refl, sym, ap}
+use Rattle.std.specs.Prelude.{is_some, if◌then◌else◌}
+use Rattle.std.specs.List.{list_any, find}
+use Rattle.std.specs.Option.{option_map_or}
+use Rattle.std.specs.Ordering.{is_eq}
+use Rattle.std.proofs.lemmas.Cmp.{nat_list_cmp_total}
+use Rattle.net_model.specs.Name.{same_bytes}
+use Rattle.net_model.specs.Words.{rises, put, is_among}
+use Rattle.net_model.specs.Order.{name_cmp, link_cmp}
+use Rattle.net_model.specs.Links.{is_named, is_port_of, find_link, named_passes, ports_of}
+use Rattle.net_model.specs.Dependence.{has_base}
+use Rattle.net_model.specs.declared.link.Link.{Link}
+use Rattle.net_model.specs.declared.link.Kind.{Kind}
+use Rattle.net_model.specs.declared.link.Kind.TheVariants.{Vlan, Veth}
+use Rattle.net_model.specs.declared.options.Proto.{Proto}
+use Rattle.net_model.specs.declared.route.Route.{Route}
+use Rattle.net_model.proofs.lemmas.Found.{one_name, names_tie, names_differ-rises, named_passes_found}
+use Rattle.net_model.proofs.lemmas.Orders.{link_cmp_total}
+use Rattle.net_model.proofs.lemmas.ByName.{passes_as}
+use Rattle.net_model.proofs.lemmas.Maps.{rises_map}
+use Rattle.net_model.proofs.lemmas.Parts.{rises_filter}
+use Rattle.net_model.proofs.lemmas.Ports.{among_filtered}
+use Rattle.net_model.proofs.lemmas.Puts.{rises_put, find_other}
+use Rattle.net_model.specs.declared.index.Index.{Index}
+use Rattle.net_model.specs.declared.indexes.Indexes.{Indexes}
+use Rattle.net_model.specs.Listed.{Same, Puts, LeavesOut, listed}
+use Rattle.net_model.specs.Edits.{changed, edit_link, attached, let_go, detached, unless_gone, freed}
+use Rattle.net_model.specs.Indexed.{AreIndexes, over}
+use Rattle.net_model.proofs.lemmas.Listing.{keys_of, keys_map, keys_filter, keys_placed, keys_put-other, keys_rise, keys_new, keys_left, any_agree, ties_turned}
+use Rattle.net_model.proofs.lemmas.Editing.{names_edited-put, names_edited-same}
+
+-- ---- what is known of the lists of links that are strictly sorted by name
+
+-- the names of VLANs over a base are strictly sorted
+pub over_rise : (links : List Link) (k : List ℕ) → rises link_cmp links ≡ true → rises name_cmp (over links k) ≡ true
+over_rise links k up = keys_rise (λ (l : Link). l.name) (λ l. has_base l.kind k) name_cmp links up
+
+-- and so are those of the ports of a controller
+pub ports_rise : (links : List Link) (k : List ℕ) → rises link_cmp links ≡ true → rises name_cmp (ports_of links k) ≡ true
+ports_rise links k up = keys_rise (λ (l : Link). l.name) (is_port_of k) name_cmp links up
+
+not_there : {X : Type 0} (p : X → Bool) (xs : List X) → find p xs ≡ None → list_any p xs ≡ false
+not_there p [] h = refl
+not_there {X} p (x ∷ xs) h =
+    elim (p x) as (λ v. cond v (Some x) (find p xs) ≡ None → (v || list_any p xs) ≡ false) [
+      | true ↦ λ e. absurd cc
+      | false ↦ λ e. not_there p xs e
+    ] h
+
+-- whether a name is among those of the links that pass: whether the link of the name passes
+pub listed_as : (p : Link → Bool) (links : List Link) (name : List ℕ) → rises link_cmp links ≡ true → is_among (map (λ (l : Link). l.name) (filter p links)) name ≡ option_map_or p (find_link name links) false
+listed_as p links name up = among_filtered p name links ∙ named_passes_found p links name up
+
+-- the name of a link that isn't there is listed under no base
+pub new_over : (link : Link) (links : List Link) (k : List ℕ) → find_link link.name links ≡ None → list_any (λ n. is_eq (name_cmp n link.name)) (over links k) ≡ false
+new_over link links k none =
+    keys_new (λ (l : Link). l.name) (λ l. has_base l.kind k) name_cmp (λ n. is_eq (name_cmp n link.name)) links
+    (any_agree (λ l. is_eq (name_cmp l.name link.name)) (is_named link.name) (λ l. ties_turned name_cmp nat_list_cmp_total l.name link.name ∙ sym (names_tie link l)) links ∙ not_there (is_named link.name) links none)
+
+-- a link that is no VLAN has no base
+pub no_base : (kind : Kind) → ((base : List ℕ) (id : ℕ) (proto : Proto) → kind ≡ Vlan base id proto → ⊥) → (k : List ℕ) → has_base kind k ≡ false
+no_base (Vlan base id proto) none k = absurd (none base id proto refl)
+no_base _ none k = refl
+
+-- links stay sorted with one of a new name
+pub rises_new : (links : List Link) (l : Link) → rises link_cmp links ≡ true → find_link l.name links ≡ None → rises link_cmp (put link_cmp l links) ≡ true
+rises_new links l up none = rises_put link_cmp l (λ a b. is_named a.name b) link_cmp_total names_tie links up (not_there (is_named l.name) links none)
+
+-- and a name that isn't the new one's is as free as before
+pub other_new : (links : List Link) (first second : Link) → find_link second.name links ≡ None → same_bytes first.name second.name ≡ false → find_link second.name (put link_cmp first links) ≡ None
+other_new links first second none off = find_other link_cmp first (is_named second.name) off links ∙ none
+
+-- ---- the laws of edits, where the indexes are those of the lists before
+
+-- a link without a controller that is put into its place, and its name into the list of its base
+pub put_link : (link : Link) (links : List Link) (routes : List Route) (old : Indexes) (new : Index (List ℕ)) → rises link_cmp links ≡ true → link.controller ≡ None → AreIndexes links routes old
+    → Puts name_cmp link.name (has_base link.kind) (listed old.over) (listed new) → AreIndexes (put link_cmp link links) routes (record old { over = new })
+put_link link links routes old new up free is puts = record {
+  over = λ k. puts k ∙ ap (λ (ns : List (List ℕ)). if has_base link.kind k then put name_cmp link.name ns else ns) (is.over k)
+      ∙ sym (keys_placed (λ (l : Link). l.name) (λ l. has_base l.kind k) name_cmp nat_list_cmp_total link links up);
+  ports = λ k. is.ports k ∙ sym (keys_put-other (λ (l : Link). l.name) (is_port_of k) link_cmp link (ap (λ o. option_map_or (λ c. same_bytes c k) o false) free) links);
+  by_dev = is.by_dev;
+}
+
+-- a veth without a controller that is put into its place
+pub put_end : (link : Link) (peer : List ℕ) (links : List Link) (routes : List Route) (indexes : Indexes) → link.kind ≡ Veth peer → link.controller ≡ None → AreIndexes links routes indexes → AreIndexes (put link_cmp link links) routes indexes
+put_end link peer links routes indexes end free is = record {
+  over = λ k. is.over k ∙ sym (keys_put-other (λ (l : Link). l.name) (λ l. has_base l.kind k) link_cmp link (ap (λ (kind : Kind). has_base kind k) end) links);
+  ports = λ k. is.ports k ∙ sym (keys_put-other (λ (l : Link). l.name) (is_port_of k) link_cmp link (ap (λ o. option_map_or (λ c. same_bytes c k) o false) free) links);
+  by_dev = is.by_dev;
+}
+
+-- a list of bases that has grown without a change
+pub same_over : (links : List Link) (routes : List Route) (old : Indexes) (new : Index (List ℕ)) → AreIndexes links routes old → Same (listed old.over) (listed new) → AreIndexes links routes (record old { over = new })
+same_over links routes old new is same = record { over = λ k. same k ∙ is.over k; ports = is.ports; by_dev = is.by_dev }
+
+-- a list of controllers that has grown without a change
+pub same_ports : (links : List Link) (routes : List Route) (old : Indexes) (new : Index (List ℕ)) → AreIndexes links routes old → Same (listed old.ports) (listed new) → AreIndexes links routes (record old { ports = new })
+same_ports links routes old new is same = record { over = is.over; ports = λ k. same k ∙ is.ports k; by_dev = is.by_dev }
+
+-- the link of a name that is there
+pub some_link : (o : Option Link) → is_some o ≡ true → (l : Link) × (o ≡ Some l)
+some_link None h = absurd cc
+some_link (Some l) h = (l, refl)
+
+no_name : (o : Option (List ℕ)) → is_some o ≡ false → o ≡ None
+no_name None h = refl
+no_name (Some name) h = absurd cc
+
+-- the link found has no controller where none passes under its name that has one
+pub found_free : (links : List Link) (port : List ℕ) (l : Link) → rises link_cmp links ≡ true → find_link port links ≡ Some l → named_passes (λ p. is_some p.controller) links port ≡ false → l.controller ≡ None
+found_free links port l up found free = no_name l.controller (sym (passes_as (λ p. is_some p.controller) links port l (names_differ-rises links up) found) ∙ free)
+
+-- so it is no port
+pub no_port : (l : Link) (k : List ℕ) → l.controller ≡ None → is_port_of k l ≡ false
+no_port l k free = ap (λ o. option_map_or (λ c. same_bytes c k) o false) free
+
+-- a link that gets a controller, and its name that is put into the controller's list
+pub attached_port : (port controller : List ℕ) (l : Link) (links : List Link) (routes : List Route) (old : Indexes) (new : Index (List ℕ))
+    → rises link_cmp links ≡ true → find_link port links ≡ Some l → l.controller ≡ None → AreIndexes links routes old
+    → Puts name_cmp port (same_bytes controller) (listed old.ports) (listed new)
+    → AreIndexes (edit_link port (attached controller) links) routes (record old { ports = new })
+attached_port port controller l links routes old new up found free is puts = record {
+  over = λ k. is.over k ∙ sym (names_edited-same port (attached controller) (λ m. refl) (λ m. has_base m.kind k) l refl links up found);
+  ports = λ k. puts k ∙ ap (λ (ns : List (List ℕ)). if same_bytes controller k then put name_cmp port ns else ns) (is.ports k) ∙ sym (listed_then k);
+  by_dev = is.by_dev;
+}
+  where
+    listed_then : (k : List ℕ) → ports_of (edit_link port (attached controller) links) k ≡ (if same_bytes controller k then put name_cmp port (ports_of links k) else ports_of links k)
+    listed_then k = elim (same_bytes controller k) as (λ v. same_bytes controller k ≡ v → ports_of (edit_link port (attached controller) links) k ≡ (if v then put name_cmp port (ports_of links k) else ports_of links k)) [
+      | true ↦ λ e. names_edited-put port (attached controller) (λ m. refl) (is_port_of k) l (no_port l k free) e links up found
+      | false ↦ λ e. names_edited-same port (attached controller) (λ m. refl) (is_port_of k) l (e ∙ sym (no_port l k free)) links up found
+    ] refl
+
+-- a change of each link that keeps name, kind and controller
+module _ (f : Link → Link) (name : (l : Link) → (f l).name ≡ l.name) (kind : (l : Link) → (f l).kind ≡ l.kind) where
+  -- the VLANs over a base stay where names and kinds do
+  over_map : (links : List Link) (k : List ℕ) → over (map f links) k ≡ over links k
+  over_map links k = keys_map (λ (l : Link). l.name) (λ l. has_base l.kind k) f name (λ l. ap (λ (o : Kind). has_base o k) (kind l)) links
+
+  -- and the indexes are those of the links after it
+  pub kept_map : ((l : Link) → (f l).controller ≡ l.controller) → (links : List Link) (routes : List Route) (indexes : Indexes) → AreIndexes links routes indexes → AreIndexes (map f links) routes indexes
+  kept_map controller links routes indexes is = record {
+    over = λ k. is.over k ∙ sym (over_map links k);
+    ports = λ k. is.ports k ∙ sym (keys_map (λ (l : Link). l.name) (is_port_of k) f name (λ l. ap (λ o. option_map_or (λ c. same_bytes c k) o false) (controller l)) links);
+    by_dev = is.by_dev;
+  }
+
+-- what a change of the named link keeps, the change keeps of each
+changed_keeps : {X : Type 0} (get : Link → X) (name : List ℕ) (g : Link → Link) → ((l : Link) → get (g l) ≡ get l) → (l : Link) → get (changed name g l) ≡ get l
+changed_keeps get name g same l = elim (is_named name l) as (λ v. get (if v then g l else l) ≡ get l) [ true ↦ same l | false ↦ refl ]
+
+-- a change of the named link alone that keeps name, kind and controller leaves the indexes as they are
+pub kept_edit : (name : List ℕ) (g : Link → Link) → ((l : Link) → (g l).name ≡ l.name) → ((l : Link) → (g l).kind ≡ l.kind) → ((l : Link) → (g l).controller ≡ l.controller)
+    → (links : List Link) (routes : List Route) (indexes : Indexes) → AreIndexes links routes indexes → AreIndexes (edit_link name g links) routes indexes
+kept_edit name g names kinds controllers =
+    kept_map (changed name g) (changed_keeps (λ l. l.name) name g names) (changed_keeps (λ l. l.kind) name g kinds) (changed_keeps (λ l. l.controller) name g controllers)
+
+-- a port that is detached, and its name that is taken out of all lists of controllers
+pub detached_port : (port : List ℕ) (links : List Link) (routes : List Route) (old : Indexes) (new : Index (List ℕ)) → AreIndexes links routes old → LeavesOut port (listed old.ports) (listed new)
+    → AreIndexes (map (detached port) links) routes (record old { ports = new })
+detached_port port links routes old new is leaves = record {
+  over = λ k. is.over k ∙ sym (over_map (detached port) name kind links k);
+  ports = λ k. leaves k ∙ ap (filter (λ n. not (same_bytes n port))) (is.ports k) ∙ sym (keys_left (λ (l : Link). l.name) (is_port_of k) (detached port) (λ n. not (same_bytes n port)) name (test k) links);
+  by_dev = is.by_dev;
+}
+  where
+    name : (l : Link) → (detached port l).name ≡ l.name
+    name l = changed_keeps (λ k. k.name) port let_go (λ k. refl) l
+
+    kind : (l : Link) → (detached port l).kind ≡ l.kind
+    kind l = changed_keeps (λ k. k.kind) port let_go (λ k. refl) l
+
+    and_false : (b : Bool) → false ≡ (b && false)
+    and_false true = refl
+    and_false false = refl
+
+    and_true : (b : Bool) → b ≡ (b && true)
+    and_true true = refl
+    and_true false = refl
+
+    test : (k : List ℕ) (l : Link) → is_port_of k (detached port l) ≡ (is_port_of k l && not (same_bytes l.name port))
+    test k l = elim (same_bytes l.name port) as (λ v. option_map_or (λ c. same_bytes c k) (if v then let_go l else l).controller false ≡ (is_port_of k l && not v)) [
+      | true ↦ and_false (is_port_of k l)
+      | false ↦ and_true (is_port_of k l)
+    ]
+
+-- links that go, whose names are taken out of all lists, and whose own lists of ports are emptied
+module _ (goes : List ℕ → Bool) where
+  differs : (c k : List ℕ) → goes c ≡ not (goes k) → same_bytes c k ≡ false
+  differs c k other = elim (same_bytes c k) as (λ v. same_bytes c k ≡ v → v ≡ false) [
+    | true ↦ λ e. absurd (never (goes k) (sym (ap goes (one_name c k e)) ∙ other))
+    | false ↦ λ e. refl
+  ] refl
+    where
+      never : (b : Bool) → b ≡ not b → ⊥
+      never true h = cc
+      never false h = cc
+
+  -- no link has one that goes as its controller then
+  none_left : (k : List ℕ) → goes k ≡ true → (o : Option (List ℕ)) → option_map_or (λ c. same_bytes c k) (unless_gone goes o) false ≡ false
+  none_left k gone None = refl
+  none_left k gone (Some c) = elim (goes c) as (λ v. goes c ≡ v → option_map_or (λ c. same_bytes c k) (if v then None else Some c) false ≡ false) [
+    | true ↦ λ e. refl
+    | false ↦ λ e. differs c k (e ∙ sym (ap not gone))
+  ] refl
+
+  -- and one that stays has the ports that it had
+  all_left : (k : List ℕ) → goes k ≡ false → (o : Option (List ℕ)) → option_map_or (λ c. same_bytes c k) (unless_gone goes o) false ≡ option_map_or (λ c. same_bytes c k) o false
+  all_left k stays None = refl
+  all_left k stays (Some c) = elim (goes c) as (λ v. goes c ≡ v → option_map_or (λ c. same_bytes c k) (if v then None else Some c) false ≡ same_bytes c k) [
+    | true ↦ λ e. sym (differs c k (e ∙ sym (ap not stays)))
+    | false ↦ λ e. refl
+  ] refl
+
+  no_keys : {X Y : Type 0} (key : X → Y) (p : X → Bool) (f : X → X) → ((x : X) → p (f x) ≡ false) → (xs : List X) → keys_of key p (map f xs) ≡ []
+  no_keys key p f off [] = refl
+  no_keys key p f off (x ∷ xs) = rw (off x) (no_keys key p f off xs)
+
+  -- the indexes are those of the links that stay
+  pub removed_links : (links : List Link) (routes : List Route) (old : Indexes) (vlans left ports : Index (List ℕ)) → AreIndexes links routes old
+      → ((k : List ℕ) → listed vlans k ≡ filter (λ n. not (goes n)) (over links k)) → ((k : List ℕ) → listed left k ≡ filter (λ n. not (goes n)) (ports_of links k))
+      → ((k : List ℕ) → listed ports k ≡ (if goes k then [] else listed left k))
+      → AreIndexes (map (freed goes) (filter (λ l. not (goes l.name)) links)) routes (record old { over = vlans; ports = ports })
+  removed_links links routes old vlans left ports is of_bases of_controllers emptied = record {
+    over = λ k. of_bases k ∙ sym (over_map (freed goes) (λ l. refl) (λ l. refl) rest k ∙ keys_filter (λ (l : Link). l.name) (λ l. has_base l.kind k) (λ n. not (goes n)) links);
+    ports = λ k. elim (goes k) as (λ v. goes k ≡ v → listed ports k ≡ (if v then [] else listed left k) → listed ports k ≡ ports_of (map (freed goes) rest) k) [
+      | true ↦ λ e h. h ∙ sym (no_keys (λ (l : Link). l.name) (is_port_of k) (freed goes) (λ l. none_left k e l.controller) rest)
+      | false ↦ λ e h. h ∙ of_controllers k
+          ∙ sym (keys_map (λ (l : Link). l.name) (is_port_of k) (freed goes) (λ l. refl) (λ l. all_left k e l.controller) rest ∙ keys_filter (λ (l : Link). l.name) (is_port_of k) (λ n. not (goes n)) links)
+    ] refl (emptied k);
+    by_dev = is.by_dev;
+  }
+    where
+      rest : List Link
+      rest = filter (λ l. not (goes l.name)) links
+
+-- the links that stay are strictly sorted where all were
+pub rises_left : (goes : List ℕ → Bool) (links : List Link) → rises link_cmp links ≡ true → rises link_cmp (map (freed goes) (filter (λ l. not (goes l.name)) links)) ≡ true
+rises_left goes links up = rises_map (freed goes) (λ l. refl) (filter (λ l. not (goes l.name)) links) ∙ rises_filter link_cmp (λ l. not (goes l.name)) links up

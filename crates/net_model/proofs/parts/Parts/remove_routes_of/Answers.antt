@@ -1,0 +1,11 @@
+use Rattle.std.proofs.Common.{List, sym, subst}
+use Rattle.net_model.specs.Words.{is_among}
+use Rattle.net_model.specs.declared.route.Route.{Route}
+use Rattle.net_model.specs.Indexed.{AreIndexes}
+use Rattle.net_model.proofs.lemmas.RouteIndexes.{cleared_routes}
+use Rattle.net_model.proofs.parts.Parts.remove_routes_of.Goals as goal
+
+pub invariant_of-self : goal.invariant_of-self
+invariant_of-self c =
+    subst (λ (rs : List Route). AreIndexes c.self.inside.links.items rs (record c.self.inside.indexes { routes = c.clear_all.new.self })) (sym c.remove_routes.ensures)
+    (cleared_routes (is_among c.args.devs.now) c.self.inside.links.items c.self.inside.routes.items c.self.inside.indexes c.clear_all.new.self c.self.invariant c.clear_all.ensures)

@@ -1,0 +1,168 @@
+//! The indexes of a network: what edits add to them and take out.
+ghost use Rattle.std.specs.Prelude.{◌≡◌, ℕ, List, [], true, false, filter, not, IfOk, OnOk, OnErr};
+ghost use Rattle.std.specs.List.{list_any};
+ghost use Rattle.std.specs.Ordering.{is_eq};
+ghost use Rattle.net_model.specs.Name.{same_bytes};
+ghost use Rattle.net_model.specs.Words.{rises, is_among};
+ghost use Rattle.net_model.specs.Order.{name_cmp, link_cmp};
+ghost use Rattle.net_model.specs.Links.{is_port_of, ports_of};
+ghost use Rattle.net_model.specs.Dependence.{has_base};
+ghost use Rattle.net_model.specs.KeyOrder.{key_cmp, is_other};
+ghost use Rattle.net_model.specs.Listed.{ChangesAt, Same, Puts, LeavesOut, listed};
+ghost use Rattle.net_model.specs.Indexed.{AreIndexes, over, key_of};
+
+use crate::build::{over_index, ports_index, routes_index};
+use crate::index::Index;
+use crate::link::{Kind, Link};
+use crate::name::Name;
+use crate::position::{Position, link_position};
+use crate::route::Route;
+use crate::route_key::RouteKey;
+use base_model::OutOfMemory;
+use std::alloc::Global;
+
+/// The VLANs over each base, the ports of each controller and the routes of each device.
+#[derive(Drop)]
+pub struct Indexes {
+    pub over: Index<Name>,
+    pub ports: Index<Name>,
+    pub routes: Index<RouteKey>,
+}
+
+impl Indexes {
+    /// The indexes of a network without links. It takes no memory.
+    pub fn new(alloc: Global) -> Indexes
+        ensures { AreIndexes [] [] result }
+    {
+        Indexes {
+            over: Index::new(alloc),
+            ports: Index::new(alloc),
+            routes: Index::new(alloc),
+        }
+    }
+
+    /// The indexes of these lists.
+    pub fn of(alloc: Global, links: &[Link], routes: &[Route]) -> Result<Indexes, OutOfMemory>
+        ensures { IfOk result (AreIndexes links.now routes.now) }
+    {
+        Ok(Indexes {
+            over: over_index(alloc, links)?,
+            ports: ports_index(alloc, links)?,
+            routes: routes_index(alloc, routes)?,
+        })
+    }
+}
+
+// Puts a name into the list of another.
+pub(crate) fn put_name(index: &mut Index<Name>, of: &Name, name: &Name) -> Result<(), OutOfMemory>
+    requires in_order { rises name_cmp (listed index.old of.now) ≡ true }
+    requires new { list_any (λ n. is_eq (name_cmp n name.now)) (listed index.old of.now) ≡ false }
+    ensures ok { OnOk result (Puts name_cmp name.now (same_bytes of.now) (listed index.old) (listed index.new)) }
+    ensures err { OnErr result (Same (listed index.old) (listed index.new)) }
+{
+    index.put(of, *name)
+}
+
+// Puts a link's name into its base's list.
+pub(crate) fn put_vlan(index: &mut Index<Name>, link: &Link) -> Result<(), OutOfMemory>
+    requires in_order { (k : List ℕ) → rises name_cmp (listed index.old k) ≡ true }
+    requires new { (k : List ℕ) → list_any (λ n. is_eq (name_cmp n link.now.name)) (listed index.old k) ≡ false }
+    ensures ok { OnOk result (Puts name_cmp link.now.name (has_base link.now.kind) (listed index.old) (listed index.new)) }
+    ensures err { OnErr result (Same (listed index.old) (listed index.new)) }
+{
+    match &link.kind {
+        Kind::Vlan { base, .. } => put_name(index, base, &link.name),
+        _ => Ok(()),
+    }
+}
+
+// Puts a route's key into its device's list.
+pub(crate) fn put_key(index: &mut Index<RouteKey>, route: &Route) -> Result<(), OutOfMemory>
+    requires in_order { rises key_cmp (listed index.old route.now.dev) ≡ true }
+    requires new { list_any (λ k. is_eq (key_cmp k (key_of route.now))) (listed index.old route.now.dev) ≡ false }
+    ensures ok { OnOk result (Puts key_cmp (key_of route.now) (same_bytes route.now.dev) (listed index.old) (listed index.new)) }
+    ensures err { OnErr result (Same (listed index.old) (listed index.new)) }
+{
+    index.put(&route.dev, RouteKey::of(route))
+}
+
+fn leave_out_name(index: &mut Index<Name>, of: &Name, name: &Name)
+    ensures { ChangesAt of.now (filter (λ n. not (same_bytes n name.now)) (listed index.old of.now)) (listed index.old) (listed index.new) }
+{
+    index.leave_out(of, name);
+}
+
+// Takes a link's name out of its base's list, the only one that may have it.
+fn leave_out_of_base(index: &mut Index<Name>, link: &Link)
+    requires { (k : List ℕ) → has_base link.now.kind k ≡ false → is_among (listed index.old k) link.now.name ≡ false }
+    ensures { LeavesOut link.now.name (listed index.old) (listed index.new) }
+{
+    match &link.kind {
+        Kind::Vlan { base, .. } => leave_out_name(index, base, &link.name),
+        _ => {}
+    }
+}
+
+// Takes the name out of the lists of bases, of which only those may have it that list it for these links.
+fn leave_out_vlan(index: &mut Index<Name>, links: &[Link], name: &Name)
+    requires in_order { rises link_cmp links.now ≡ true }
+    requires within { (k : List ℕ) → is_among (over links.now k) name.now ≡ false → is_among (listed index.old k) name.now ≡ false }
+    ensures { LeavesOut name.now (listed index.old) (listed index.new) }
+{
+    match link_position(links, name) {
+        Position::At(i) => leave_out_of_base(index, &links[i]),
+        Position::Gap(_) => {}
+    }
+}
+
+// Takes the names of links that go out of the lists of their bases.
+pub(crate) fn leave_out_vlans(index: &mut Index<Name>, links: &[Link], goes: &[Name])
+    requires in_order { rises link_cmp links.now ≡ true }
+    requires lists { (k : List ℕ) → listed index.old k ≡ over links.now k }
+    ensures { (k : List ℕ) → listed index.new k ≡ filter (λ n. not (is_among goes.now n)) (over links.now k) }
+{
+    for at in 0..goes.len() {
+        leave_out_vlan(index, links, &goes[at]);
+    }
+}
+
+// Takes a link's name out of its controller's list, the only one that may have it.
+fn leave_out_of_controller(index: &mut Index<Name>, link: &Link)
+    requires { (k : List ℕ) → is_port_of k link.now ≡ false → is_among (listed index.old k) link.now.name ≡ false }
+    ensures { LeavesOut link.now.name (listed index.old) (listed index.new) }
+{
+    match &link.controller {
+        Some(controller) => leave_out_name(index, controller, &link.name),
+        None => {}
+    }
+}
+
+// Takes the name out of the lists of controllers, of which only those may have it that list it for these links.
+pub(crate) fn leave_out_port(index: &mut Index<Name>, links: &[Link], name: &Name)
+    requires in_order { rises link_cmp links.now ≡ true }
+    requires within { (k : List ℕ) → is_among (ports_of links.now k) name.now ≡ false → is_among (listed index.old k) name.now ≡ false }
+    ensures { LeavesOut name.now (listed index.old) (listed index.new) }
+{
+    match link_position(links, name) {
+        Position::At(i) => leave_out_of_controller(index, &links[i]),
+        Position::Gap(_) => {}
+    }
+}
+
+// Takes the names of links that go out of the lists of their controllers.
+pub(crate) fn leave_out_ports(index: &mut Index<Name>, links: &[Link], goes: &[Name])
+    requires in_order { rises link_cmp links.now ≡ true }
+    requires lists { (k : List ℕ) → listed index.old k ≡ ports_of links.now k }
+    ensures { (k : List ℕ) → listed index.new k ≡ filter (λ n. not (is_among goes.now n)) (ports_of links.now k) }
+{
+    for at in 0..goes.len() {
+        leave_out_port(index, links, &goes[at]);
+    }
+}
+
+// Takes a route's key out of its device's list.
+pub(crate) fn leave_out_key(index: &mut Index<RouteKey>, route: &Route)
+    ensures { ChangesAt route.now.dev (filter (is_other (key_of route.now)) (listed index.old route.now.dev)) (listed index.old) (listed index.new) }
+{
+    index.leave_out(&route.dev, &RouteKey::of(route));
+}
