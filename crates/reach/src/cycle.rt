@@ -1,93 +1,136 @@
-//! Whether arrows lead round in a cycle.
-ghost use Rattle.std.specs.Prelude.{◌≡◌, ◌<◌, ℕ, length, get_or, IfOk, true, false};
-ghost use Rattle.std.specs.List.{list_all};
-ghost use Rattle.reach.specs.Cycle.{Decides, IsFinal, SettlesOne, Settles};
-ghost use Rattle.reach.specs.Reach.{AllMarked, IsGraph, is_marked};
+//! Whether arrows lead round in a cycle: a depth-first walk, in as many steps as there are places and arrows.
+ghost use Rattle.std.specs.Prelude.{◌≡◌, ◌<◌, false, true, length, slice_get, IfOk, OnOk, ◌-◌};
+ghost use Rattle.reach.specs.Cycle.{Decides};
+ghost use Rattle.reach.specs.Reach.{IsGraph};
+ghost use Rattle.reach.specs.Walk.{AtWork, Begins, Comes, Ends, Enters, IsTop, Meets, Rests, Settles, Steps};
 
 use base_model::{Items, OutOfMemory};
 use std::alloc::{AllocError, Global};
 
-fn all_settled(targets: &[usize], settled: &[bool]) -> bool
-    requires { (k : ℕ) → k < length targets.now → get_or targets.now k 0 < length settled.now }
-    ensures all { result ≡ true → AllMarked targets.now (is_marked settled.now) }
-    ensures one { result ≡ false → (k : ℕ) × (k < length targets.now) × (is_marked settled.now (get_or targets.now k 0) ≡ false) }
-{
-    for target in targets {
-        if !settled[*target] {
-            return false;
+// What a depth-first walk knows of each place.
+#[derive(Drop)]
+struct Walk {
+    // The places that it has come to.
+    entered: Vec<bool>,
+    // Those of them whose arrows all lead to settled places.
+    settled: Vec<bool>,
+    // For each place, how many of its arrows are known to lead to settled places.
+    next: Vec<usize>,
+    // The places that are entered and not settled, each after one that has an arrow to it.
+    stack: Vec<usize>,
+}
+
+impl Walk {
+    // A walk over so many places that has come to none.
+    fn begin(alloc: Global, places: usize) -> Result<Walk, AllocError>
+        ensures { IfOk result (λ walk. Begins places walk) }
+    {
+        let entered = vec![in alloc; false; places]?;
+        let settled = vec![in alloc; false; places]?;
+        let next = vec![in alloc; 0; places]?;
+        let stack = Vec::new(alloc);
+        Ok(Walk {
+            entered,
+            settled,
+            next,
+            stack,
+        })
+    }
+
+    // The place that was entered last, of those that aren't settled.
+    fn top(&self) -> Option<usize>
+        ensures { result ≡ slice_get self.now.stack.items (length self.now.stack.items - 1) }
+    {
+        self.stack.last().copied()
+    }
+
+    fn enter(&mut self, place: usize) -> Result<(), OutOfMemory>
+        requires { place < length self.old.entered.items }
+        ensures { OnOk result (Enters place self.old self.new) }
+    {
+        self.stack.push(place)?;
+        self.entered[place] = true;
+        Ok(())
+    }
+
+    // Settles the place that was entered last.
+    fn settle(&mut self, top: usize)
+        requires inside { top < length self.old.settled.items }
+        requires some { 0 < length self.old.stack.items }
+        ensures { Settles top self.old self.new }
+    {
+        self.settled[top] = true;
+        self.stack.pop();
+    }
+
+    // Looks at one arrow of the place that was entered last, and says whether it leads to a place that isn't settled
+    // yet. An arrow to a place that is new is followed; where no arrow is left, the place is settled.
+    fn step(&mut self, arrows: &[Items<usize>], top: usize) -> Result<bool, OutOfMemory>
+        requires graph { IsGraph arrows.now }
+        requires walks { AtWork arrows.now self.old }
+        requires top { IsTop self.old.stack.items top }
+        ensures { IfOk result (λ cycle. Meets cycle arrows.now (Steps arrows.now self.old self.new)) }
+    {
+        let at = self.next[top];
+        let targets = arrows[top].items();
+        if at >= targets.len() {
+            self.settle(top);
+            return Ok(false);
         }
-    }
-    true
-}
-
-// Settles a place whose arrows all lead to settled ones, and says whether it did.
-fn settle(arrows: &[Items<usize>], settled: &mut [bool], i: usize) -> bool
-    requires settled { length settled.old ≡ length arrows.now }
-    requires graph { IsGraph arrows.now }
-    requires inside { i < length arrows.now }
-    ensures { SettlesOne arrows.now i settled.old settled.new result }
-{
-    if settled[i] {
-        return false;
-    }
-    let targets = arrows[i].items();
-    if !all_settled(targets, settled) {
-        return false;
-    }
-    settled[i] = true;
-    true
-}
-
-// Settles places in turn, and says whether it settled one.
-fn settle_each(arrows: &[Items<usize>], settled: &mut [bool]) -> bool
-    requires settled { length settled.old ≡ length arrows.now }
-    requires graph { IsGraph arrows.now }
-    ensures { Settles arrows.now settled.old settled.new result }
-{
-    let mut grew = false;
-    for i in 0..arrows.len() {
-        if settle(arrows, settled, i) {
-            grew = true;
+        let target = targets[at];
+        if self.settled[target] {
+            self.next[top] = at + 1;
+            return Ok(false);
         }
-    }
-    grew
-}
-
-// Settles places as long as there is one whose arrows all lead to settled ones.
-fn settle_all(arrows: &[Items<usize>], settled: &mut [bool])
-    requires settled { length settled.old ≡ length arrows.now }
-    requires graph { IsGraph arrows.now }
-    requires none { (j : ℕ) → is_marked settled.old j ≡ false }
-    ensures { IsFinal arrows.now settled.new }
-{
-    'grow: loop {
-        if !settle_each(arrows, settled) {
-            break;
+        if self.entered[target] {
+            return Ok(true);
         }
+        self.enter(target)?;
+        Ok(false)
+    }
+
+    // Settles what is on the stack, or says that a cycle was met.
+    fn follow(&mut self, arrows: &[Items<usize>]) -> Result<bool, OutOfMemory>
+        requires graph { IsGraph arrows.now }
+        requires walks { AtWork arrows.now self.old }
+        ensures { IfOk result (λ cycle. Meets cycle arrows.now (Ends arrows.now self.old self.new)) }
+    {
+        while let Some(top) = self.top() {
+            let cycle = self.step(arrows, top)?;
+            if cycle {
+                return Ok(true);
+            }
+        }
+        Ok(false)
+    }
+
+    // Enters one place and all that it leads to, and says whether a cycle was met.
+    fn start(&mut self, arrows: &[Items<usize>], place: usize) -> Result<bool, OutOfMemory>
+        requires graph { IsGraph arrows.now }
+        requires rests { Rests arrows.now self.old }
+        requires inside { place < length arrows.now }
+        ensures { IfOk result (λ cycle. Meets cycle arrows.now (Comes arrows.now place self.old self.new)) }
+    {
+        if self.entered[place] {
+            return Ok(false);
+        }
+        self.enter(place)?;
+        self.follow(arrows)
     }
 }
 
-// The places that are settled where no further one can be.
-fn settled_places(alloc: Global, arrows: &[Items<usize>]) -> Result<Vec<bool>, AllocError>
-    requires { IsGraph arrows.now }
-    ensures { IfOk result (λ settled. IsFinal arrows.now settled.items) }
-{
-    let mut settled = vec![in alloc; false; arrows.len()]?;
-    settle_all(arrows, &mut settled);
-    Ok(settled)
-}
-
-fn are_all_settled(settled: &[bool]) -> bool
-    ensures { result ≡ list_all (λ b. b) settled.now }
-{
-    settled.iter().all(|s| *s)
-}
-
-/// Whether the arrows lead round in a cycle. Where they don't, the places have ranks that fall along each arrow.
+/// Whether the arrows lead round in a cycle. Where they don't, the places have ranks that fall along each arrow. It takes
+/// as many steps as there are places and arrows.
 pub fn has_cycle(alloc: Global, arrows: &[Items<usize>]) -> Result<bool, OutOfMemory>
     requires { IsGraph arrows.now }
     ensures { IfOk result (λ cycle. Decides cycle arrows.now) }
 {
-    let settled = settled_places(alloc, arrows)?;
-    Ok(!are_all_settled(&settled))
+    let mut walk = Walk::begin(alloc, arrows.len())?;
+    for place in 0..arrows.len() {
+        let cycle = walk.start(arrows, place)?;
+        if cycle {
+            return Ok(true);
+        }
+    }
+    Ok(false)
 }

@@ -4,76 +4,88 @@
 // Whether arrows lead round in a cycle.
 mod cycle;
 
-ghost use Rattle.std.specs.Prelude.{◌≡◌, ◌<◌, ℕ, length, get_or, IfOk, false};
-ghost use Rattle.reach.specs.Reach.{IsGraph, IsLeast, Grows, Passes, Steps, is_marked};
+ghost use Rattle.std.specs.Prelude.{◌≡◌, ◌<◌, length, IfOk, OnOk, false};
+ghost use Rattle.reach.specs.Following.{Follows, Lists, Marks, Waits, Works};
+ghost use Rattle.reach.specs.Reach.{IsGraph, IsLeast};
 
 use base_model::{Items, OutOfMemory};
 pub use cycle::has_cycle;
-use std::alloc::Global;
+use std::alloc::{AllocError, Global};
 
-// Marks the targets, and says whether one of them wasn't marked.
-fn mark_all(targets: &[usize], marks: &mut [bool]) -> bool
-    requires { (k : ℕ) → k < length targets.now → get_or targets.now k 0 < length marks.old }
-    ensures { Grows targets.now marks.old marks.new result }
+// The sources: the first places whose arrows are followed.
+fn sources(alloc: Global, starts: &[bool]) -> Result<Vec<usize>, AllocError>
+    ensures { IfOk result (λ left. Lists starts.now left.items) }
 {
-    let mut grew = false;
+    let mut left = Vec::new(alloc);
+    for place in 0..starts.len() {
+        if starts[place] {
+            left.push(place)?;
+        }
+    }
+    Ok(left)
+}
+
+// Marks a place, and leaves its arrows to be followed where it is new and no source.
+fn mark(
+    starts: &[bool],
+    marks: &mut [bool],
+    left: &mut Vec<usize>,
+    target: usize,
+) -> Result<(), OutOfMemory>
+    requires starts { length starts.now ≡ length marks.old }
+    requires inside { target < length marks.old }
+    ensures { OnOk result (Marks starts.now target marks.old marks.new left.old.items left.new.items) }
+{
+    if marks[target] {
+        return Ok(());
+    }
+    if !starts[target] {
+        left.push(target)?;
+    }
+    marks[target] = true;
+    Ok(())
+}
+
+// Marks what the arrows of one place lead to.
+fn follow(
+    arrows: &[Items<usize>],
+    starts: &[bool],
+    marks: &mut [bool],
+    left: &mut Vec<usize>,
+    place: usize,
+) -> Result<(), OutOfMemory>
+    requires starts { length starts.now ≡ length arrows.now }
+    requires graph { IsGraph arrows.now }
+    requires inside { place < length arrows.now }
+    requires works { Works arrows.now starts.now marks.old left.old.items place 0 }
+    ensures { OnOk result (Follows arrows.now starts.now marks.old marks.new left.old.items left.new.items) }
+{
+    let targets = arrows[place].items();
     for target in targets {
-        if !marks[*target] {
-            marks[*target] = true;
-            grew = true;
-        }
+        mark(starts, marks, left, *target)?;
     }
-    grew
+    Ok(())
 }
 
-// Marks what the arrows of one place lead to, if it starts or is marked.
-fn step(arrows: &[Items<usize>], starts: &[bool], marks: &mut [bool], i: usize) -> bool
+// Marks what the arrows lead to from the places that are left, in any number of steps.
+fn mark_reached(
+    arrows: &[Items<usize>],
+    starts: &[bool],
+    marks: &mut [bool],
+    left: &mut Vec<usize>,
+) -> Result<(), OutOfMemory>
     requires starts { length starts.now ≡ length arrows.now }
-    requires marks { length marks.old ≡ length arrows.now }
     requires graph { IsGraph arrows.now }
-    requires inside { i < length arrows.now }
-    ensures { Steps arrows.now starts.now i marks.old marks.new result }
+    requires waits { Waits arrows.now starts.now marks.old left.old.items }
+    ensures { OnOk result (IsLeast arrows.now starts.now marks.new) }
 {
-    if starts[i] || marks[i] {
-        let targets = arrows[i].items();
-        mark_all(targets, marks)
-    } else {
-        false
+    while let Some(place) = left.pop() {
+        follow(arrows, starts, marks, left, place)?;
     }
+    Ok(())
 }
 
-// Marks what one step leads to, and says whether something wasn't marked.
-fn pass(arrows: &[Items<usize>], starts: &[bool], marks: &mut [bool]) -> bool
-    requires starts { length starts.now ≡ length arrows.now }
-    requires marks { length marks.old ≡ length arrows.now }
-    requires graph { IsGraph arrows.now }
-    ensures { Passes arrows.now starts.now marks.old marks.new result }
-{
-    let mut grew = false;
-    for i in 0..arrows.len() {
-        if step(arrows, starts, marks, i) {
-            grew = true;
-        }
-    }
-    grew
-}
-
-// Marks what the arrows lead to from those that start, in any number of steps.
-fn mark_reached(arrows: &[Items<usize>], starts: &[bool], marks: &mut [bool])
-    requires starts { length starts.now ≡ length arrows.now }
-    requires marks { length marks.old ≡ length arrows.now }
-    requires graph { IsGraph arrows.now }
-    requires unmarked { (j : ℕ) → is_marked marks.old j ≡ false }
-    ensures { IsLeast arrows.now starts.now marks.new }
-{
-    'grow: loop {
-        if !pass(arrows, starts, marks) {
-            break;
-        }
-    }
-}
-
-/// Which places are reachable from the sources, in one step or more.
+/// Which places are reachable from the sources, in one step or more. The arrows of each place are followed once.
 pub fn closure(
     alloc: Global,
     arrows: &[Items<usize>],
@@ -84,6 +96,7 @@ pub fn closure(
     ensures { IfOk result (λ marks. IsLeast arrows.now starts.now marks.items) }
 {
     let mut marks = vec![in alloc; false; arrows.len()]?;
-    mark_reached(arrows, starts, &mut marks);
+    let mut left = sources(alloc, starts)?;
+    mark_reached(arrows, starts, &mut marks, &mut left)?;
     Ok(marks)
 }
