@@ -1,12 +1,10 @@
 -- What is known of a call that isn't refused.
-use Rattle.std.proofs.Common.{◌≡◌, ℕ, Bool, true, false, ◌&&◌, ◌||◌, List, [], ◌∷◌, None, refl, sym, ap, ◌∙◌}
-use Rattle.std.specs.List.{list_any}
+use Rattle.std.proofs.Common.{◌≡◌, ℕ, Bool, true, false, ◌&&◌, List, None, refl, sym, ◌∙◌}
 use Rattle.reach.proofs.lemmas.Saturate.{any_mono}
 use Rattle.net_model.specs.Address.{Block}
 use Rattle.net_model.specs.Links.{named_passes, is_named}
 use Rattle.net_model.specs.Valid.{same_block, same_address}
 use Rattle.net_model.specs.Lists.{NetData}
-use Rattle.net_model.specs.declared.link.Link.{Link}
 use Rattle.net_model.proofs.lemmas.Truth.{and_left, and_right, and_both}
 use Rattle.kernel_model.specs.Outcome.{first_true}
 use Rattle.kernel_model.specs.Addresses.{has_address, has_block, add_address_refusals}

@@ -1,17 +1,22 @@
 -- What a binary search tells of a list that rises, by the test of what is the same.
-use Rattle.std.proofs.Common.{◌≡◌, ℕ, ◌<◌, ◌≤◌, Bool, true, false, List, length, get_or, Ordering, Less, Equal, Greater, sym, ◌∙◌, arith}
+use Rattle.std.proofs.Common.{◌≡◌, ℕ, Bool, true, false, List, get_or, Ordering, refl, sym, ap, ◌∙◌, arith}
 use Rattle.std.specs.Prelude.{Ok, Err, insert}
 use Rattle.std.specs.List.{list_any}
 use Rattle.std.specs.Ordering.{is_eq}
 use Rattle.net_model.specs.Address.{Block}
 use Rattle.net_model.specs.Rule.{RuleParts}
-use Rattle.net_model.specs.Words.{put}
+use Rattle.net_model.specs.Words.{put, rises}
+use Rattle.net_model.specs.Edits.{same_route}
 use Rattle.net_model.specs.Order.{block_cmp, route_cmp, rule_cmp}
 use Rattle.net_model.specs.OrderLaws.{block_cmp_total, rule_cmp_total}
 use Rattle.net_model.specs.Valid.{same_block, same_key, same_rule}
 use Rattle.net_model.specs.declared.route.Route.{Route}
 use Rattle.net_model.proofs.lemmas.Orders.{route_cmp_total}
 use Rattle.net_model.proofs.lemmas.Ties.{blocks_tie, keys_tie, rules_tie}
+use Rattle.net_model.proofs.lemmas.Rises.{apart-rises}
+use Rattle.net_model.proofs.lemmas.Places.{any_at, none_at, stands}
+use Rattle.net_model.proofs.lemmas.RouteIndexes.{same_route_key}
+use Rattle.reach.proofs.lemmas.Marks.{any_default}
 use Rattle.kernel_laws.proofs.lemmas.InPlace.{insert_is_put}
 use Rattle.kernel_laws.proofs.lemmas.Searched.{met, missed, tied_both}
 use Rattle.kernel_step.specs.Searches.{Searches}
@@ -37,3 +42,17 @@ key_tie a b = keys_tie a b ∙ tied_both route_cmp route_cmp_total a b
 
 pub rule_tie : (a b : RuleParts) → same_rule a b ≡ is_eq (rule_cmp b a)
 rule_tie a b = rules_tie a b ∙ tied_both rule_cmp rule_cmp_total a b
+
+-- a route of all these fields is there where that of its key has them
+pub one_route : (route : Route) (routes : List Route) (i : ℕ) (d : Route) → rises route_cmp routes ≡ true → Searches route_cmp route routes (Ok i) → list_any (same_route route) routes ≡ same_route route (get_or routes i d)
+one_route route routes i d up s = elim (same_route route (get_or routes i d)) as (λ v. same_route route (get_or routes i d) ≡ v → list_any (same_route route) routes ≡ v) [
+  | true ↦ λ e. any_at (same_route route) routes i d s.0 e
+  | false ↦ λ e. none_at (same_route route) routes (λ k q lt.
+      elim (same_route route (get_or routes k q)) as (λ v. same_route route (get_or routes k q) ≡ v → v ≡ false) [
+        | true ↦ λ h.
+            let there = stands same_key route_cmp route_cmp_total keys_tie route routes (apart-rises same_key route_cmp keys_tie routes up) i s.0 s.1 in
+            let at : k ≡ i = there.only k q lt (same_route_key route (get_or routes k q) h) in
+            sym h ∙ ap (λ j. same_route route (get_or routes j q)) at ∙ ap (same_route route) (any_default routes i q d s.0) ∙ e
+        | false ↦ λ h. refl
+      ] refl)
+] refl

@@ -5,13 +5,12 @@ ghost use Rattle.net_model.specs.Words.{rises, put};
 ghost use Rattle.net_model.specs.Order.{block_cmp, link_cmp, route_cmp};
 ghost use Rattle.net_model.specs.Links.{named_passes};
 ghost use Rattle.net_model.specs.Valid.{same_block};
-ghost use Rattle.net_model.specs.Edits.{edit_link};
+ghost use Rattle.net_model.specs.Edits.{edit_link, stays_on_link};
 ghost use Rattle.kernel_model.specs.Addresses.{has_block, with_address, without_address, after_add_address, after_del_address};
 
 use crate::places::address_gap;
 use crate::refuse::same_block;
-use link_step::place_of;
-use net_model::{Items, Link, Name, OutOfMemory, Parts, Prefix};
+use net_model::{Items, Link, Name, OutOfMemory, Parts, Prefix, place_of};
 use std::mem;
 
 fn insert_at(addrs: &mut Vec<Prefix>, i: usize, addr: Prefix) -> Result<(), OutOfMemory>
@@ -122,6 +121,17 @@ fn take_in(links: &mut Vec<Link>, name: &Name, addr: &Prefix)
     take_named(links, name, addr);
 }
 
+// Takes out the routes of a device whose gateway isn't on-link there. The routes are gone over only where it has one.
+fn keep_on_link(parts: &mut Parts, name: &Name)
+    requires links { rises link_cmp parts.old.links ≡ true }
+    requires routes { rises route_cmp parts.old.routes ≡ true }
+    ensures { parts.new ≡ record parts.old { routes = filter (stays_on_link name.now parts.old.links) parts.old.routes } }
+{
+    if !parts.routes_of(name).is_empty() {
+        parts.keep_on_link(name);
+    }
+}
+
 // Takes an address from the named link, and its routes whose gateway isn't on-link any more.
 pub(crate) fn del_address(parts: &mut Parts, name: &Name, addr: &Prefix)
     requires links { rises link_cmp parts.old.links ≡ true }
@@ -129,5 +139,5 @@ pub(crate) fn del_address(parts: &mut Parts, name: &Name, addr: &Prefix)
     ensures { parts.new ≡ after_del_address name.now addr.now parts.old }
 {
     take_in(&mut parts.links, name, addr);
-    parts.keep_on_link(name);
+    keep_on_link(parts, name);
 }

@@ -4,9 +4,10 @@ ghost use Rattle.std.specs.List.{list_any};
 ghost use Rattle.net_model.specs.Words.{rises, put};
 ghost use Rattle.net_model.specs.Order.{block_cmp, route_cmp, rule_cmp};
 ghost use Rattle.net_model.specs.Valid.{same_block, same_key, same_rule};
+ghost use Rattle.net_model.specs.Edits.{same_route};
 ghost use Rattle.kernel_step.specs.Searches.{Searches};
 
-use net_model::{Prefix, Route, Rule};
+use net_model::{Prefix, Route, Rule, same_route};
 
 fn search_addresses(addrs: &[Prefix], addr: &Prefix) -> Result<usize, usize>
     requires { rises block_cmp addrs.now ≡ true }
@@ -46,6 +47,17 @@ pub(crate) fn has_key(routes: &[Route], route: &Route) -> bool
 {
     match search_routes(routes, route) {
         Ok(_) => true,
+        Err(_) => false,
+    }
+}
+
+// Whether a route of all these fields is there: none but that of its key can be.
+pub(crate) fn has_route(routes: &[Route], route: &Route) -> bool
+    requires { rises route_cmp routes.now ≡ true }
+    ensures { result ≡ list_any (same_route route.now) routes.now }
+{
+    match search_routes(routes, route) {
+        Ok(i) => same_route(route, &routes[i]),
         Err(_) => false,
     }
 }

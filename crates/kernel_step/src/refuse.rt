@@ -1,6 +1,5 @@
 //! The refusals of calls on addresses, routes, rules and DNS.
 ghost use Rattle.std.specs.Prelude.{◌≡◌, ◌&&◌, ◌||◌, true, not, nat_le};
-ghost use Rattle.std.specs.List.{list_any};
 ghost use Rattle.net_model.specs.Words.{rises};
 ghost use Rattle.net_model.specs.Order.{link_cmp};
 ghost use Rattle.net_model.specs.Links.{named_passes, is_bond_or_bridge};
@@ -10,10 +9,9 @@ ghost use Rattle.kernel_model.specs.Outcome.{first_true};
 ghost use Rattle.kernel_model.specs.Words.{has_link, is_full};
 ghost use Rattle.kernel_model.specs.Addresses.{has_address, has_block, add_address_refusals, del_address_refusals};
 ghost use Rattle.kernel_model.specs.Routes.{add_route_refusals, del_route_refusals};
-ghost use Rattle.net_model.specs.Edits.{same_route};
 ghost use Rattle.kernel_model.specs.Rest.{add_rule_refusals, del_rule_refusals, set_dns_refusals};
 
-use crate::places::{has_key, has_rule};
+use crate::places::{has_key, has_route, has_rule};
 use kernel_model::refusal::{
     ADDRESS_EXISTS, BAD_GATEWAY, LIMIT, LINK_DOWN, NO_ADDRESS, NO_LINK, NO_ROUTE, NO_RULE,
     PORT_ADDRESS, ROUTE_EXISTS, RULE_EXISTS,
@@ -21,7 +19,7 @@ use kernel_model::refusal::{
 use link_step::has_link;
 use net_model::{
     Dns, Link, MAX_ADDRESSES, MAX_LINK_ADDRESSES, MAX_ROUTES, MAX_RULES, MAX_SEARCH, MAX_SERVERS,
-    Name, Net, Prefix, Route, Rule, find_link, is_bond_or_bridge, route_on_link, same_route,
+    Name, Net, Prefix, Route, Rule, find_link, is_bond_or_bridge, route_on_link,
 };
 
 #[tactic(auto, using(net_model::proofs::lemmas::Found::named_passes_found))]
@@ -199,15 +197,10 @@ pub(crate) fn add_route(net: &Net, route: &Route) -> Option<u8>
     None
 }
 
-fn has_route(routes: &[Route], route: &Route) -> bool
-    ensures { result ≡ list_any (same_route route.now) routes.now }
-{
-    routes.iter().any(|own| same_route(route, own))
-}
-
 pub(crate) fn del_route(net: &Net, route: &Route) -> Option<u8>
     ensures { result ≡ first_true (del_route_refusals route.now net.now) }
 {
+    net.laws();
     if !has_route(net.routes(), route) {
         return Some(NO_ROUTE);
     }

@@ -1,5 +1,5 @@
 -- Two tests that agree on each name change the same.
-use Rattle.std.proofs.Common.{◌≡◌, ℕ, Bool, not, List, [], ◌∷◌, map, filter, Option, Some, None, refl, ap, ◌∙◌}
+use Rattle.std.proofs.Common.{◌≡◌, ℕ, Bool, false, not, List, [], ◌∷◌, map, filter, Option, Some, None, refl, ap, ◌∙◌}
 use Rattle.std.proofs.lemmas.List.Elements.{filter_agree}
 use Rattle.net_model.specs.Lists.{NetData}
 use Rattle.net_model.specs.declared.link.Link.{Link}
@@ -37,3 +37,27 @@ module _ (p q : List ℕ → Bool) (same : (n : List ℕ) → p n ≡ q n) where
   -- what is left of those that fall
   pub fallen_agree : (net : NetData) → fallen p net ≡ fallen q net
   fallen_agree net = rw (map_agree (lowered p) (lowered q) lowered_agree net.links, routes_agree net.routes) refl
+
+-- ---- where none go
+
+no_name_goes : (o : Option (List ℕ)) → unless_gone (λ n. false) o ≡ o
+no_name_goes None = refl
+no_name_goes (Some n) = refl
+
+no_port_freed : (l : Link) (o : Option (List ℕ)) → l.controller ≡ o → port_freed (λ n. false) l ≡ l.port
+no_port_freed l None e = rw e refl
+no_port_freed l (Some n) e = rw e refl
+
+no_links_go : (ls : List Link) → map (freed (λ n. false)) (filter (λ l. not false) ls) ≡ ls
+no_links_go [] = refl
+no_links_go (l ∷ ls) =
+    ap (λ (rest : List Link). freed (λ n. false) l ∷ rest) (no_links_go ls)
+    ∙ ap (λ (x : Link). x ∷ ls) (rw (no_name_goes l.controller, no_port_freed l l.controller refl, no_name_goes l.bond.primary) refl)
+
+no_routes_go : (rs : List Route) → filter (λ r. not false) rs ≡ rs
+no_routes_go [] = refl
+no_routes_go (r ∷ rs) = ap (λ (rest : List Route). r ∷ rest) (no_routes_go rs)
+
+-- all remains
+pub without_none : (net : NetData) → without (λ n. false) net ≡ net
+without_none net = rw (no_links_go net.links, no_routes_go net.routes) refl

@@ -1,7 +1,8 @@
 -- What a VLAN reaches by its base.
 use Rattle.std.proofs.Common.{◌≡◌, ℕ, zero, suc, Bool, true, false, not, ◌&&◌, ◌||◌, List, length, Option, Some, None, refl, sym, ap, ◌∙◌}
 use Rattle.net_model.specs.Name.{same_bytes}
-use Rattle.net_model.specs.Links.{find_link, is_named, is_port_of, takes, is_ethernet}
+use Rattle.net_model.specs.Words.{is_among}
+use Rattle.net_model.specs.Links.{find_link, is_named, is_port_of, ports_of, takes, is_bond}
 use Rattle.net_model.specs.Dependence.{has_base, depends_on, reaches, no_cycle}
 use Rattle.net_model.specs.NetData.{NetData, IsNet}
 use Rattle.net_model.specs.declared.link.Link.{Link}
@@ -12,13 +13,16 @@ use Rattle.net_model.proofs.lemmas.Truth.{and_left, and_right, and_both, or_righ
 use Rattle.net_model.proofs.lemmas.Found.{one_name, itself}
 use Rattle.net_model.proofs.lemmas.Grounded.{found_named, any_found}
 use Rattle.net_model.proofs.lemmas.FactsHold.{facts}
-use Rattle.net_model.proofs.lemmas.ByName.{some_found, or_left}
+use Rattle.net_model.proofs.lemmas.ByName.{some_found, or_left, passes_as}
+use Rattle.net_model.proofs.lemmas.Ports.{among_ports}
 use Rattle.net_model.proofs.lemmas.Ranks.{or_elim, stands_reaches, reaches_further, reaches_enough}
 use Rattle.kernel_model.specs.Words.{has_link}
 use Rattle.net_model.specs.Edits.{edit_link, attached}
-use Rattle.link_step.proofs.Cycles.{differ, controlling, attach_cycles, ethernet_reaches}
+use Rattle.link_step.specs.Leaf.{is_leaf}
+use Rattle.link_step.proofs.Cycles.{differ, controlling, attach_cycles, leaf_reaches, bond_reaches}
 
-same_truth : (a b : Bool) → (a ≡ true → b ≡ true) → (b ≡ true → a ≡ true) → a ≡ b
+-- truths that follow from each other
+pub same_truth : (a b : Bool) → (a ≡ true → b ≡ true) → (b ≡ true → a ≡ true) → a ≡ b
 same_truth true b f g = sym (f refl)
 same_truth false true f g = g refl
 same_truth false false f g = refl
@@ -124,11 +128,22 @@ module _ (net : NetData) (is : IsNet net) where
           ∙ by_base base id proto kind c.0 c.1
           ∙ ap (λ b. b || reaches net.links (length net.links) base c.0) same)
 
-      -- and an Ethernet link none
-      pub ethernet_ends : is_ethernet l.kind ≡ true → false ≡ not (no_cycle (edit_link port (attached controller) net.links))
-      ethernet_ends device =
+      by_reach : (c : Link) → find_link controller net.links ≡ Some c → not (no_cycle (edit_link port (attached controller) net.links)) ≡ reaches net.links (length net.links) name c
+      by_reach c at = attach_cycles net is port controller c both at ∙ ap (λ b. b || reaches net.links (length net.links) port c) apart ∙ follows c at
+
+      -- a leaf none
+      pub leaf_ends : is_leaf l.kind ≡ true → false ≡ not (no_cycle (edit_link port (attached controller) net.links))
+      leaf_ends leaf =
           let c = controlling net is port controller both in
-          sym (attach_cycles net is port controller c.0 both c.1
-          ∙ ap (λ b. b || reaches net.links (length net.links) port c.0) apart
-          ∙ follows c.0 c.1
-          ∙ ethernet_reaches net is name l found device (length net.links) c.0 (there_as c.0 c.1))
+          sym (by_reach c.0 c.1 ∙ leaf_reaches net is name l found leaf (length net.links) c.0 (there_as c.0 c.1))
+
+      -- and a bond where the controller is its port
+      pub bond_ends : is_bond l.kind ≡ true → is_among (ports_of net.links name) controller ≡ not (no_cycle (edit_link port (attached controller) net.links))
+      bond_ends bond =
+          let c = controlling net is port controller both in
+          among_ports net.links name controller
+          ∙ passes_as (is_port_of name) net.links controller c.0 (differ net is) c.1
+          ∙ ap (λ m. is_port_of m c.0) (sym named)
+          ∙ sym (bond_reaches net is l own bond c.0 (there_as c.0 c.1))
+          ∙ ap (λ m. reaches net.links (length net.links) m c.0) named
+          ∙ sym (by_reach c.0 c.1)

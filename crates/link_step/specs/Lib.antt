@@ -1,5 +1,4 @@
-pub mod Place
-pub mod Arrows
+pub mod Leaf
 pub mod Hanging
 pub mod OneLink
 pub mod Clamped

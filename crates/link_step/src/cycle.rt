@@ -1,97 +1,19 @@
 //! Whether attaching a port makes a cycle.
-ghost use Rattle.std.specs.Prelude.{◌≡◌, ◌<◌, ◌+◌, ◌++◌, ◌∷◌, [], ◌&&◌, true, false, not, IfSome, IfOk, OnOk, length, map, get_or, set, replicate, slice_index_or};
+ghost use Rattle.std.specs.Prelude.{◌≡◌, ◌<◌, ◌&&◌, true, false, not, IfSome, IfOk, length, map, slice_index_or};
 ghost use Rattle.net_model.specs.Name.{same_bytes};
-ghost use Rattle.net_model.specs.Words.{rises};
+ghost use Rattle.net_model.specs.Words.{rises, is_among};
 ghost use Rattle.net_model.specs.Order.{link_cmp};
-ghost use Rattle.net_model.specs.Links.{is_named, is_port_of};
-ghost use Rattle.net_model.specs.Dependence.{has_base, reaches, no_cycle};
+ghost use Rattle.net_model.specs.Links.{is_named, ports_of};
+ghost use Rattle.net_model.specs.Dependence.{reaches, no_cycle};
 ghost use Rattle.kernel_model.specs.Words.{has_link};
 ghost use Rattle.net_model.specs.Edits.{edit_link, attached};
-ghost use Rattle.link_step.specs.Arrows.{FindsOnly, Draws};
+ghost use Rattle.link_step.specs.Leaf.{is_leaf};
 
-use crate::lookup::place_of;
-use net_model::{Items, Kind, Link, Name, Net, OutOfMemory, find_link, is_ethernet};
+use net_model::{
+    Kind, Link, Name, Net, OutOfMemory, arrows, find_link, is_among, is_bond, place_of,
+};
 use reach::closure;
 use std::alloc::{AllocError, Global};
-
-// The place of its base, where the link is a VLAN.
-fn base_place(links: &[Link], link: &Link) -> Option<usize>
-    requires { rises link_cmp links.now ≡ true }
-    ensures { FindsOnly (λ b. has_base link.now.kind b.name) links.now result }
-{
-    match &link.kind {
-        Kind::Vlan { base, .. } => place_of(links, base),
-        _ => None,
-    }
-}
-
-// The place of its controller, where the link has one.
-fn controller_place(links: &[Link], link: &Link) -> Option<usize>
-    requires { rises link_cmp links.now ≡ true }
-    ensures { FindsOnly (λ c. is_port_of c.name link.now) links.now result }
-{
-    match &link.controller {
-        Some(controller) => place_of(links, controller),
-        None => None,
-    }
-}
-
-// Adds an arrow from one place to another.
-fn add_arrow(arrows: &mut [Items<usize>], from: usize, to: usize) -> Result<(), OutOfMemory>
-    requires { from < length arrows.old }
-    ensures { OnOk result (arrows.new ≡ set arrows.old from (get_or arrows.old from [] ++ to ∷ [])) }
-{
-    arrows[from].push(to)
-}
-
-// Adds the arrow from a VLAN to its base.
-fn add_base(arrows: &mut [Items<usize>], links: &[Link], at: usize) -> Result<(), OutOfMemory>
-    requires in_order { rises link_cmp links.now ≡ true }
-    requires inside { at < length links.now }
-    requires drawn { Draws links.now at at arrows.old }
-    ensures { OnOk result (Draws links.now (at + 1) at arrows.new) }
-{
-    match base_place(links, &links[at]) {
-        Some(base) => add_arrow(arrows, at, base),
-        None => Ok(()),
-    }
-}
-
-// Adds the arrow from a controller to its port.
-fn add_port(arrows: &mut [Items<usize>], links: &[Link], at: usize) -> Result<(), OutOfMemory>
-    requires in_order { rises link_cmp links.now ≡ true }
-    requires inside { at < length links.now }
-    requires drawn { Draws links.now (at + 1) at arrows.old }
-    ensures { OnOk result (Draws links.now (at + 1) (at + 1) arrows.new) }
-{
-    match controller_place(links, &links[at]) {
-        Some(controller) => add_arrow(arrows, controller, at),
-        None => Ok(()),
-    }
-}
-
-fn no_arrows(alloc: Global, len: usize) -> Result<Vec<Items<usize>>, AllocError>
-    ensures { IfOk result (λ arrows. arrows.items ≡ replicate len []) }
-{
-    let mut arrows = Vec::new(alloc);
-    for _ in 0..len {
-        arrows.push(Items::of(Vec::new(alloc)))?;
-    }
-    Ok(arrows)
-}
-
-// For each link, the places of those that it depends on, each found by binary search.
-fn arrows(alloc: Global, links: &[Link]) -> Result<Vec<Items<usize>>, OutOfMemory>
-    requires { rises link_cmp links.now ≡ true }
-    ensures { IfOk result (λ arrows. Draws links.now (length links.now) (length links.now) arrows.items) }
-{
-    let mut arrows = no_arrows(alloc, links.len())?;
-    for at in 0..links.len() {
-        add_base(&mut arrows, links, at)?;
-        add_port(&mut arrows, links, at)?;
-    }
-    Ok(arrows)
-}
 
 fn marks(alloc: Global, links: &[Link], name: &Name) -> Result<Vec<bool>, AllocError>
     ensures { IfOk result (λ marks. marks.items ≡ map (is_named name.now) links.now) }
@@ -111,9 +33,26 @@ fn reaches(alloc: Global, links: &[Link], port: &Name, at: usize) -> Result<bool
     Ok(reached[at])
 }
 
-// Whether attaching the port makes a cycle, where the chain of its bases tells: a chain of VLANs that meets the
-// controller makes one, and one that ends in an Ethernet link before makes none, since neither VLANs nor Ethernet
-// links have ports.
+// Whether a link of this kind depends on none: it has neither a base nor ports.
+fn is_leaf(kind: &Kind) -> bool
+    ensures { result ≡ is_leaf kind.now }
+{
+    matches!(
+        kind,
+        Kind::Ethernet { .. } | Kind::Dummy | Kind::Veth { .. }
+    )
+}
+
+// Whether the controller is a port of the bond.
+fn is_port_of_bond(net: &Net, bond: &Name, controller: &Name) -> bool
+    ensures { result ≡ is_among (ports_of net.now.links bond.now) controller.now }
+{
+    is_among(net.ports_of(bond), controller)
+}
+
+// Whether attaching the port makes a cycle, where the chain of its bases tells. A chain of VLANs that meets the controller
+// makes one, since VLANs have no ports. One that ends before in an Ethernet link, a dummy or a veth makes none, and one
+// that ends in a bond makes one where the controller is a port of that, since these have no ports of their own.
 fn by_bases(net: &Net, port: &Name, controller: &Name) -> Option<bool>
     requires there { (has_link port.now net.now.links && has_link controller.now net.now.links) ≡ true }
     requires other { same_bytes port.now controller.now ≡ false }
@@ -126,8 +65,11 @@ fn by_bases(net: &Net, port: &Name, controller: &Name) -> Option<bool>
         let Some(link) = find_link(links, &name) else {
             return None;
         };
-        if is_ethernet(&link.kind) {
+        if is_leaf(&link.kind) {
             return Some(false);
+        }
+        if is_bond(&link.kind) {
+            return Some(is_port_of_bond(net, &name, controller));
         }
         let Kind::Vlan { base, .. } = link.kind else {
             return None;

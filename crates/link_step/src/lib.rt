@@ -22,5 +22,5 @@ mod refuse_port;
 // One call on links.
 mod step;
 
-pub use lookup::{has_link, place_of};
+pub use lookup::has_link;
 pub use step::step_link;

@@ -1,13 +1,14 @@
 //! A new MTU, which the VLANs over the link don't pass.
-ghost use Rattle.std.specs.Prelude.{◌≡◌, true, map, min, OnOk, OnErr, if◌then◌else◌};
-ghost use Rattle.net_model.specs.Words.{rises, is_among};
-ghost use Rattle.net_model.specs.Order.{name_cmp};
+ghost use Rattle.std.specs.Prelude.{◌≡◌, true, map, min, OnOk, OnErr};
+ghost use Rattle.net_model.specs.Words.{rises};
+ghost use Rattle.net_model.specs.Order.{link_cmp};
 ghost use Rattle.net_model.specs.NetData.{IsNet};
-ghost use Rattle.kernel_model.specs.Settings.{after_set_mtu};
+ghost use Rattle.net_model.specs.Edits.{edit_link};
+ghost use Rattle.kernel_model.specs.Settings.{with_mtu, after_set_mtu};
 ghost use Rattle.link_step.specs.Clamped.{clamped};
 
 use crate::hanging::hanging;
-use net_model::{Link, Name, OutOfMemory, Parts, is_among};
+use net_model::{Link, Name, OutOfMemory, Parts, place_of};
 use std::alloc::Global;
 
 fn lesser(a: u32, b: u32) -> u32
@@ -16,36 +17,47 @@ fn lesser(a: u32, b: u32) -> u32
     if b < a { b } else { a }
 }
 
-fn clamp(link: &mut Link, name: &Name, mtu: u32, over: &[Name])
-    requires { rises name_cmp over.now ≡ true }
-    ensures { link.new ≡ clamped name.now mtu over.now link.old }
+// What hangs on the named link gets its new MTU: the link itself in any case, the VLANs over it where theirs is larger.
+fn clamp(link: &mut Link, name: &Name, mtu: u32)
+    ensures { link.new ≡ with_mtu name.now mtu true link.old }
 {
     if link.name == *name {
         link.mtu = mtu;
-    } else if is_among(over, &link.name) {
+    } else {
         link.mtu = lesser(link.mtu, mtu);
     }
 }
 
+fn clamp_named(links: &mut [Link], name: &Name, mtu: u32, over: &Name)
+    requires { rises link_cmp links.old ≡ true }
+    ensures { links.new ≡ edit_link over.now (with_mtu name.now mtu true) links.old }
+{
+    match place_of(links, over) {
+        Some(i) => clamp(&mut links[i], name, mtu),
+        None => {}
+    }
+}
+
+// The same of each of these links, each found by binary search.
 fn clamp_links(links: &mut [Link], name: &Name, mtu: u32, over: &[Name])
-    requires { rises name_cmp over.now ≡ true }
+    requires { rises link_cmp links.old ≡ true }
     ensures { links.new ≡ map (clamped name.now mtu over.now) links.old }
 {
-    for link in links.iter_mut() {
-        clamp(link, name, mtu, over);
+    for link in over {
+        clamp_named(links, name, mtu, link);
     }
 }
 
 // The same on the vector.
 fn clamp_each(links: &mut Vec<Link>, name: &Name, mtu: u32, over: &[Name])
-    requires { rises name_cmp over.now ≡ true }
+    requires { rises link_cmp links.old.items ≡ true }
     ensures { links.new.items ≡ map (clamped name.now mtu over.now) links.old.items }
 {
     clamp_links(links, name, mtu, over);
 }
 
 fn clamp_all(parts: &mut Parts, name: &Name, mtu: u32, over: &[Name])
-    requires { rises name_cmp over.now ≡ true }
+    requires { rises link_cmp parts.old.links ≡ true }
     ensures { parts.new ≡ record parts.old { links = map (clamped name.now mtu over.now) parts.old.links } }
 {
     clamp_each(&mut parts.links, name, mtu, over);

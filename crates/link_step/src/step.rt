@@ -1,7 +1,9 @@
 //! One call on links.
 ghost use Rattle.std.specs.Prelude.{◌≡◌, ℕ, true, Some, None, Ok, Err, OnOk, OnErr, IfOk};
+ghost use Rattle.std.specs.Option.{option_map_or};
 ghost use Rattle.net_model.specs.Words.{rises};
 ghost use Rattle.net_model.specs.Order.{link_cmp};
+ghost use Rattle.net_model.specs.Links.{find_link};
 ghost use Rattle.net_model.specs.NetData.{IsNet};
 ghost use Rattle.net_model.specs.Edits.{edit_link};
 ghost use Rattle.kernel_model.specs.Outcome.{first_true};
@@ -17,7 +19,7 @@ use crate::mtu::set_mtu;
 use crate::one_link::write_on;
 use crate::{refuse, refuse_port};
 use kernel_model::StepFault;
-use net_model::{Call, Name, Net, OutOfMemory, Parts};
+use net_model::{Call, Link, Name, Net, OutOfMemory, Parts, find_link};
 use std::alloc::Global;
 
 // The least number with which the call is refused.
@@ -32,7 +34,7 @@ fn refusal(net: &Net, call: &Call) -> Result<Option<u8>, OutOfMemory>
         Call::Down { name } => Ok(refuse::down(net, name)),
         Call::SetMtu { name, mtu } => Ok(refuse::set_mtu(net, name, *mtu)),
         Call::SetMac { name, .. } => Ok(refuse::set_mac(net, name)),
-        Call::SetBond { name, opts } => refuse::set_bond(net, name, opts),
+        Call::SetBond { name, opts } => Ok(refuse::set_bond(net, name, opts)),
         Call::SetBridge { name, opts } => Ok(refuse::set_bridge(net, name, opts)),
         Call::Attach { port, controller } => refuse_port::attach(net, port, controller),
         Call::Detach { port } => Ok(refuse_port::detach(net, port)),
@@ -60,12 +62,26 @@ fn attach(parts: &mut Parts, port: &Name, controller: &Name) -> Result<(), OutOf
     parts.attach(port, controller)
 }
 
+fn controller_of(links: &[Link], port: &Name) -> Option<Name>
+    requires { rises link_cmp links.now ≡ true }
+    ensures { result ≡ option_map_or (λ l. l.controller) (find_link port.now links.now) None }
+{
+    match find_link(links, port) {
+        Some(link) => link.controller,
+        None => None,
+    }
+}
+
+// Detaches a port. A primary is one of the ports of its bond, so no link but the controller can have this one.
 fn detach(parts: &mut Parts, port: &Name) -> Result<(), OutOfMemory>
-    requires { rises link_cmp parts.old.links ≡ true }
+    requires { IsNet parts.old }
     ensures ok { OnOk result (parts.new ≡ after_detach port.now parts.old) }
     ensures err { OnErr result (parts.new ≡ parts.old) }
 {
-    parts.detach(port);
+    match controller_of(&parts.links, port) {
+        Some(controller) => parts.detach_from(port, &controller),
+        None => parts.detach(port),
+    }
     Ok(())
 }
 

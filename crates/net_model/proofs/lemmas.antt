@@ -25,11 +25,13 @@ pub mod Same
 pub mod SameLists
 pub mod InOrder
 pub mod Differing
+pub mod Vlans
 pub mod Arranged
+pub mod Drawn
 pub mod Cycles
 pub mod Listing
 pub mod ListChanges
 pub mod Editing
 pub mod LinkIndexes
 pub mod RouteIndexes
-pub mod Changing
+pub mod Detaching

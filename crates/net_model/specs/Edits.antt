@@ -39,6 +39,14 @@ primary_freed goes o = record o { primary = unless_gone goes o.primary }
 abbrev pub detached : List ℕ → Link → Link
 detached port l = record (changed port let_go l) { bond = primary_freed (λ n. same_bytes n port) l.bond }
 
+-- the link has the port as its primary
+abbrev pub has_primary : List ℕ → Link → Bool
+has_primary port l = option_map_or (λ n. same_bytes n port) l.bond.primary false
+
+-- the link is the port, or this controller, or hasn't the port as its primary
+abbrev pub is_free_but_for : List ℕ → List ℕ → Link → Bool
+is_free_but_for port controller l = is_named port l || is_named controller l || not (has_primary port l)
+
 -- a port whose controller goes gets default options
 abbrev pub port_freed : (List ℕ → Bool) → Link → PortOpts
 port_freed goes l = if option_map_or goes l.controller false then default_port else l.port

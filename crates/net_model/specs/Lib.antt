@@ -8,9 +8,11 @@ pub mod Order
 pub mod OrderLaws
 pub mod Links
 pub mod Dependence
+pub mod Arrows
 pub mod OnLink
 pub mod Options
 pub mod Lists
+pub mod Twins
 pub mod Valid
 pub mod NetData
 pub mod Hardware
@@ -21,5 +23,4 @@ pub mod Listed
 pub mod KeyOrder
 pub mod Indexed
 pub mod Edits
-pub mod Changes
 pub mod RoutePosition

@@ -1,5 +1,5 @@
 -- Where something stands in a strictly sorted list, and where it belongs.
-use Rattle.std.specs.Prelude.{◌≡◌, ℕ, ◌<◌, ◌≤◌, Bool, true, false, not, if◌then◌else◌, List, length, map, filter, Some, None, find, slice_index_or, slice_set, insert, remove}
+use Rattle.std.specs.Prelude.{◌≡◌, ℕ, ◌<◌, ◌≤◌, Bool, true, false, not, if◌then◌else◌, List, length, map, filter, Option, Some, None, find, slice_index_or, slice_set, insert, remove}
 use Rattle.std.specs.List.{list_any}
 use Rattle.std.specs.declared.cmp.Ordering.{Ordering}
 use Rattle.net_model.specs.Words.{put}
@@ -44,3 +44,8 @@ pub record IsLinkGap (name : List ℕ) (links : List Link) (i : ℕ) : Type 0 wh
 abbrev pub LinkPosition : Position → List ℕ → List Link → Type 0
 LinkPosition (At i) name links = IsAt name links i
 LinkPosition (Gap i) name links = IsLinkGap name links i
+
+-- the place of the link of this name, or none where no link has it
+abbrev pub Places : Option ℕ → List ℕ → List Link → Type 0
+Places (Some i) name links = IsAt name links i
+Places None name links = find_link name links ≡ None

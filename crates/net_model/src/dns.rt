@@ -7,10 +7,20 @@ use base_model::Items;
 use std::alloc::AllocError;
 
 /// The servers that are asked and the names that are searched under, each in the order of asking.
-#[derive(Clone, PartialEq, Eq, Drop)]
+#[derive(Clone, PartialEq, Eq)]
 pub struct Dns {
     pub servers: Items<Addr>,
     pub search: Items<Domain>,
+}
+
+// By hand, so that a proof sees one call where one is dropped, and not a step for each part.
+impl Drop for Dns {
+    fn drop(self) {
+        let Dns {
+            servers: _,
+            search: _,
+        } = self;
+    }
 }
 
 impl Dns {

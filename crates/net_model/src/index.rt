@@ -77,10 +77,11 @@ impl<V: Drop> Index<V> {
         insert_into(&mut self.lists, name, at, value)
     }
 
-    /// Takes a value out of the list of a name. It takes no memory.
+    /// Takes a value out of the list of a name, which is strictly sorted, so that binary search finds it. It takes no memory.
     pub fn leave_out(&mut self, name: &Name, value: &V)
     where
-        V: PartialEq,
+        V: Ord,
+        requires { rises V.cmp (listed self.old name.now) ≡ true }
         ensures { ChangesAt name.now (filter (λ v. not (V.eq v value.now)) (listed self.old name.now)) (listed self.old) (listed self.new) }
     {
         leave_out_of(&mut self.lists, name, value);
@@ -177,13 +178,21 @@ fn push_to<V: Drop>(
     }
 }
 
-fn keep_others<V: Drop + PartialEq>(list: &mut Vec<V>, value: &V)
+// Takes a value out of a strictly sorted list, where binary search finds it, and moves those after it up.
+fn keep_others<V: Drop + Ord>(list: &mut Vec<V>, value: &V)
+    requires { rises V.cmp list.old.items ≡ true }
     ensures { list.new.items ≡ filter (λ v. not (V.eq v value.now)) list.old.items }
 {
-    list.retain(|own| own != value);
+    match list.binary_search(value) {
+        Ok(i) => {
+            list.remove(i);
+        }
+        Err(_) => {}
+    }
 }
 
-fn leave_out_of<V: Drop + PartialEq>(lists: &mut IndexMap<Name, Vec<V>>, name: &Name, value: &V)
+fn leave_out_of<V: Drop + Ord>(lists: &mut IndexMap<Name, Vec<V>>, name: &Name, value: &V)
+    requires { rises V.cmp (list_in lists.old name.now) ≡ true }
     ensures { ChangesAt name.now (filter (λ v. not (V.eq v value.now)) (list_in lists.old name.now)) (list_in lists.old) (list_in lists.new) }
 {
     match lists.get_mut(name) {

@@ -22,11 +22,21 @@ use base_model::OutOfMemory;
 use std::alloc::Global;
 
 /// The VLANs over each base, the ports of each controller and the routes of each device.
-#[derive(Drop)]
 pub struct Indexes {
     pub over: Index<Name>,
     pub ports: Index<Name>,
     pub routes: Index<RouteKey>,
+}
+
+// By hand, so that a proof sees one call where one is dropped, and not a step for each part.
+impl Drop for Indexes {
+    fn drop(self) {
+        let Indexes {
+            over: _,
+            ports: _,
+            routes: _,
+        } = self;
+    }
 }
 
 impl Indexes {
@@ -86,7 +96,9 @@ pub(crate) fn put_key(index: &mut Index<RouteKey>, route: &Route) -> Result<(), 
     index.put(&route.dev, RouteKey::of(route))
 }
 
+// Takes a name out of the list of another.
 fn leave_out_name(index: &mut Index<Name>, of: &Name, name: &Name)
+    requires { rises name_cmp (listed index.old of.now) ≡ true }
     ensures { ChangesAt of.now (filter (λ n. not (same_bytes n name.now)) (listed index.old of.now)) (listed index.old) (listed index.new) }
 {
     index.leave_out(of, name);
@@ -94,7 +106,8 @@ fn leave_out_name(index: &mut Index<Name>, of: &Name, name: &Name)
 
 // Takes a link's name out of its base's list, the only one that may have it.
 fn leave_out_of_base(index: &mut Index<Name>, link: &Link)
-    requires { (k : List ℕ) → has_base link.now.kind k ≡ false → is_among (listed index.old k) link.now.name ≡ false }
+    requires in_order { (k : List ℕ) → rises name_cmp (listed index.old k) ≡ true }
+    requires alone { (k : List ℕ) → has_base link.now.kind k ≡ false → is_among (listed index.old k) link.now.name ≡ false }
     ensures { LeavesOut link.now.name (listed index.old) (listed index.new) }
 {
     match &link.kind {
@@ -106,6 +119,7 @@ fn leave_out_of_base(index: &mut Index<Name>, link: &Link)
 // Takes the name out of the lists of bases, of which only those may have it that list it for these links.
 fn leave_out_vlan(index: &mut Index<Name>, links: &[Link], name: &Name)
     requires in_order { rises link_cmp links.now ≡ true }
+    requires lists { (k : List ℕ) → rises name_cmp (listed index.old k) ≡ true }
     requires within { (k : List ℕ) → is_among (over links.now k) name.now ≡ false → is_among (listed index.old k) name.now ≡ false }
     ensures { LeavesOut name.now (listed index.old) (listed index.new) }
 {
@@ -128,7 +142,8 @@ pub(crate) fn leave_out_vlans(index: &mut Index<Name>, links: &[Link], goes: &[N
 
 // Takes a link's name out of its controller's list, the only one that may have it.
 fn leave_out_of_controller(index: &mut Index<Name>, link: &Link)
-    requires { (k : List ℕ) → is_port_of k link.now ≡ false → is_among (listed index.old k) link.now.name ≡ false }
+    requires in_order { (k : List ℕ) → rises name_cmp (listed index.old k) ≡ true }
+    requires alone { (k : List ℕ) → is_port_of k link.now ≡ false → is_among (listed index.old k) link.now.name ≡ false }
     ensures { LeavesOut link.now.name (listed index.old) (listed index.new) }
 {
     match &link.controller {
@@ -140,6 +155,7 @@ fn leave_out_of_controller(index: &mut Index<Name>, link: &Link)
 // Takes the name out of the lists of controllers, of which only those may have it that list it for these links.
 pub(crate) fn leave_out_port(index: &mut Index<Name>, links: &[Link], name: &Name)
     requires in_order { rises link_cmp links.now ≡ true }
+    requires lists { (k : List ℕ) → rises name_cmp (listed index.old k) ≡ true }
     requires within { (k : List ℕ) → is_among (ports_of links.now k) name.now ≡ false → is_among (listed index.old k) name.now ≡ false }
     ensures { LeavesOut name.now (listed index.old) (listed index.new) }
 {
@@ -162,6 +178,7 @@ pub(crate) fn leave_out_ports(index: &mut Index<Name>, links: &[Link], goes: &[N
 
 // Takes a route's key out of its device's list.
 pub(crate) fn leave_out_key(index: &mut Index<RouteKey>, route: &Route)
+    requires { rises key_cmp (listed index.old route.now.dev) ≡ true }
     ensures { ChangesAt route.now.dev (filter (is_other (key_of route.now)) (listed index.old route.now.dev)) (listed index.old) (listed index.new) }
 {
     index.leave_out(&route.dev, &RouteKey::of(route));

@@ -11,6 +11,8 @@ mod call;
 mod dns;
 // DNS search domains.
 mod domain;
+// The graph of dependence: for each link, the places of those that it depends on.
+mod graph;
 // What was built into the machine.
 mod hardware;
 // Numbers of routing tables and of VLANs.
@@ -51,6 +53,8 @@ mod route_key;
 mod rule;
 // The lists of a network, put in order.
 mod sorting;
+// VLANs over one base with one protocol and number.
+mod twins;
 // What is valid: the thirteen parts, asked one after another.
 mod valid;
 // The part of validity that looks at which link depends on which.
@@ -71,6 +75,7 @@ pub use base_model::{Items, OutOfMemory, Path, PathStep, Str};
 pub use call::Call;
 pub use dns::Dns;
 pub use domain::Domain;
+pub use graph::arrows;
 pub use id::{TableId, VlanId};
 pub use limits::{
     DEFAULT_MTU, MAX_ADDRESSES, MAX_DOMAIN_LEN, MAX_LINK_ADDRESSES, MAX_LINKS, MAX_MTU,
@@ -87,11 +92,14 @@ pub use name::Name;
 pub use net::{Net, NetFault};
 pub use options::{BondMode, BondOpts, BridgeOpts, HashPolicy, LacpRate, PortOpts, Proto};
 pub use parts::Parts;
-pub use position::{Position, address_position, link_position, route_position, rule_position};
+pub use position::{
+    Position, address_position, link_position, place_of, route_position, rule_position,
+};
 pub use route::Route;
 pub use route_edits::same_route;
 pub use route_key::RouteKey;
 pub use rule::{Rule, Target};
+pub use twins::is_first_vlan;
 pub use valid_dependence::no_cycle;
 pub use valid_limits::{is_default_bond, is_default_bridge, is_default_port};
 pub use valid_links::{base_stands, has_twin, mtu_in_range};

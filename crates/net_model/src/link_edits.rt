@@ -1,11 +1,10 @@
 //! Edits of links alone, as `parts` makes them beside those of the indexes.
 ghost use Rattle.std.specs.Prelude.{◌≡◌, ◌≤◌, ◌<◌, ◌+◌, true, not, None, map, filter, length, insert, vec_len, vec_capacity};
-ghost use Rattle.std.specs.Fn.{FnOnceReturnsAtMut};
+ghost use Rattle.std.specs.List.{list_all};
 ghost use Rattle.net_model.specs.Words.{rises, put, is_among};
 ghost use Rattle.net_model.specs.Order.{name_cmp, link_cmp};
 ghost use Rattle.net_model.specs.Links.{find_link};
-ghost use Rattle.net_model.specs.Changes.{ChangesNamed};
-ghost use Rattle.net_model.specs.Edits.{edit_link, attached, detached, unless_gone, port_freed, freed};
+ghost use Rattle.net_model.specs.Edits.{edit_link, attached, detached, is_free_but_for, unless_gone, port_freed, freed};
 
 use crate::link::Link;
 use crate::name::Name;
@@ -39,33 +38,6 @@ pub(crate) fn insert_link(links: &mut Vec<Link>, link: Link)
         Ok(()) => {}
         Err(_) => unreachable!(),
     }
-}
-
-fn change_one<F: FnOnce(&mut Link)>(link: &mut Link, change: F)
-    requires { F.IsAlwaysCallable change }
-    ensures { FnOnceReturnsAtMut F.FnOnce change link.old tt link.new }
-{
-    change(link);
-}
-
-fn change_at<F: FnOnce(&mut Link)>(links: &mut [Link], name: &Name, change: F)
-    requires in_order { rises link_cmp links.old ≡ true }
-    requires callable { F.IsAlwaysCallable change }
-    ensures { ChangesNamed (λ l m. FnOnceReturnsAtMut F.FnOnce change l tt m) name.now (find_link name.now links.old) links.old links.new }
-{
-    match link_position(links, name) {
-        Position::At(i) => change_one(&mut links[i], change),
-        Position::Gap(_) => {}
-    }
-}
-
-// Changes the named link, where it is there.
-pub(crate) fn change_named<F: FnOnce(&mut Link)>(links: &mut Vec<Link>, name: &Name, change: F)
-    requires in_order { rises link_cmp links.old.items ≡ true }
-    requires callable { F.IsAlwaysCallable change }
-    ensures { ChangesNamed (λ l m. FnOnceReturnsAtMut F.FnOnce change l tt m) name.now (find_link name.now links.old.items) links.old.items links.new.items }
-{
-    change_at(links, name, change);
 }
 
 fn attach(link: &mut Link, controller: &Name)
@@ -120,6 +92,35 @@ pub(crate) fn detach_named(links: &mut Vec<Link>, port: &Name)
     ensures { links.new.items ≡ map (detached port.now) links.old.items }
 {
     detach_each(links, port);
+}
+
+fn detach_at(links: &mut [Link], name: &Name, port: &Name)
+    requires { rises link_cmp links.old ≡ true }
+    ensures edit { links.new ≡ edit_link name.now (detached port.now) links.old }
+    ensures rise { rises link_cmp links.new ≡ true }
+{
+    match link_position(links, name) {
+        Position::At(i) => detach(&mut links[i], port),
+        Position::Gap(_) => {}
+    }
+}
+
+fn detach_both(links: &mut [Link], port: &Name, controller: &Name)
+    requires in_order { rises link_cmp links.old ≡ true }
+    requires alone { list_all (is_free_but_for port.now controller.now) links.old ≡ true }
+    ensures { links.new ≡ map (detached port.now) links.old }
+{
+    detach_at(links, controller, port);
+    detach_at(links, port, port);
+}
+
+// Detaches the named port of a controller that alone may have it as its primary: these two are found by binary search.
+pub(crate) fn detach_from(links: &mut Vec<Link>, port: &Name, controller: &Name)
+    requires in_order { rises link_cmp links.old.items ≡ true }
+    requires alone { list_all (is_free_but_for port.now controller.now) links.old.items ≡ true }
+    ensures { links.new.items ≡ map (detached port.now) links.old.items }
+{
+    detach_both(links, port, controller);
 }
 
 /// Whether the name is one of these, which are sorted, by binary search.

@@ -1,7 +1,6 @@
 //! The lists of a network that is taken apart, or not yet closed, with their indexes.
 ghost use Rattle.std.specs.Prelude.{◌≡◌, true, false, None, [], filter, map, not, is_some, IfOk, OnOk, OnErr};
-ghost use Rattle.std.specs.List.{list_any};
-ghost use Rattle.std.specs.Fn.{FnOnceReturnsAtMut};
+ghost use Rattle.std.specs.List.{list_any, list_all};
 ghost use Rattle.net_model.specs.Name.{same_bytes};
 ghost use Rattle.net_model.specs.Words.{rises, put, is_among};
 ghost use Rattle.net_model.specs.Order.{name_cmp, link_cmp, route_cmp, rule_cmp};
@@ -9,8 +8,7 @@ ghost use Rattle.net_model.specs.Links.{find_link, named_passes, ports_of};
 ghost use Rattle.net_model.specs.Lists.{net_of, no_dns};
 ghost use Rattle.net_model.specs.Valid.{same_key, same_rule};
 ghost use Rattle.net_model.specs.declared.link.Kind.TheVariants.{Veth};
-ghost use Rattle.net_model.specs.Changes.{Keeps, EditsNamed};
-ghost use Rattle.net_model.specs.Edits.{edit_link, attached, detached, without, same_route, stays_on_link};
+ghost use Rattle.net_model.specs.Edits.{edit_link, attached, detached, is_free_but_for, without, same_route, stays_on_link};
 ghost use Rattle.net_model.specs.Indexed.{over, routes_of};
 ghost use Rattle.net_model.specs.KeyOrder.{key_cmp};
 ghost use Rattle.net_model.specs.NetData.{is_in_order};
@@ -22,7 +20,7 @@ use crate::indexes::{
     put_vlan,
 };
 use crate::link::Link;
-use crate::link_edits::{attach_named, change_named, detach_named, insert_link, remove_links};
+use crate::link_edits::{attach_named, detach_from, detach_named, insert_link, remove_links};
 use crate::name::Name;
 use crate::order::{each_in_order, links_in_order, routes_in_order, rules_in_order};
 use crate::position::{Position, link_position, route_position, rule_position};
@@ -36,13 +34,25 @@ use std::marker::Model;
 
 /// The lists of a network, of which nothing is known but that the indexes list what stands in them: a network that is taken
 /// apart to be changed. Contracts see the lists alone.
-#[derive(Drop)]
 pub struct Parts {
     pub links: Vec<Link>,
     pub routes: Vec<Route>,
     pub rules: Vec<Rule>,
     pub dns: Dns,
     indexes: Indexes,
+}
+
+// By hand, so that a proof sees one call where one is dropped, and not a step for each part.
+impl Drop for Parts {
+    fn drop(self) {
+        let Parts {
+            links: _,
+            routes: _,
+            rules: _,
+            dns: _,
+            indexes: _,
+        } = self;
+    }
 }
 
 impl Model for Parts {
@@ -222,15 +232,15 @@ impl Parts {
         detach_named(&mut self.links, port);
     }
 
-    /// Changes the link of a name, where it is there, in what no index reads: all but its name, its kind and its controller.
-    /// It takes no memory.
-    pub fn change_link<F: FnOnce(&mut Link)>(&mut self, name: &Name, change: F)
+    /// Detaches a port of a controller that alone may have it as its primary, and then hasn't. Both are found by binary
+    /// search. It takes no memory.
+    pub fn detach_from(&mut self, port: &Name, controller: &Name)
         requires in_order { rises link_cmp self.old.links ≡ true }
-        requires callable { F.IsAlwaysCallable change }
-        requires keeps { Keeps (λ l m. FnOnceReturnsAtMut F.FnOnce change l tt m) }
-        ensures { EditsNamed (λ l m. FnOnceReturnsAtMut F.FnOnce change l tt m) name.now self.old self.new }
+        requires alone { list_all (is_free_but_for port.now controller.now) self.old.links ≡ true }
+        ensures { self.new ≡ record self.old { links = map (detached port.now) self.old.links } }
     {
-        change_named(&mut self.links, name, change);
+        leave_out_port(&mut self.indexes.ports, &self.links, port);
+        detach_from(&mut self.links, port, controller);
     }
 
     /// Takes out the links of these names, which are sorted, and the routes over them. What had one as its controller has none

@@ -2,7 +2,7 @@
 ghost use Rattle.std.specs.Prelude.{◌≡◌, true};
 ghost use Rattle.net_model.specs.Words.{rises};
 ghost use Rattle.net_model.specs.Order.{address_cmp, block_cmp, link_cmp, route_cmp, rule_cmp};
-ghost use Rattle.net_model.specs.Positions.{LinkPosition, Located};
+ghost use Rattle.net_model.specs.Positions.{LinkPosition, Located, Places};
 ghost use Rattle.net_model.specs.Valid.{addresses_differ, same_address, same_key, same_rule};
 
 use crate::address::Prefix;
@@ -30,6 +30,17 @@ pub fn link_position(links: &[Link], name: &Name) -> Position
     match links.binary_search_by_key(name, |link| link.name) {
         Ok(i) => Position::At(i),
         Err(i) => Position::Gap(i),
+    }
+}
+
+/// The place of the link of a name, or `None` where no link has it, in links that are sorted by name.
+pub fn place_of(links: &[Link], name: &Name) -> Option<usize>
+    requires { rises link_cmp links.now ≡ true }
+    ensures { Places result name.now links.now }
+{
+    match link_position(links, name) {
+        Position::At(i) => Some(i),
+        Position::Gap(_) => None,
     }
 }
 

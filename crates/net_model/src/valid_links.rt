@@ -1,16 +1,18 @@
 //! The parts of validity that look at links: names, bases, controllers, MTUs and addresses.
-ghost use Rattle.std.specs.Prelude.{◌≡◌, ◌&&◌, ◌||◌, true, not, nat_le, IsSorted};
-ghost use Rattle.std.specs.List.{list_any, list_all};
-ghost use Rattle.net_model.specs.Words.{apart, rises, is_before_head, steps_up, is_empty};
+ghost use Rattle.std.specs.Prelude.{◌≡◌, ◌&&◌, ◌||◌, true, nat_le, IfOk, IsSorted};
+ghost use Rattle.std.specs.List.{list_any};
+ghost use Rattle.net_model.specs.Words.{rises, is_before_head, steps_up, is_empty};
 ghost use Rattle.net_model.specs.Order.{link_cmp};
 ghost use Rattle.net_model.specs.Links.{is_twin, named_passes, can_be_base, takes, base_passes, controller_passes, is_bond_or_bridge};
-ghost use Rattle.net_model.specs.Valid.{names_differ, each_base_stands, vlans_differ, bases_stand, controllers_take, bases_up, mtu_in_range, mtus_fit, is_bond_or_bridge_port, ports_without_addresses, all_v4, same_address, addresses_differ, addresses_fit};
+ghost use Rattle.net_model.specs.Valid.{names_differ, each_base_stands, bases_stand, controllers_take, bases_up, mtu_in_range, mtus_fit, is_bond_or_bridge_port, ports_without_addresses, all_v4, same_address, addresses_differ, addresses_fit};
 
 use crate::address::Prefix;
 use crate::limits::{MAX_MTU, MIN_MTU};
 use crate::link::{Kind, Link};
 use crate::lookup::{can_be_base, find_link, is_bond_or_bridge, is_twin, takes};
 use crate::name::Name;
+use crate::twins::vlans_differ;
+use std::alloc::{AllocError, Global};
 
 fn is_before_head(link: &Link, rest: &[Link]) -> bool
     ensures { result ≡ is_before_head link_cmp link.now rest.now }
@@ -76,25 +78,15 @@ pub fn has_twin(links: &[Link], kind: &Kind) -> bool
     links.iter().any(|link| is_twin(kind, &link.kind))
 }
 
-fn vlans_differ(links: &[Link]) -> bool
-    ensures { result ≡ vlans_differ links.now }
-{
-    let mut left = links;
-    while let Some((link, rest)) = left.split_first() {
-        if has_twin(rest, &link.kind) {
-            return false;
-        }
-        left = rest;
-    }
-    true
-}
-
 // Part 2: whether each base is there and can be one, and VLANs differ.
-pub(crate) fn bases_stand(links: &[Link]) -> bool
+pub(crate) fn bases_stand(alloc: Global, links: &[Link]) -> Result<bool, AllocError>
     requires { rises link_cmp links.now ≡ true }
-    ensures { result ≡ bases_stand links.now }
+    ensures { IfOk result (λ stand. stand ≡ bases_stand links.now) }
 {
-    each_base_stands(links) && vlans_differ(links)
+    if !each_base_stands(links) {
+        return Ok(false);
+    }
+    vlans_differ(alloc, links)
 }
 
 #[tactic(auto, using(crate::proofs::lemmas::Found::named_passes_found))]

@@ -1,7 +1,5 @@
 //! The part of validity that looks at options.
 ghost use Rattle.std.specs.Prelude.{◌≡◌, ◌&&◌, ◌||◌, not, true};
-ghost use Rattle.std.specs.List.{list_all};
-ghost use Rattle.std.specs.Option.{option_map_or};
 ghost use Rattle.net_model.specs.Words.{rises, is_among};
 ghost use Rattle.net_model.specs.Order.{link_cmp};
 ghost use Rattle.net_model.specs.Links.{is_port_of, ports_of, named_passes};
@@ -67,8 +65,8 @@ fn rest_ok(mode: BondMode, opts: &BondOpts) -> bool
 /// Whether a bond of this mode with these ports may have these options: a primary is a port, and the mode is
 /// active-backup, balance-tlb or balance-alb; the fast rate stands only in 802.3ad; and both delays are 0, or the
 /// interval of the link monitor isn't 0 and divides both.
-pub fn bond_ok(mode: BondMode, opts: &BondOpts, ports: &Vec<Name>) -> bool
-    ensures { result ≡ bond_ok mode opts.now ports.now.items }
+pub fn bond_ok(mode: BondMode, opts: &BondOpts, ports: &[Name]) -> bool
+    ensures { result ≡ bond_ok mode opts.now ports.now }
 {
     primary_ok(mode, &opts.primary, ports) && rest_ok(mode, opts)
 }

@@ -1,7 +1,7 @@
 -- The graph of a list of links and of what depends on what.
-use Rattle.std.proofs.Common.{◌≡◌, ℕ, ◌+◌, ◌<◌, zero, suc, Bool, true, false, not, ◌&&◌, cond, List, [], ◌∷◌, ◌++◌, map, length, get_or, drop, refl, sym, ap, subst, ◌∙◌, arith}
+use Rattle.std.proofs.Common.{◌≡◌, ℕ, ◌+◌, ◌<◌, zero, suc, Bool, true, false, not, ◌&&◌, cond, List, [], ◌∷◌, map, length, get_or, refl, sym, ap, subst, ◌∙◌, arith}
 use Rattle.std.specs.List.{list_all}
-use Rattle.std.proofs.lemmas.List.{at_drop_more, get_or-map, length-map, append_assoc}
+use Rattle.std.proofs.lemmas.List.{get_or-map, length-map}
 use Rattle.reach.specs.Reach.{is_reached, IsGraph, IsLeast, Represents}
 use Rattle.reach.proofs.lemmas.Least.{least_is_reached}
 use Rattle.net_model.specs.Words.{positions}
@@ -38,16 +38,6 @@ positions_whole p at (x ∷ xs) (suc j) d lt h =
       | true ↦ (suc s.0, omega (arith, s.1), omega (arith, s.2))
       | false ↦ (s.0, s.1, omega (arith, s.2))
     ]
-
--- the next of the list is found or passed over
-pub positions_found : {X : Type 0} (p : X → Bool) (found : List ℕ) (at : ℕ) (xs : List X) (d : X) → at < length xs → p (get_or xs at d) ≡ true → (found ++ at ∷ []) ++ positions p (at + 1) (drop (at + 1) xs) ≡ found ++ positions p at (drop at xs)
-positions_found p found at xs d lt h =
-    append_assoc {A = ℕ} found (at ∷ []) (positions p (at + 1) (drop (at + 1) xs))
-    ∙ ap (λ rest. found ++ rest) (sym (at_drop_more (positions p at) xs at d lt ∙ ap (λ v. cond v (at ∷ positions p (at + 1) (drop (at + 1) xs)) (positions p (at + 1) (drop (at + 1) xs))) h))
-
-pub positions_passed : {X : Type 0} (p : X → Bool) (found : List ℕ) (at : ℕ) (xs : List X) (d : X) → at < length xs → p (get_or xs at d) ≡ false → found ++ positions p (at + 1) (drop (at + 1) xs) ≡ found ++ positions p at (drop at xs)
-positions_passed p found at xs d lt h =
-    ap (λ rest. found ++ rest) (sym (at_drop_more (positions p at) xs at d lt ∙ ap (λ v. cond v (at ∷ positions p (at + 1) (drop (at + 1) xs)) (positions p (at + 1) (drop (at + 1) xs))) h))
 
 module _ {X : Type 0} (leads : X → X → Bool) (starts : X → Bool) (xs : List X) (d : X) where
   abbrev rows : List (List ℕ)

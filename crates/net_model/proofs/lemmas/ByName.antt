@@ -1,6 +1,7 @@
 -- Links by name: what holds of all holds of the one found, and the other way round.
-use Rattle.std.proofs.Common.{◌≡◌, ℕ, Bool, true, false, not, ◌&&◌, ◌||◌, cond, List, [], ◌∷◌, map, Some, refl, sym, ap, ◌∙◌}
+use Rattle.std.proofs.Common.{◌≡◌, ℕ, Bool, true, false, not, ◌&&◌, ◌||◌, cond, List, [], ◌∷◌, map, Some, None, refl, sym, ap, ◌∙◌}
 use Rattle.std.specs.List.{list_any, list_all}
+use Rattle.std.specs.Option.{option_map_or}
 use Rattle.net_model.specs.Name.{same_bytes}
 use Rattle.net_model.specs.Links.{find_link, is_named, same_name, named_passes}
 use Rattle.net_model.specs.Valid.{names_differ}
@@ -105,3 +106,13 @@ map_by_name f g (x ∷ xs) differ each =
     let none : list_any (same_name x) xs ≡ false = not_true (list_any (same_name x) xs) (and_left (not (list_any (same_name x) xs)) (names_differ xs) differ) in
     ap (λ (l : Link). l ∷ map f xs) (each x.name x (found_first x xs))
     ∙ ap (λ (ls : List Link). g x ∷ ls) (map_by_name f g xs (and_right (not (list_any (same_name x) xs)) (names_differ xs) differ) (λ n l found. each n l (found_later x xs n l (none_named x xs none n l found) found)))
+
+-- what passes under a name is that the link found does
+pub passes_where_found : (test : Link → Bool) (links : List Link) (name : List ℕ) → names_differ links ≡ true → named_passes test links name ≡ option_map_or test (find_link name links) false
+passes_where_found test links name differ = elim (find_link name links) as (λ o. find_link name links ≡ o → named_passes test links name ≡ option_map_or test o false) [
+  | None ↦ λ none. elim (named_passes test links name) as (λ v. named_passes test links name ≡ v → v ≡ false) [
+    | true ↦ λ passes. let found = (passing_found test links name differ passes).1 in cc
+    | false ↦ λ _. refl
+  ] refl
+  | Some b ↦ λ found. passes_as test links name b differ found
+] refl

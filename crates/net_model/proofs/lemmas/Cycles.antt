@@ -1,18 +1,20 @@
 -- Links depend on each other in a cycle exactly where the arrows of dependence lead round.
 use Rattle.std.proofs.Common.{◌≡◌, ℕ, ◌<◌, zero, suc, Bool, true, false, not, ◌&&◌, ◌||◌, List, [], ◌∷◌, map, length, get_or, Some, refl, sym, ap, subst, ◌∙◌, arith}
-use Rattle.reach.specs.Reach.{is_reached, Represents}
+use Rattle.reach.specs.Reach.{is_reached, IsGraph, Represents}
 use Rattle.reach.specs.Cycle.{target, HasRanks, Decides}
 use Rattle.reach.proofs.lemmas.Least.{any_index}
 use Rattle.net_model.specs.Words.{positions, rises}
 use Rattle.net_model.specs.Order.{link_cmp}
 use Rattle.net_model.specs.Links.{find_link, is_named, same_name}
 use Rattle.net_model.specs.Dependence.{depends_on, on_cycle, no_cycle}
+use Rattle.net_model.specs.Arrows.{Draws}
 use Rattle.net_model.specs.Valid.{names_differ}
 use Rattle.net_model.specs.declared.link.Link.{Link}
 use Rattle.net_model.proofs.lemmas.Truth.{and_left, and_right}
 use Rattle.net_model.proofs.lemmas.Orders.{link_cmp_total}
 use Rattle.net_model.proofs.lemmas.Found.{itself, found_at, names_tie, names_differ-rises}
 use Rattle.net_model.proofs.lemmas.Arrows.{rows-IsGraph, rows-Represents, all_places}
+use Rattle.net_model.proofs.lemmas.Drawn.{drawn-IsGraph, drawn-Represents}
 use Rattle.net_model.proofs.lemmas.Places.{only_itself}
 use Rattle.net_model.proofs.lemmas.Ranks.{or_elim, rank-falls}
 use Rattle.reach.proofs.lemmas.Saturate.{tally}
@@ -22,12 +24,9 @@ use Rattle.net_model.specs.Dependence.{reaches}
 abbrev pub rows : List Link → List (List ℕ)
 rows links = map (λ l. positions (depends_on l) 0 links) links
 
-module _ (links : List Link) (d : Link) (differ : names_differ links ≡ true) where
-  graph : Represents depends_on (λ l. false) links d (rows links) (map (λ l. false) links)
-  graph = rows-Represents depends_on (λ l. false) links d
-
+module _ (links : List Link) (d : Link) (differ : names_differ links ≡ true) (arrows : List (List ℕ)) (is_graph : IsGraph arrows) (graph : Represents depends_on (λ l. false) links d arrows (map (λ l. false) links)) where
   -- what is reached has a lower rank
-  lower : (r : HasRanks (rows links)) (i : ℕ) → i < length links → (steps j : ℕ) → j < length links → is_reached depends_on (is_named (get_or links i d).name) links steps (get_or links j d) ≡ true → r.rank j < r.rank i
+  lower : (r : HasRanks arrows) (i : ℕ) → i < length links → (steps j : ℕ) → j < length links → is_reached depends_on (is_named (get_or links i d).name) links steps (get_or links j d) ≡ true → r.rank j < r.rank i
   lower r i lt zero j below h = absurd cc
   lower r i lt (suc steps) j below h =
       let n = (get_or links i d).name in
@@ -45,7 +44,7 @@ module _ (links : List Link) (d : Link) (differ : names_differ links ≡ true) w
   off true h = absurd (h refl)
   off false h = refl
 
-  ranked_none : HasRanks (rows links) → no_cycle links ≡ true
+  ranked_none : HasRanks arrows → no_cycle links ≡ true
   ranked_none r = all_places (on_cycle links) links (λ k e lt. at_default k e lt (off (on_cycle links (get_or links k d)) (λ on. absurd (omega (arith, lower r k lt (length links) k lt on)))))
     where
       same : (xs : List Link) (k : ℕ) (e : Link) → k < length xs → get_or xs k d ≡ get_or xs k e
@@ -56,23 +55,27 @@ module _ (links : List Link) (d : Link) (differ : names_differ links ≡ true) w
       at_default : (k : ℕ) (e : Link) → k < length links → on_cycle links (get_or links k d) ≡ false → on_cycle links (get_or links k e) ≡ false
       at_default k e lt h = ap (on_cycle links) (sym (same links k e lt)) ∙ h
 
-  none_ranked : no_cycle links ≡ true → HasRanks (rows links)
+  none_ranked : no_cycle links ≡ true → HasRanks arrows
   none_ranked none = record {
     rank = λ j. tally (reaches links (length links) (get_or links j d).name) links;
     falls = λ i k lt below.
         let inside : i < length links = omega (arith, graph.whole, lt) in
-        let to : target (rows links) i k < length links = omega (arith, graph.whole, rows-IsGraph depends_on (λ l. false) links d i k lt below) in
+        let to : target arrows i k < length links = omega (arith, graph.whole, is_graph i k lt below) in
         let here : find_link (get_or links i d).name links ≡ Some (get_or links i d) = found_at links (get_or links i d).name i d differ inside (itself (get_or links i d).name) in
-        let there : find_link (get_or links (target (rows links) i k) d).name links ≡ Some (get_or links (target (rows links) i k) d) = found_at links (get_or links (target (rows links) i k) d).name (target (rows links) i k) d differ to (itself (get_or links (target (rows links) i k) d).name) in
-        rank-falls links differ none (get_or links i d) (get_or links (target (rows links) i k) d) here there (graph.leading i k inside below);
+        let there : find_link (get_or links (target arrows i k) d).name links ≡ Some (get_or links (target arrows i k) d) = found_at links (get_or links (target arrows i k) d).name (target arrows i k) d differ to (itself (get_or links (target arrows i k) d).name) in
+        rank-falls links differ none (get_or links i d) (get_or links (target arrows i k) d) here there (graph.leading i k inside below);
   }
 
-  pub decided_at : (cycle : Bool) → Decides cycle (rows links) → not cycle ≡ no_cycle links
-  decided_at false ranks = sym (ranked_none ranks)
-  decided_at true no_ranks = sym (off (no_cycle links) (λ h. no_ranks (none_ranked h)))
+  decided_graph : (cycle : Bool) → Decides cycle arrows → not cycle ≡ no_cycle links
+  decided_graph false ranks = sym (ranked_none ranks)
+  decided_graph true no_ranks = sym (off (no_cycle links) (λ h. no_ranks (none_ranked h)))
 
--- whether the arrows lead round decides whether links depend on each other in a cycle
-pub decided_links : (links : List Link) → rises link_cmp links ≡ true → (cycle : Bool) (arrows : List (List ℕ)) → arrows ≡ rows links → Decides cycle arrows → not cycle ≡ no_cycle links
-decided_links [] up false arrows e decides = refl
-decided_links [] up true arrows e decides = absurd (subst (λ a. HasRanks a → ⊥) e decides (record { rank = λ _. 0; falls = λ i k lt below. absurd (omega arith) }))
-decided_links (x ∷ xs) up cycle arrows e decides = decided_at (x ∷ xs) x (names_differ-rises (x ∷ xs) up) cycle (subst (Decides cycle) e decides)
+-- whether the rows of the links lead round decides whether links depend on each other in a cycle
+pub decided_at : (links : List Link) (d : Link) → names_differ links ≡ true → (cycle : Bool) → Decides cycle (rows links) → not cycle ≡ no_cycle links
+decided_at links d differ = decided_graph links d differ (rows links) (rows-IsGraph depends_on (λ l. false) links d) (rows-Represents depends_on (λ l. false) links d)
+
+-- and so do the arrows that are drawn
+pub decided_links : (links : List Link) → rises link_cmp links ≡ true → (cycle : Bool) (arrows : List (List ℕ)) → Draws links (length links) (length links) arrows → Decides cycle arrows → not cycle ≡ no_cycle links
+decided_links [] up false arrows drawn decides = refl
+decided_links [] up true arrows drawn decides = absurd (decides (record { rank = λ _. 0; falls = λ i k lt below. absurd (omega (arith, lt, drawn.whole)) }))
+decided_links (x ∷ xs) up cycle arrows drawn decides = decided_graph (x ∷ xs) x (names_differ-rises (x ∷ xs) up) arrows (drawn-IsGraph (x ∷ xs) arrows drawn) (drawn-Represents (x ∷ xs) arrows drawn (λ _. false) x) cycle decides

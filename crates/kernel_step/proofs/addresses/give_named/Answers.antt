@@ -1,4 +1,4 @@
-use Rattle.std.proofs.Common.{◌≡◌, ◌∙◌, List, ap, sym, slice_set}
+use Rattle.std.proofs.Common.{◌∙◌, List, ap, sym, slice_set}
 use Rattle.std.specs.Prelude.{Result, Ok, Err, OnOk}
 use Rattle.net_model.specs.declared.link.Link.{Link}
 use Rattle.net_model.proofs.lemmas.Found.{names_differ-rises}

@@ -1,7 +1,7 @@
 use Rattle.std.proofs.Common.{◌∙◌, ℕ, List, false, sym, subst, arith}
 use Rattle.reach.specs.Reach.{IsGraph, IsLeast}
 use Rattle.reach.proofs.lemmas.Marks.{any_default}
-use Rattle.link_step.proofs.Drawn.{drawn-IsGraph, marked}
+use Rattle.net_model.proofs.lemmas.Drawn.{drawn-IsGraph, marked}
 use Rattle.link_step.proofs.cycle.reaches.Goals as goal
 
 pub closure-requires-clause-graph : goal.closure-requires-clause-graph

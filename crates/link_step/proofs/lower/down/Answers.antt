@@ -3,7 +3,6 @@ use Rattle.net_model.specs.Words.{is_among}
 use Rattle.net_model.specs.Lists.{NetData}
 use Rattle.kernel_model.specs.Words.{hangs_on}
 use Rattle.kernel_model.specs.UpDown.{fallen}
-use Rattle.net_model.specs.declared.link.Link.{Link}
 use Rattle.link_step.specs.Hanging.{hanging}
 use Rattle.link_step.proofs.Hangers.{among_hanging}
 use Rattle.link_step.proofs.Agree.{fallen_agree}

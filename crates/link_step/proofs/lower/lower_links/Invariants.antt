@@ -1,8 +1,7 @@
-use Rattle.std.proofs.Common.{◌≡◌, ◌++◌, map, take, drop}
-use Rattle.net_model.specs.Words.{is_among}
-use Rattle.kernel_model.specs.UpDown.{lowered}
+use Rattle.std.proofs.Common.{◌≡◌, map, take}
+use Rattle.link_step.proofs.Writing.{written_on, down_link}
 use Rattle.link_step.proofs.lower.lower_links.Given as goal
 
--- the links before the index are done, and the others as they were
-abbrev pub invariant-loop-link : goal.invariant-loop-link
-invariant-loop-link l = l.links ≡ map (lowered (is_among l.falls)) (take l.link-index l.initial.links) ++ drop l.link-index l.initial.links
+-- the links of the names before the index are down
+abbrev pub invariant-loop-name : goal.invariant-loop-name
+invariant-loop-name l = l.links ≡ map (written_on down_link (take l.name-index l.falls)) l.initial.links

@@ -1,6 +1,5 @@
-use Rattle.std.proofs.Common.{List, refl, sym, subst}
+use Rattle.std.proofs.Common.{List, sym, subst}
 use Rattle.net_model.specs.declared.Link.{Link}
-use Rattle.net_model.specs.declared.Call.{Call}
 use Rattle.net_model.specs.Indexed.{AreIndexes}
 use Rattle.net_model.proofs.lemmas.LinkIndexes.{kept_edit}
 use Rattle.link_step.specs.OneLink.{written}

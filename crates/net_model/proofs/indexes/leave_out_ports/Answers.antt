@@ -1,12 +1,20 @@
 use Rattle.std.proofs.Common.{◌∙◌, ◌<◌, ℕ, List, not, length, take, ap, sym, arith}
-use Rattle.net_model.specs.Words.{is_among}
+use Rattle.net_model.specs.Words.{rises, is_among}
+use Rattle.net_model.specs.Order.{name_cmp}
 use Rattle.net_model.specs.Links.{ports_of}
 use Rattle.net_model.specs.Listed.{listed}
 use Rattle.net_model.proofs.lemmas.ListChanges.{all_kept, none_kept, left_out_more}
+use Rattle.net_model.proofs.lemmas.Parts.{rises_filter}
+use Rattle.net_model.proofs.lemmas.LinkIndexes.{ports_rise}
 use Rattle.net_model.proofs.indexes.leave_out_ports.Goals as goal
 
 pub loop-at-init : goal.loop-at-init
 loop-at-init c = λ k. c.requires.lists k ∙ sym (all_kept (ports_of c.args.links.now k))
+
+pub leave_out_port-requires-clause-lists : goal.leave_out_port-requires-clause-lists
+leave_out_port-requires-clause-lists c = λ k.
+    ap (rises name_cmp) (c.loop-at.invariant k)
+    ∙ rises_filter name_cmp (λ n. not (is_among (take c.loop-at.at c.args.goes.now) n)) (ports_of c.args.links.now k) (ports_rise c.args.links.now k c.requires.in_order)
 
 pub leave_out_port-requires-clause-within : goal.leave_out_port-requires-clause-within
 leave_out_port-requires-clause-within c = λ k none.

@@ -10,8 +10,8 @@ use Rattle.net_model.proofs.lemmas.ListChanges.{none_left_out}
 use Rattle.net_model.proofs.lemmas.LinkIndexes.{listed_as}
 use Rattle.net_model.proofs.indexes.leave_out_vlan.Goals as goal
 
-pub leave_out_of_base-requires : goal.leave_out_of_base-requires
-leave_out_of_base-requires c = λ k off.
+pub leave_out_of_base-requires-clause-alone : goal.leave_out_of_base-requires-clause-alone
+leave_out_of_base-requires-clause-alone c = λ k off.
     let name : List ℕ = c.args.name.now in
     let l : Link = c.index-links-i.result in
     let one : l.name ≡ name = one_name l.name name (ap (λ (m : Link). same_bytes m.name name) c.index-links-i.is ∙ c.in-At.ensures.named l) in

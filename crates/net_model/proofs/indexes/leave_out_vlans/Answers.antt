@@ -1,12 +1,20 @@
 use Rattle.std.proofs.Common.{◌∙◌, ◌<◌, ℕ, List, not, length, take, ap, sym, arith}
-use Rattle.net_model.specs.Words.{is_among}
+use Rattle.net_model.specs.Words.{rises, is_among}
+use Rattle.net_model.specs.Order.{name_cmp}
 use Rattle.net_model.specs.Listed.{listed}
 use Rattle.net_model.specs.Indexed.{over}
 use Rattle.net_model.proofs.lemmas.ListChanges.{all_kept, none_kept, left_out_more}
+use Rattle.net_model.proofs.lemmas.Parts.{rises_filter}
+use Rattle.net_model.proofs.lemmas.LinkIndexes.{over_rise}
 use Rattle.net_model.proofs.indexes.leave_out_vlans.Goals as goal
 
 pub loop-at-init : goal.loop-at-init
 loop-at-init c = λ k. c.requires.lists k ∙ sym (all_kept (over c.args.links.now k))
+
+pub leave_out_vlan-requires-clause-lists : goal.leave_out_vlan-requires-clause-lists
+leave_out_vlan-requires-clause-lists c = λ k.
+    ap (rises name_cmp) (c.loop-at.invariant k)
+    ∙ rises_filter name_cmp (λ n. not (is_among (take c.loop-at.at c.args.goes.now) n)) (over c.args.links.now k) (over_rise c.args.links.now k c.requires.in_order)
 
 pub leave_out_vlan-requires-clause-within : goal.leave_out_vlan-requires-clause-within
 leave_out_vlan-requires-clause-within c = λ k none.

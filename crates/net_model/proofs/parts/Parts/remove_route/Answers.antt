@@ -1,9 +1,18 @@
-use Rattle.std.proofs.Common.{List, sym, subst}
+use Rattle.std.proofs.Common.{◌≡◌, ◌∙◌, List, true, ap, sym, subst}
+use Rattle.net_model.specs.Words.{rises}
+use Rattle.net_model.specs.Order.{route_cmp}
+use Rattle.net_model.specs.Lists.{NetData}
+use Rattle.net_model.specs.KeyOrder.{key_cmp}
 use Rattle.net_model.specs.declared.route.Route.{Route}
 use Rattle.net_model.specs.Indexed.{AreIndexes}
 use Rattle.net_model.specs.RoutePosition.{IsRouteAt}
-use Rattle.net_model.proofs.lemmas.RouteIndexes.{removed_route}
+use Rattle.net_model.proofs.lemmas.RouteIndexes.{routes_rise, removed_route}
 use Rattle.net_model.proofs.parts.Parts.remove_route.Goals as goal
+
+pub leave_out_key-requires : goal.leave_out_key-requires
+leave_out_key-requires c =
+    let up : rises route_cmp c.self.inside.routes.items ≡ true = ap (λ (n : NetData). rises route_cmp n.routes) c.self.view_is ∙ c.requires in
+    ap (rises key_cmp) (c.self.invariant.by_dev c.args.route.now.dev) ∙ routes_rise c.self.inside.routes.items c.args.route.now.dev up
 
 pub invariant_of-self : goal.invariant_of-self
 invariant_of-self c =

@@ -1,6 +1,0 @@
-use Rattle.link_step.specs.Arrows.{Draws}
-use Rattle.link_step.proofs.cycle.arrows.Given as goal
-
--- the arrows of the links so far
-abbrev pub invariant-loop-at : goal.invariant-loop-at
-invariant-loop-at l = Draws l.links l.at l.at l.arrows.items
