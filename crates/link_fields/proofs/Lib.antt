@@ -1,1 +1,2 @@
 mod PortEntries
+mod Settled

@@ -1,14 +1,11 @@
-//! The merged links: one rule for each field.
-ghost use Rattle.std.specs.Prelude.{◌≡◌, length, map, option_copied, IfOk};
-ghost use Rattle.std.specs.Option.{option_map, option_and_then};
-ghost use Rattle.merge_model.specs.Merged.{base_member, up_over, down_bases, by_bases, mtu_over, stated_mtu, unstated_mtu, mac_over, stated_mac, is_up, merged_link, merged_links};
+//! The fields of merged links that follow from their bases: one rule for each.
+ghost use Rattle.std.specs.Prelude.{◌≡◌, option_copied};
+ghost use Rattle.std.specs.Option.{option_map};
+ghost use Rattle.merge_model.specs.Merged.{base_member, up_over, down_bases, mtu_over, stated_mtu, unstated_mtu, mac_over, stated_mac};
 
-use crate::addresses::addrs_of;
-use crate::options::{bond_of, bridge_of, port_of};
 use link_members::Members;
 use link_order::{Member, base_of, is_absent, is_stated_up, permanent_of};
-use net_model::{DEFAULT_MTU, Link, Mac};
-use std::alloc::{AllocError, Global};
+use net_model::{DEFAULT_MTU, Mac};
 
 fn base_member<'a, 'b>(members: &'b Members<'a>, member: &Member<'a>) -> Option<&'b Member<'a>>
     ensures { option_copied result ≡ base_member members.now member.now }
@@ -19,8 +16,8 @@ fn base_member<'a, 'b>(members: &'b Members<'a>, member: &Member<'a>) -> Option<
     }
 }
 
-// Up where it is stated up or lifted, or unstated and up before and, if it is a VLAN, over a base that is up.
-fn up_over(member: &Member, below: Option<bool>) -> bool
+/// Up where it is stated up or lifted, or unstated and up before and, if it is a VLAN, over a base that is up.
+pub(crate) fn up_over(member: &Member, below: Option<bool>) -> bool
     ensures { result ≡ up_over member.now below }
 {
     is_stated_up(member.wish())
@@ -28,8 +25,8 @@ fn up_over(member: &Member, below: Option<bool>) -> bool
         || (member.is_unstated() && member.was_up() && below.unwrap_or(true))
 }
 
-// Whether the link is up, looking so many bases down.
-fn up_within<'a>(members: &Members<'a>, steps: usize, member: &Member<'a>) -> bool
+/// Whether the link is up, looking so many bases down.
+pub(crate) fn up_within<'a>(members: &Members<'a>, steps: usize, member: &Member<'a>) -> bool
     ensures { result ≡ down_bases up_over members.now steps member.now }
 {
     if steps == 0 {
@@ -76,7 +73,8 @@ fn unstated_mtu(now: Option<u32>, below: Option<u32>) -> u32
     }
 }
 
-fn mtu_over(member: &Member, below: Option<u32>) -> u32
+/// The stated MTU, else the one that follows from its base's.
+pub(crate) fn mtu_over(member: &Member, below: Option<u32>) -> u32
     ensures { result ≡ mtu_over member.now below }
 {
     match stated_mtu(member) {
@@ -85,8 +83,8 @@ fn mtu_over(member: &Member, below: Option<u32>) -> u32
     }
 }
 
-// The MTU, looking so many bases down.
-fn mtu_within<'a>(members: &Members<'a>, steps: usize, member: &Member<'a>) -> u32
+/// The MTU, looking so many bases down.
+pub(crate) fn mtu_within<'a>(members: &Members<'a>, steps: usize, member: &Member<'a>) -> u32
     ensures { result ≡ down_bases mtu_over members.now steps member.now }
 {
     if steps == 0 {
@@ -120,8 +118,8 @@ fn current_mac(member: &Member) -> Option<Mac>
     }
 }
 
-// The stated one, else the current one, else for a new VLAN its base's, else the one made from the name.
-fn mac_over(member: &Member, below: Option<Mac>) -> Mac
+/// The MAC: the stated one, else the current one, else for a new VLAN its base's, else the one made from the name.
+pub(crate) fn mac_over(member: &Member, below: Option<Mac>) -> Mac
     ensures { result ≡ mac_over member.now below }
 {
     match stated_mac(member) {
@@ -136,8 +134,8 @@ fn mac_over(member: &Member, below: Option<Mac>) -> Mac
     }
 }
 
-// The MAC, looking so many bases down.
-fn mac_within<'a>(members: &Members<'a>, steps: usize, member: &Member<'a>) -> Mac
+/// The MAC, looking so many bases down.
+pub(crate) fn mac_within<'a>(members: &Members<'a>, steps: usize, member: &Member<'a>) -> Mac
     ensures { result ≡ down_bases mac_over members.now steps member.now }
 {
     if steps == 0 {
@@ -148,39 +146,4 @@ fn mac_within<'a>(members: &Members<'a>, steps: usize, member: &Member<'a>) -> M
         None => None,
     };
     mac_over(member, below)
-}
-
-fn merged_link<'a>(
-    alloc: Global,
-    members: &Members<'a>,
-    member: &Member<'a>,
-) -> Result<Link, AllocError>
-    ensures { IfOk result (λ link. link ≡ merged_link members.now member.now) }
-{
-    let steps = members.list().len();
-    let up = up_within(members, steps, member);
-    let addrs = addrs_of(alloc, members, member, up)?;
-    Ok(Link {
-        name: member.name(),
-        kind: member.kind(),
-        up,
-        mtu: mtu_within(members, steps, member),
-        mac: mac_within(members, steps, member),
-        controller: member.controller(),
-        bond: bond_of(alloc, members, member),
-        bridge: bridge_of(member),
-        port: port_of(members, member),
-        addrs,
-    })
-}
-
-/// The merged links, by rank.
-pub fn merged_links(alloc: Global, members: &Members) -> Result<Vec<Link>, AllocError>
-    ensures { IfOk result (λ links. links.items ≡ merged_links members.now) }
-{
-    let mut links = Vec::new(alloc);
-    for member in members.list() {
-        links.push(merged_link(alloc, members, member)?)?;
-    }
-    Ok(links)
 }

@@ -1,24 +1,18 @@
 -- The places of ports in stated lists.
-use Rattle.std.proofs.Common.{◌≡◌, ℕ, ◌+◌, ◌<◌, suc, Bool, true, false, not, ◌||◌, cond, List, [], ◌∷◌, map, length, get_or, slice_get, Option, Some, None, is_some, nat_lt, refl, sym, ap, ◌∙◌, arith}
+use Rattle.std.proofs.Common.{◌≡◌, ℕ, ◌+◌, ◌<◌, suc, Bool, true, false, not, ◌||◌, cond, List, [], ◌∷◌, map, length, get_or, Option, Some, None, is_some, nat_lt, refl, sym, ap, ◌∙◌, arith}
 use Rattle.std.specs.List.{find, position, position_or_len, list_any}
 use Rattle.std.specs.Option.{option_map, option_map_or, option_and_then, unwrap_or}
 use Rattle.std.proofs.lemmas.Bool.Decides.{nat_tests}
-use Rattle.std.proofs.lemmas.List.{get_or-map, length-map}
+use Rattle.std.proofs.lemmas.List.{get_or-map, length-map, get_or_default}
 use Rattle.std.proofs.lemmas.List.Quantifiers.{position-Some}
-use Rattle.std.proofs.lemmas.List.Folds.{find_at}
 use Rattle.reach.proofs.lemmas.Marks.{any_default}
 use Rattle.net_model.specs.Name.{same_bytes}
-use Rattle.net_model.specs.declared.Kind.{Kind}
-use Rattle.net_model.specs.declared.Kind.TheVariants.{Bridge}
-use Rattle.net_model.specs.Links.{is_bridge}
-use Rattle.document_model.specs.declared.LinkEntry.{LinkEntry}
-use Rattle.document_model.specs.declared.PortEntry.{PortEntry}
 use Rattle.merge_model.specs.Members.{Member}
-use Rattle.merge_model.specs.Controllers.{ports_by, stated_ports, lists}
-use Rattle.merge_model.specs.LinkOptions.{port_entry}
+use Rattle.merge_model.specs.Controllers.{stated_ports, lists}
 use Rattle.link_members.specs.Listers.{port_names, port_place}
+use Rattle.link_members.specs.Positions.{FindsAt}
 use Rattle.link_members.proofs.Firsts.{listed}
-use Rattle.link_order.proofs.lemmas.Placed.{placed, unplaced, same_place}
+use Rattle.link_order.proofs.lemmas.Placed.{placed, unplaced}
 
 none_within : nat_lt 0 0 ≡ false
 none_within = grind (arith, nat_tests)
@@ -62,3 +56,13 @@ placed_beside f q g (x ∷ xs) zs i z e at are is =
 pub found_place : (q : List ℕ) (names : List (List ℕ)) (o : Option Member) → Some names ≡ option_map port_names o → position (λ n. same_bytes n q) names ≡ option_and_then (port_place q) o
 found_place q names None e = absurd cc
 found_place q names (Some c) e = ap (λ (v : Option (List (List ℕ))). position (λ n. same_bytes n q) (unwrap_or v names)) e
+
+-- the place of a name among those of the links is that of the first link of this name
+pub finds_at : (ms : List Member) (q : List ℕ) (o : Option ℕ) → position (λ n. same_bytes n q) (map (λ (m : Member). m.name) ms) ≡ o → FindsAt o q ms
+finds_at ms q None is = unplaced (λ (m : Member). m.name) (λ n. same_bytes n q) ms is
+finds_at ms q (Some i) is =
+    let s = position-Some (λ n. same_bytes n q) (map (λ (m : Member). m.name) ms) i [] is in
+    let inside : i < length ms = omega (arith, s.0, length-map ms (λ (m : Member). m.name)) in (
+      inside,
+      λ d. sym (placed (λ (m : Member). m.name) (λ n. same_bytes n q) ms i (get_or ms i d) [] is (get_or_default ms i d (get_or ms i d) inside)),
+    )

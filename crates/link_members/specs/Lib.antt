@@ -1,3 +1,4 @@
 pub mod Controlled
 pub mod Listers
 pub mod Lifts
+pub mod Positions

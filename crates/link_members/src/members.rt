@@ -6,6 +6,7 @@ ghost use Rattle.merge_model.specs.Members.{Member, find_member};
 ghost use Rattle.merge_model.specs.Controllers.{lists};
 ghost use Rattle.merge_model.specs.LinkOptions.{merged_ports};
 ghost use Rattle.link_members.specs.Listers.{rivals, port_place};
+ghost use Rattle.link_members.specs.Positions.{FindsAt};
 
 use crate::controlled::ports_by_controller;
 use crate::listers::{contested_names, first_lister, first_listers};
@@ -18,7 +19,6 @@ use std::marker::Model;
 
 /// The links of the merged state by rank, with an index of their names, one of each stated list of ports, one of the
 /// names in all of these lists, and the merged ports of each controller.
-#[derive(Drop)]
 pub struct Members<'a> {
     list: Vec<Member<'a>>,
     index: Index,
@@ -26,6 +26,20 @@ pub struct Members<'a> {
     firsts: BTreeMap<Name, usize>,
     contested: BTreeSet<Name>,
     controlled: BTreeMap<Name, Items<Name>>,
+}
+
+// By hand, so that a proof sees one call where one is dropped, and not a step for each part.
+impl<'a> Drop for Members<'a> {
+    fn drop(self) {
+        let Members {
+            list: _,
+            index: _,
+            ports: _,
+            firsts: _,
+            contested: _,
+            controlled: _,
+        } = self;
+    }
 }
 
 impl<'a> Model for Members<'a> {
@@ -76,6 +90,13 @@ impl<'a> Members<'a> {
         ensures { result.now.items ≡ self.now }
     {
         &self.list
+    }
+
+    /// The place of the link of this name.
+    pub fn place(&self, name: &Name) -> Option<usize>
+        ensures { FindsAt result name.now self.now }
+    {
+        self.index.place(name)
     }
 
     /// The link of this name.

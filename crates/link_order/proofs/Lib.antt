@@ -1,3 +1,4 @@
 pub mod lemmas
 mod Before
 mod Ends
+mod Leads

@@ -2,3 +2,4 @@ pub mod Marked
 pub mod More
 pub mod Placed
 pub mod Positions
+pub mod Rows

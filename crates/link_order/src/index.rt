@@ -12,10 +12,19 @@ use std::collections::BTreeMap;
 use std::marker::Model;
 
 /// Names, to find the first place of each.
-#[derive(Drop)]
 pub struct Index {
     names: Vec<Name>,
     places: BTreeMap<Name, usize>,
+}
+
+// By hand, so that a proof sees one call where one is dropped, and not a step for each part.
+impl Drop for Index {
+    fn drop(self) {
+        let Index {
+            names: _,
+            places: _,
+        } = self;
+    }
 }
 
 impl Model for Index {

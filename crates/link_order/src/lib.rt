@@ -14,7 +14,8 @@ mod kinds;
 mod member;
 // The links of the merged state, before their fields: which they are, and of what kind.
 mod ranking;
-// What arrows lead to, and whether they lead round, with a refused allocation as the merge answers one.
+// Arrows between places: drawing them, what they lead to, and whether they lead round; with a refused allocation as the
+// merge answers one.
 mod reached;
 // What an entry states of a link's state and of a family of addresses.
 mod stated;
@@ -24,5 +25,5 @@ pub use index::{Index, first_place, note};
 pub use kinds::{base_of, kind_of, merged_kind, permanent_of, same_mode, same_type};
 pub use member::Member;
 pub use ranking::members_by_rank;
-pub use reached::{closure, has_cycle};
+pub use reached::{add_arrow, closure, has_cycle, no_arrows};
 pub use stated::{is_absent, is_off, is_stated_down, is_stated_up};

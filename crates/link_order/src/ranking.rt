@@ -1,22 +1,24 @@
 //! The links of the merged state, before their fields: which they are, and of what kind.
-ghost use Rattle.std.specs.Prelude.{◌≡◌, ◌&&◌, ◌||◌, ◌++◌, ◌∷◌, [], not, false, if◌then◌else◌, map, filter, length, option_copied, IfOk, OnOk};
+ghost use Rattle.std.specs.Prelude.{◌≡◌, ◌<◌, ◌+◌, ◌&&◌, ◌||◌, ◌++◌, ◌∷◌, ℕ, List, [], not, false, if◌then◌else◌, map, length, option_copied, IfOk, OnOk};
 ghost use Rattle.std.specs.List.{filter_map};
-ghost use Rattle.std.specs.Option.{option_map, option_map_or, option_and_then, option_or, option_to_list};
+ghost use Rattle.std.specs.Option.{option_map_or, option_and_then, option_to_list};
 ghost use Rattle.reach.specs.Reach.{is_reached};
+ghost use Rattle.net_model.specs.Name.{same_bytes};
 ghost use Rattle.net_model.specs.Words.{positions};
-ghost use Rattle.net_model.specs.Links.{find_link, peer_of, has_peer};
+ghost use Rattle.net_model.specs.Links.{is_named, peer_of, has_peer};
 ghost use Rattle.net_model.specs.Dependence.{has_base};
 ghost use Rattle.merge_model.specs.Stated.{find_entry, is_mentioned, is_absent};
 ghost use Rattle.merge_model.specs.Members.{is_removed, keeps_peer, leaves_peer, is_left, is_dropped, goes_with, is_gone, retired, stated_wish, entered, entered_over, stays, left_alone, implied, members_by_rank};
+ghost use Rattle.link_order.specs.Rows.{rows_to};
 
 use crate::entries::Entries;
 use crate::implied::implied;
 use crate::kinds::{kind_of, merged_kind};
 use crate::member::Member;
-use crate::reached::closure;
+use crate::reached::{add_arrow, closure, no_arrows};
 use crate::stated::is_absent;
 use document_model::{LinkEntry, Wish};
-use net_model::{Items, Kind, Link, Name, Net, has_base, has_peer, is_ethernet, peer_of};
+use net_model::{Items, Kind, Link, Name, Net, Position, has_peer, is_ethernet, peer_of};
 use std::alloc::{AllocError, Global};
 
 fn is_mentioned(entries: &Entries, link: &Link) -> bool
@@ -85,49 +87,65 @@ fn is_dropped(net: &Net, entries: &Entries, link: &Link) -> bool
     is_removed(entries, link) || is_left(net, entries, link)
 }
 
-// Whether the kind is a VLAN over the named link, or a veth with it as its peer.
-fn hangs_on(kind: &Kind, name: &Name) -> bool
-    ensures { result ≡ (has_base kind.now name.now || has_peer kind.now name.now) }
+// The name of the link that one of this kind hangs on: a VLAN's base, a veth's peer.
+fn hangs_on(kind: &Kind) -> Option<Name>
+    ensures { (q : List ℕ) → option_map_or (λ n. same_bytes n q) result false ≡ (has_base kind.now q || has_peer kind.now q) }
 {
-    has_base(kind, name) || has_peer(kind, name)
-}
-
-// Whether the link is an unmentioned VLAN over this one, or an unmentioned veth with this one as its peer.
-fn goes_with(entries: &Entries, other: &Link, link: &Link) -> bool
-    ensures { result ≡ goes_with entries.now other.now link.now }
-{
-    if !hangs_on(&link.kind, &other.name) {
-        return false;
+    match kind {
+        Kind::Vlan { base, .. } => Some(*base),
+        Kind::Veth { peer } => Some(*peer),
+        _ => None,
     }
-    !is_mentioned(entries, link)
 }
 
-// The places of the links that go with this one.
-fn above(
-    alloc: Global,
+// The place of the link of a name.
+fn place_of(net: &Net, name: &Name) -> Option<usize>
+    ensures { option_to_list result ≡ positions (is_named name.now) 0 net.now.links }
+{
+    net.laws();
+    match net.link_position(name) {
+        Position::At(at) => Some(at),
+        Position::Gap(_) => None,
+    }
+}
+
+// The place of the link that this one goes with: an unmentioned VLAN with its base, an unmentioned veth with its peer.
+fn leader(net: &Net, entries: &Entries, link: &Link) -> Option<usize>
+    ensures { option_to_list result ≡ positions (λ b. goes_with entries.now b link.now) 0 net.now.links }
+{
+    if is_mentioned(entries, link) {
+        return None;
+    }
+    match hangs_on(&link.kind) {
+        Some(name) => place_of(net, &name),
+        None => None,
+    }
+}
+
+// Draws the arrow to the link at a place, where it goes with one.
+fn draw(
+    arrows: &mut [Items<usize>],
+    net: &Net,
     entries: &Entries,
-    links: &[Link],
-    base: &Link,
-) -> Result<Vec<usize>, AllocError>
-    ensures { IfOk result (λ places. places.items ≡ positions (goes_with entries.now base.now) 0 links.now) }
+    at: usize,
+) -> Result<(), AllocError>
+    requires drawn { arrows.old ≡ rows_to (λ l. []) (goes_with entries.now) net.now.links at }
+    requires inside { at < length net.now.links }
+    ensures { OnOk result (arrows.new ≡ rows_to (λ l. []) (goes_with entries.now) net.now.links (at + 1)) }
 {
-    let mut places = Vec::new(alloc);
-    for (at, other) in links.iter().enumerate() {
-        if goes_with(entries, base, other) {
-            places.push(at)?;
-        }
+    match leader(net, entries, &net.links()[at]) {
+        Some(from) => add_arrow(arrows, from, at),
+        None => Ok(()),
     }
-    Ok(places)
 }
 
-// For each link, the places of those that go with it.
-fn arrows(alloc: Global, entries: &Entries, links: &[Link]) -> Result<Vec<Items<usize>>, AllocError>
-    ensures { IfOk result (λ arrows. arrows.items ≡ map (λ l. positions (goes_with entries.now l) 0 links.now) links.now) }
+// For each link, the places of those that go with it: each is drawn from the link that it goes with, found by name.
+fn arrows(alloc: Global, net: &Net, entries: &Entries) -> Result<Vec<Items<usize>>, AllocError>
+    ensures { IfOk result (λ arrows. arrows.items ≡ map (λ l. positions (goes_with entries.now l) 0 net.now.links) net.now.links) }
 {
-    let mut arrows = Vec::new(alloc);
-    for link in links {
-        let places = above(alloc, entries, links, link)?;
-        arrows.push(Items::of(places))?;
+    let mut arrows = no_arrows(alloc, net.links().len())?;
+    for at in 0..net.links().len() {
+        draw(&mut arrows, net, entries, at)?;
     }
     Ok(arrows)
 }
@@ -153,7 +171,7 @@ fn reached(
         map (is_reached (goes_with entries.now) (is_dropped net.now.links entries.now)
         net.now.links (length net.now.links)) net.now.links) }
 {
-    let arrows = arrows(alloc, entries, net.links().as_slice())?;
+    let arrows = arrows(alloc, net, entries)?;
     let marks = closure(alloc, &arrows, starts)?;
     Ok(marks)
 }

@@ -1,10 +1,33 @@
-//! What arrows lead to, and whether they lead round, with a refused allocation as this crate's calls answer one.
-ghost use Rattle.std.specs.Prelude.{◌≡◌, length, IfOk};
+//! Arrows between places: drawing them, what they lead to, and whether they lead round; with a refused allocation as this
+//! crate's calls answer one.
+ghost use Rattle.std.specs.Prelude.{◌≡◌, ◌<◌, ◌++◌, ◌∷◌, [], length, get_or, set, replicate, IfOk, OnOk};
 ghost use Rattle.reach.specs.Reach.{IsGraph, IsLeast};
 ghost use Rattle.reach.specs.Cycle.{Decides};
 
 use net_model::Items;
 use std::alloc::{AllocError, Global};
+
+/// No arrows between so many places.
+pub fn no_arrows(alloc: Global, len: usize) -> Result<Vec<Items<usize>>, AllocError>
+    ensures { IfOk result (λ arrows. arrows.items ≡ replicate len []) }
+{
+    let mut arrows = Vec::new(alloc);
+    for _ in 0..len {
+        arrows.push(Items::of(Vec::new(alloc)))?;
+    }
+    Ok(arrows)
+}
+
+/// Adds an arrow from one place to another, behind those from there.
+pub fn add_arrow(arrows: &mut [Items<usize>], from: usize, to: usize) -> Result<(), AllocError>
+    requires { from < length arrows.old }
+    ensures { OnOk result (arrows.new ≡ set arrows.old from (get_or arrows.old from [] ++ to ∷ [])) }
+{
+    match arrows[from].push(to) {
+        Ok(()) => Ok(()),
+        Err(_) => Err(AllocError),
+    }
+}
 
 /// The places that are reachable from the sources.
 pub fn closure(

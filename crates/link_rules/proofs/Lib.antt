@@ -1,8 +1,8 @@
 mod Apart
-mod ByName
+mod Below
 mod Claims
 mod Contradicted
 mod Differ
 mod Least
 mod NoCycle
-mod Vlans
+mod Primaries

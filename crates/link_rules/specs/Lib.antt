@@ -1,2 +1,2 @@
 pub mod Rules
-pub mod Twins
+pub mod Rows

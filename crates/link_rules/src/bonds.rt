@@ -11,7 +11,7 @@ use document_model::Place;
 use net_model::{BondMode, Kind, Link, Name, bond_ok, is_port_of};
 use std::alloc::{AllocError, Global};
 
-#[tactic(auto, using(crate::proofs::ByName::named_passes_found))]
+#[tactic(auto, using(net_model::proofs::lemmas::ByName::passes_where_found))]
 fn has_port(merged: &Merged, controller: &Name, port: &Name) -> bool
     ensures { result ≡ named_passes (is_port_of controller.now) merged.now port.now }
 {
@@ -39,7 +39,7 @@ fn primary_port(alloc: Global, merged: &Merged, link: &Link) -> Result<Vec<Name>
     Ok(ports)
 }
 
-#[tactic(auto, using(crate::proofs::ByName::bond_ok_primary))]
+#[tactic(auto, using(crate::proofs::Primaries::bond_ok_primary))]
 fn bond_fits_mode(
     alloc: Global,
     merged: &Merged,

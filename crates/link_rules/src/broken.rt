@@ -120,7 +120,7 @@ pub fn merged_broken(
     if let Some(place) = bad_base(merged) {
         return Ok(Some(refused(BAD_BASE, place)));
     }
-    let on_cycle = cycle(alloc, merged.links())?;
+    let on_cycle = cycle(alloc, merged)?;
     if let Some(place) = on_cycle {
         return Ok(Some(refused(CYCLE, place)));
     }

@@ -1,11 +1,9 @@
 //! The rules 9 to 17 of the merge, which are asked of the merged links, mentioned or not.
-ghost use Rattle.std.specs.Prelude.{◌≡◌, ◌&&◌, ◌||◌, ◌<◌, [], not, true, false, nat_le, find, map, filter, length, slice_index_or, option_copied, IfOk};
-ghost use Rattle.std.specs.List.{list_any};
-ghost use Rattle.std.specs.Option.{option_map_or, option_map, unwrap_or};
+ghost use Rattle.std.specs.Prelude.{◌≡◌, ◌&&◌, ◌||◌, ◌<◌, [], not, true, false, nat_le, find, option_copied};
+ghost use Rattle.std.specs.Option.{option_map_or, unwrap_or};
 ghost use Rattle.net_model.specs.Words.{is_empty};
-ghost use Rattle.net_model.specs.Links.{named_passes, takes, controller_passes, can_be_base, base_passes, is_twin, is_bond_or_bridge};
+ghost use Rattle.net_model.specs.Links.{named_passes, takes, controller_passes, can_be_base, base_passes, is_bond_or_bridge};
 ghost use Rattle.net_model.specs.Valid.{is_bond_or_bridge_port};
-ghost use Rattle.merge_model.specs.Members.{find_member};
 ghost use Rattle.merge_model.specs.Places.{at_link};
 ghost use Rattle.merge_model.specs.BrokenLinks.{port_kind, bad_base, base_down, vlan_mtu, states_address, entry_states_address, has_stated_address, port_address};
 
@@ -25,7 +23,7 @@ pub(crate) fn at_link(found: Option<&Link>) -> Option<Place>
     }
 }
 
-#[tactic(auto, using(crate::proofs::ByName::named_passes_found))]
+#[tactic(auto, using(net_model::proofs::lemmas::ByName::passes_where_found))]
 fn named_takes(merged: &Merged, controller: &Name, port: &Kind) -> bool
     ensures { result ≡ named_passes (λ c. takes c.kind port.now) merged.now controller.now }
 {
@@ -59,7 +57,7 @@ pub(crate) fn port_kind(merged: &Merged) -> Option<Place>
     at_link(first_untaken(merged))
 }
 
-#[tactic(auto, using(crate::proofs::ByName::named_passes_found))]
+#[tactic(auto, using(net_model::proofs::lemmas::ByName::passes_where_found))]
 fn named_can_be_base(merged: &Merged, base: &Name) -> bool
     ensures { result ≡ named_passes (λ b. can_be_base b.kind) merged.now base.now }
 {
@@ -93,7 +91,7 @@ pub(crate) fn bad_base(merged: &Merged) -> Option<Place>
     at_link(first_baseless(merged))
 }
 
-#[tactic(auto, using(crate::proofs::ByName::named_passes_found))]
+#[tactic(auto, using(net_model::proofs::lemmas::ByName::passes_where_found))]
 fn named_is_up(merged: &Merged, name: &Name) -> bool
     ensures { result ≡ named_passes (λ b. b.up) merged.now name.now }
 {
@@ -131,7 +129,7 @@ pub(crate) fn base_down(merged: &Merged) -> Option<Place>
     at_link(first_over_down_base(merged))
 }
 
-#[tactic(auto, using(crate::proofs::ByName::named_passes_found))]
+#[tactic(auto, using(net_model::proofs::lemmas::ByName::passes_where_found))]
 fn named_allows(merged: &Merged, name: &Name, mtu: u32) -> bool
     ensures { result ≡ named_passes (λ b. nat_le mtu b.mtu) merged.now name.now }
 {
@@ -211,7 +209,7 @@ fn has_stated_address(members: &Members, name: &Name) -> bool
     }
 }
 
-#[tactic(auto, using(crate::proofs::ByName::named_passes_found))]
+#[tactic(auto, using(net_model::proofs::lemmas::ByName::passes_where_found))]
 fn named_is_bond_or_bridge(merged: &Merged, name: &Name) -> bool
     ensures { result ≡ named_passes (λ c. is_bond_or_bridge c.kind) merged.now name.now }
 {

@@ -1,47 +1,85 @@
 //! The rule 11 of the merge: whether a link depends on itself, through any others.
-ghost use Rattle.std.specs.Prelude.{◌≡◌, ◌<◌, Some, true, not, if◌then◌else◌, IfOk, length, map, filter, slice_index_or, option_copied};
-ghost use Rattle.std.specs.Option.{option_map};
+ghost use Rattle.std.specs.Prelude.{◌≡◌, ◌<◌, ◌+◌, Some, true, not, if◌then◌else◌, IfOk, OnOk, length, map, filter, slice_index_or};
+ghost use Rattle.std.specs.Option.{option_map, option_to_list};
 ghost use Rattle.net_model.specs.Words.{positions};
-ghost use Rattle.net_model.specs.Links.{is_named, is_port_of};
-ghost use Rattle.net_model.specs.Dependence.{depends_on, on_cycle, no_cycle};
+ghost use Rattle.net_model.specs.Links.{is_named};
+ghost use Rattle.net_model.specs.Dependence.{on_cycle, no_cycle};
 ghost use Rattle.net_model.specs.Valid.{names_differ};
 ghost use Rattle.net_model.specs.declared.Link.{Link};
 ghost use Rattle.merge_model.specs.Places.{least_name};
 ghost use Rattle.merge_model.specs.BrokenLinks.{cycle};
+ghost use Rattle.link_order.specs.Rows.{rows_to};
 ghost use Rattle.link_rules.specs.Rules.{least_of};
+ghost use Rattle.link_rules.specs.Rows.{base_row, controls, row_below};
 
+use crate::merged::Merged;
 use document_model::Place;
-use link_order::{closure, has_cycle};
-use net_model::{Items, Link, Name, has_base, is_port_of};
+use link_order::{add_arrow, base_of, closure, has_cycle};
+use net_model::{Items, Link, Name};
 use std::alloc::{AllocError, Global};
 
-fn depends_on(a: &Link, b: &Link) -> bool
-    ensures { result ≡ depends_on a.now b.now }
+// The place of its base, where the link is a VLAN.
+fn base_place(merged: &Merged, link: &Link) -> Option<usize>
+    ensures { option_to_list result ≡ base_row merged.now link.now }
 {
-    has_base(&a.kind, &b.name) || is_port_of(b, &a.name)
-}
-
-// The places of the links that one depends on.
-fn below(alloc: Global, links: &[Link], link: &Link) -> Result<Vec<usize>, AllocError>
-    ensures { IfOk result (λ places. places.items ≡ positions (depends_on link.now) 0 links.now) }
-{
-    let mut places = Vec::new(alloc);
-    for (at, other) in links.iter().enumerate() {
-        if depends_on(link, other) {
-            places.push(at)?;
-        }
+    match base_of(&link.kind) {
+        Some(base) => merged.place(&base),
+        None => None,
     }
-    Ok(places)
 }
 
-// For each link, the places of those that it depends on.
-fn arrows(alloc: Global, links: &[Link]) -> Result<Vec<Items<usize>>, AllocError>
-    ensures { IfOk result (λ arrows. arrows.items ≡ map (λ l. positions (depends_on l) 0 links.now) links.now) }
+// The place of its controller, where the link has one.
+fn controller_place(merged: &Merged, link: &Link) -> Option<usize>
+    ensures { option_to_list result ≡ positions (λ l. controls l link.now) 0 merged.now }
+{
+    match &link.controller {
+        Some(controller) => merged.place(controller),
+        None => None,
+    }
+}
+
+fn row_of(alloc: Global, place: Option<usize>) -> Result<Vec<usize>, AllocError>
+    ensures { IfOk result (λ row. row.items ≡ option_to_list place) }
+{
+    let mut row = Vec::new(alloc);
+    if let Some(at) = place {
+        row.push(at)?;
+    }
+    Ok(row)
+}
+
+// For each link, the place of its base.
+fn base_arrows(alloc: Global, merged: &Merged) -> Result<Vec<Items<usize>>, AllocError>
+    ensures { IfOk result (λ arrows. arrows.items ≡ map (base_row merged.now) merged.now) }
 {
     let mut arrows = Vec::new(alloc);
-    for link in links {
-        let places = below(alloc, links, link)?;
-        arrows.push(Items::of(places))?;
+    for link in merged.links() {
+        let row = row_of(alloc, base_place(merged, link))?;
+        arrows.push(Items::of(row))?;
+    }
+    Ok(arrows)
+}
+
+// Draws the arrow to the link at a place from its controller.
+fn draw_port(arrows: &mut [Items<usize>], merged: &Merged, at: usize) -> Result<(), AllocError>
+    requires drawn { arrows.old ≡ rows_to (base_row merged.now) controls merged.now at }
+    requires inside { at < length merged.now }
+    ensures { OnOk result (arrows.new ≡ rows_to (base_row merged.now) controls merged.now (at + 1)) }
+{
+    match controller_place(merged, &merged.links()[at]) {
+        Some(controller) => add_arrow(arrows, controller, at),
+        None => Ok(()),
+    }
+}
+
+// For each link, the places of those that it depends on: of its base, and behind it of its ports, each drawn from the
+// controller that it names.
+fn arrows(alloc: Global, merged: &Merged) -> Result<Vec<Items<usize>>, AllocError>
+    ensures { IfOk result (λ arrows. arrows.items ≡ map (row_below merged.now) merged.now) }
+{
+    let mut arrows = base_arrows(alloc, merged)?;
+    for at in 0..merged.links().len() {
+        draw_port(&mut arrows, merged, at)?;
     }
     Ok(arrows)
 }
@@ -58,7 +96,7 @@ fn on_cycle(
     arrows: &[Items<usize>],
     at: usize,
 ) -> Result<bool, AllocError>
-    requires arrows { arrows.now ≡ map (λ l. positions (depends_on l) 0 links.now) links.now }
+    requires arrows { arrows.now ≡ map (row_below links.now) links.now }
     requires inside { at < length links.now }
     ensures { IfOk result (λ on. (d : _) → on ≡ on_cycle links.now (slice_index_or links.now at d)) }
 {
@@ -90,7 +128,7 @@ fn least_of_all(
     links: &[Link],
     arrows: &[Items<usize>],
 ) -> Result<Option<Name>, AllocError>
-    requires { arrows.now ≡ map (λ l. positions (depends_on l) 0 links.now) links.now }
+    requires { arrows.now ≡ map (row_below links.now) links.now }
     ensures { IfOk result (λ least. least ≡ option_map (λ l. l.name) (least_name (filter (on_cycle links.now) links.now))) }
 {
     let mut least = None;
@@ -103,14 +141,14 @@ fn least_of_all(
     Ok(least)
 }
 
-// Whether a link depends on itself, in one pass over all.
+// Whether a link depends on itself, asked of all at once.
 fn is_any_on_cycle(
     alloc: Global,
     links: &[Link],
     arrows: &[Items<usize>],
 ) -> Result<bool, AllocError>
     requires names { names_differ links.now ≡ true }
-    requires arrows { arrows.now ≡ map (λ l. positions (depends_on l) 0 links.now) links.now }
+    requires arrows { arrows.now ≡ map (row_below links.now) links.now }
     ensures { IfOk result (λ cycle. not cycle ≡ no_cycle links.now) }
 {
     let cycle = has_cycle(alloc, arrows)?;
@@ -118,11 +156,11 @@ fn is_any_on_cycle(
 }
 
 // The least name of a link that depends on itself. No link is asked of where none is on a cycle.
-fn least_on_cycle(alloc: Global, links: &[Link]) -> Result<Option<Name>, AllocError>
-    requires { names_differ links.now ≡ true }
-    ensures { IfOk result (λ least. least ≡ option_map (λ l. l.name) (least_name (filter (on_cycle links.now) links.now))) }
+fn least_on_cycle(alloc: Global, merged: &Merged) -> Result<Option<Name>, AllocError>
+    ensures { IfOk result (λ least. least ≡ option_map (λ l. l.name) (least_name (filter (on_cycle merged.now) merged.now))) }
 {
-    let arrows = arrows(alloc, links)?;
+    let arrows = arrows(alloc, merged)?;
+    let links = merged.links();
     let cycle = is_any_on_cycle(alloc, links, &arrows)?;
     if cycle {
         least_of_all(alloc, links, &arrows)
@@ -142,9 +180,8 @@ fn at_name(name: Option<Name>) -> Option<Place>
 
 /// The place of rule 11: dependence has a cycle. It is the least name on one.
 #[tactic(auto, using(crate::proofs::Least::named))]
-pub(crate) fn cycle(alloc: Global, links: &[Link]) -> Result<Option<Place>, AllocError>
-    requires { names_differ links.now ≡ true }
-    ensures { IfOk result (λ place. place ≡ cycle links.now) }
+pub(crate) fn cycle(alloc: Global, merged: &Merged) -> Result<Option<Place>, AllocError>
+    ensures { IfOk result (λ place. place ≡ cycle merged.now) }
 {
-    Ok(at_name(least_on_cycle(alloc, links)?))
+    Ok(at_name(least_on_cycle(alloc, merged)?))
 }

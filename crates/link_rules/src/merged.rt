@@ -1,6 +1,8 @@
 //! The merged links, found by their names.
 ghost use Rattle.std.specs.Prelude.{◌≡◌, true, map, option_copied, IfOk};
-ghost use Rattle.net_model.specs.Links.{find_link};
+ghost use Rattle.std.specs.Option.{option_to_list};
+ghost use Rattle.net_model.specs.Words.{positions};
+ghost use Rattle.net_model.specs.Links.{find_link, is_named};
 ghost use Rattle.net_model.specs.Valid.{names_differ};
 ghost use Rattle.net_model.specs.declared.Link.{Link};
 
@@ -10,10 +12,16 @@ use std::alloc::{AllocError, Global};
 use std::marker::Model;
 
 /// The merged links by rank, whose names differ, with an index of these.
-#[derive(Drop)]
 pub struct Merged {
     links: Vec<Link>,
     index: Index,
+}
+
+// By hand, so that a proof sees one call where one is dropped, and not a step for each part.
+impl Drop for Merged {
+    fn drop(self) {
+        let Merged { links: _, index: _ } = self;
+    }
 }
 
 impl Model for Merged {
@@ -59,6 +67,13 @@ impl Merged {
     {
         let Merged { links, index } = self;
         links
+    }
+
+    /// The place of the link of this name.
+    pub fn place(&self, name: &Name) -> Option<usize>
+        ensures { option_to_list result ≡ positions (is_named name.now) 0 self.now }
+    {
+        self.index.place(name)
     }
 
     /// The link of this name.

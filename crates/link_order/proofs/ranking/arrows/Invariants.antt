@@ -1,8 +1,8 @@
-use Rattle.std.proofs.Common.{◌≡◌, map, take}
-use Rattle.net_model.specs.Words.{positions}
+use Rattle.std.proofs.Common.{◌≡◌, []}
 use Rattle.merge_model.specs.Members.{goes_with}
+use Rattle.link_order.specs.Rows.{rows_to}
 use Rattle.link_order.proofs.ranking.arrows.Given as goal
 
--- the rows of the links so far
-abbrev pub invariant-loop-link : goal.invariant-loop-link
-invariant-loop-link l = l.arrows.items ≡ map (λ k. positions (goes_with l.entries k) 0 l.links) (take l.link-index l.links)
+-- the arrows to the links so far
+abbrev pub invariant-loop-at : goal.invariant-loop-at
+invariant-loop-at l = l.arrows.items ≡ rows_to (λ k. []) (goes_with l.entries) l.net.links l.at

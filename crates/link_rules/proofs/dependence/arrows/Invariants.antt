@@ -1,8 +1,8 @@
-use Rattle.std.proofs.Common.{◌≡◌, map, take}
-use Rattle.net_model.specs.Words.{positions}
-use Rattle.net_model.specs.Dependence.{depends_on}
+use Rattle.std.proofs.Common.{◌≡◌}
+use Rattle.link_order.specs.Rows.{rows_to}
+use Rattle.link_rules.specs.Rows.{base_row, controls}
 use Rattle.link_rules.proofs.dependence.arrows.Given as goal
 
--- the rows of the links so far
-abbrev pub invariant-loop-link : goal.invariant-loop-link
-invariant-loop-link l = l.arrows.items ≡ map (λ k. positions (depends_on k) 0 l.links) (take l.link-index l.links)
+-- the arrows to the ports so far
+abbrev pub invariant-loop-at : goal.invariant-loop-at
+invariant-loop-at l = l.arrows.items ≡ rows_to (base_row l.merged) controls l.merged l.at

@@ -3,18 +3,18 @@ use Rattle.reach.specs.Reach.{is_reached, IsGraph}
 use Rattle.reach.proofs.lemmas.Marks.{any_default}
 use Rattle.net_model.specs.Links.{is_named}
 use Rattle.net_model.specs.Dependence.{depends_on, on_cycle}
-use Rattle.net_model.proofs.lemmas.Arrows.{rows-IsGraph, marked_at}
+use Rattle.link_rules.proofs.Below.{below_graph, marked_below}
 use Rattle.link_rules.proofs.dependence.on_cycle.Goals as goal
 
 pub closure-requires-clause-graph : goal.closure-requires-clause-graph
-closure-requires-clause-graph c = subst IsGraph (sym c.requires.arrows) (rows-IsGraph depends_on (is_named c.index-links-at.result.name) c.args.links.now c.index-links-at.result)
+closure-requires-clause-graph c = subst IsGraph (sym c.requires.arrows) (below_graph c.args.links.now)
 
 pub returns : goal.returns
 returns c = λ d.
     let links = c.args.links.now in
     let here = c.index-links-at.result in
     let marks = c.in_ok-reached.reached.items in
-    let marked = marked_at depends_on (is_named here.name) links here c.args.arrows.now c.deref.result.now marks c.requires.arrows (c.deref.ensures.value ∙ c.in_ok-starts.ensures) c.in_ok-reached.ensures c.args.at c.requires.inside in
+    let marked = marked_below links (is_named here.name) here c.args.arrows.now c.deref.result.now marks c.requires.arrows (c.deref.ensures.value ∙ c.in_ok-starts.ensures) c.in_ok-reached.ensures c.args.at c.requires.inside in
     c.index.ensures
     ∙ any_default marks c.args.at c.index.result.now false (omega (arith, marked.1, c.requires.inside))
     ∙ marked.0

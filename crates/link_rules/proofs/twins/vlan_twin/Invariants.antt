@@ -3,7 +3,7 @@ use Rattle.net_model.specs.Links.{is_twin}
 use Rattle.merge_model.specs.Places.{at_link, first_second}
 use Rattle.merge_model.specs.BrokenLinks.{vlan_twin}
 use Rattle.merge_model.proofs.lemmas.FirstSecond.{seen_so_far}
-use Rattle.link_rules.specs.Twins.{HasVlans}
+use Rattle.net_model.specs.Twins.{HasVlans}
 use Rattle.link_rules.proofs.twins.vlan_twin.Given as goal
 
 -- the set has the VLANs so far, and it is looked for among those that are left
