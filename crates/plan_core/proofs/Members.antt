@@ -1,7 +1,7 @@
 -- Members of lists, by an exact test of sameness.
-use Rattle.std.proofs.Common.{◌≡◌, ℕ, ◌+◌, ◌<◌, ◌≤◌, suc, Bool, true, false, not, ◌||◌, cond, List, [], ◌∷◌, filter, take, get_or, length, Some, None, refl, sym, ap, subst, ◌∙◌, arith}
+use Rattle.std.proofs.Common.{◌≡◌, ℕ, ◌+◌, ◌<◌, ◌≤◌, suc, Bool, true, false, not, ◌||◌, cond, List, [], ◌∷◌, filter, take, drop, get_or, length, Some, None, refl, sym, ap, subst, ◌∙◌, arith}
 use Rattle.std.specs.List.{list_any, find}
-use Rattle.std.proofs.lemmas.List.{take_all}
+use Rattle.std.proofs.lemmas.List.{take_all, at_drop_more}
 use Rattle.std.proofs.lemmas.List.Folds.{list_any_more}
 use Rattle.net_model.specs.Words.{apart}
 use Rattle.net_model.proofs.lemmas.Truth.{and_left, and_right, not_true, or_right}
@@ -93,6 +93,16 @@ module _ {X : Type 0} (E : X → X → Bool) (exact : (x y : X) → E x y ≡ tr
       elim (list_any (E y) (take i xs)) as (λ b. list_any (E y) (take i xs) ≡ b → (b || E y (get_or xs i d)) ≡ true → Q y) [
         | true ↦ λ e _. still y (before y e)
         | false ↦ λ _ e. subst Q (is ∙ sym (exact y (get_or xs i d) e)) here
+      ] refl more
+
+  -- what holds of the last members and of the one before them holds of one more
+  pub one_before_done : (P Q : X → Type 0) (xs : List X) (i : ℕ) (x d : X) → i < length xs → x ≡ get_or xs i d → ((y : X) → P y → Q y) → Q x
+      → ((y : X) → list_any (E y) (drop (i + 1) xs) ≡ true → P y) → (y : X) → list_any (E y) (drop i xs) ≡ true → Q y
+  one_before_done P Q xs i x d within is still here behind y among =
+      let more : (E y (get_or xs i d) || list_any (E y) (drop (i + 1) xs)) ≡ true = sym (at_drop_more (list_any (E y)) xs i d within) ∙ among in
+      elim (E y (get_or xs i d)) as (λ b. E y (get_or xs i d) ≡ b → (b || list_any (E y) (drop (i + 1) xs)) ≡ true → Q y) [
+        | true ↦ λ e _. subst Q (is ∙ sym (exact y (get_or xs i d) e)) here
+        | false ↦ λ _ later. still y (behind y later)
       ] refl more
 
   -- what holds of all the first members holds of all

@@ -1,12 +1,12 @@
 -- What is taken off and put on, call by call.
-use Rattle.std.proofs.Common.{◌≡◌, ℕ, ◌+◌, ◌<◌, ◌≤◌, Bool, true, List, length, take, get_or, IfSome, Option, Some, None, sym, subst, ◌∙◌, arith}
+use Rattle.std.proofs.Common.{◌≡◌, ℕ, ◌+◌, ◌-◌, ◌<◌, ◌≤◌, Bool, true, List, length, take, drop, get_or, IfSome, Option, Some, None, sym, subst, ◌∙◌, arith}
 use Rattle.std.specs.List.{list_any}
 use Rattle.net_model.specs.declared.call.Call.{Call}
 use Rattle.link_planner.specs.Drafts.{DraftData, IsSafe, Advances, with_some}
 use Rattle.link_planner.proofs.lemmas.Advancing.{advances_itself, advances_least, advances_more}
 use Rattle.plan_core.specs.Parts.{IsPartOf}
 use Rattle.plan_core.specs.Steps.{TakesOff, PutsOn, MayTakeOff, MayPutOn}
-use Rattle.plan_core.proofs.Members.{one_more_done, all_done}
+use Rattle.plan_core.proofs.Members.{one_more_done, one_before_done, all_done}
 use Rattle.plan_core.proofs.PartOf.{part_itself, part_more}
 
 module _ (P : DraftData → Type 0) (d : DraftData) where
@@ -50,6 +50,10 @@ on_as m n P Q a b same done first = record { advances = subst (λ k. Advances k 
 abbrev pub OfFirst : {X : Type 0} → (X → X → Bool) → (DraftData → X → Type 0) → (DraftData → List X) → ℕ → DraftData → Type 0
 OfFirst E F list i d = (y : _) → list_any (E y) (take i (list d)) ≡ true → F d y
 
+-- a loop from the end of a list on: this holds of each item from this place on
+abbrev pub OfLast : {X : Type 0} → (X → X → Bool) → (DraftData → X → Type 0) → (DraftData → List X) → ℕ → DraftData → Type 0
+OfLast E F list i d = (y : _) → list_any (E y) (drop i (list d)) ≡ true → F d y
+
 module _ {X : Type 0} (E : X → X → Bool) (exact : (x y : X) → E x y ≡ true → x ≡ y) (own : (x : X) → E x x ≡ true) (F : DraftData → X → Type 0) (list : DraftData → List X) (same : (m : ℕ) (a b : DraftData) → Advances m a b → list b ≡ list a) where
   -- the next item
   module _ (first d : DraftData) (i m : ℕ) (x : X) (within : i < length (list first)) (is : x ≡ get_or (list first) i x) (advances : Advances m first d) (next : DraftData) (one : Advances 1 d next) where
@@ -64,6 +68,18 @@ module _ {X : Type 0} (E : X → X → Bool) (exact : (x y : X) → E x y ≡ tr
       let step : TakesOff 1 (λ e. F e x) d (with_some call d) = taken (λ e. F e x) d call may in
       off_more i 1 (OfFirst E F list i) (λ e. F e x) (OfFirst E F list (i + 1)) first d (with_some call d) before step
       (done_more first d i i x within is before.advances (with_some call d) step.advances (still d (with_some call d) step.advances step.part) step.done before.done)
+
+  -- the item before these
+  pub before_off : ((a b : DraftData) → Advances 1 a b → IsPartOf b.net a.net → (y : X) → F a y → F b y) → (first d : DraftData) (i : ℕ) (x : X) → i < length (list first) → x ≡ get_or (list first) i x → TakesOff (length (list first) - (i + 1)) (OfLast E F list (i + 1)) first d
+      → (call : Option Call) → MayTakeOff (λ e. F e x) d call → TakesOff (length (list first) - i) (OfLast E F list i) first (with_some call d)
+  before_off still first d i x within is behind call may =
+      let step : TakesOff 1 (λ e. F e x) d (with_some call d) = taken (λ e. F e x) d call may in
+      let next = with_some call d in
+      let done : OfLast E F list i next =
+      subst (λ xs. (y : X) → list_any (E y) (drop i xs) ≡ true → F next y) (sym (same (length (list first) - (i + 1)) first d behind.advances) ∙ sym (same 1 d next step.advances))
+      (one_before_done E exact own (F d) (F next) (list first) i x x within is (still d next step.advances step.part) step.done (subst (λ xs. (y : X) → list_any (E y) (drop (i + 1) xs) ≡ true → F d y) (same (length (list first) - (i + 1)) first d behind.advances) behind.done)) in
+      off_as ((length (list first) - (i + 1)) + 1) (length (list first) - i) (OfLast E F list i) (OfLast E F list i) first next (omega (arith, within)) done
+      (off_more (length (list first) - (i + 1)) 1 (OfLast E F list (i + 1)) (λ e. F e x) (OfLast E F list i) first d next behind step done)
 
   pub next_on : ((a b : DraftData) → Advances 1 a b → IsPartOf a.net b.net → (y : X) → F a y → F b y) → (first d : DraftData) (i : ℕ) (x : X) → i < length (list first) → x ≡ get_or (list first) i x → PutsOn i (OfFirst E F list i) first d
       → (call : Option Call) → MayPutOn (λ e. F e x) d call → PutsOn (i + 1) (OfFirst E F list (i + 1)) first (with_some call d)

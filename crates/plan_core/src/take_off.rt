@@ -23,11 +23,13 @@ fn rule_off(draft: &Draft, rule: &Rule) -> Option<Call>
     }
 }
 
+// From the last on, so that nothing that stands behind a rule has to move.
 fn drop_rules(draft: &mut Draft) -> Result<(), OutOfMemory>
     ensures { OnOk result (TakesOff (length draft.old.start.rules) (λ d. EachRule d.start.rules (RuleFits d.target d.net)) draft.old draft.new) }
 {
-    for rule in draft.start().rules() {
-        let call = rule_off(draft, rule);
+    let rules = draft.start().rules();
+    for at in (0..rules.len()).rev() {
+        let call = rule_off(draft, &rules[at]);
         draft.add_some(call)?;
     }
     Ok(())
@@ -45,11 +47,13 @@ fn route_off(draft: &Draft, route: &Route) -> Option<Call>
     }
 }
 
+// From the last on, so that nothing that stands behind a route has to move.
 fn drop_routes(draft: &mut Draft) -> Result<(), OutOfMemory>
     ensures { OnOk result (TakesOff (length draft.old.start.routes) (λ d. EachRoute d.start.routes (RouteFits d.target d.net)) draft.old draft.new) }
 {
-    for route in draft.start().routes() {
-        let call = route_off(draft, route);
+    let routes = draft.start().routes();
+    for at in (0..routes.len()).rev() {
+        let call = route_off(draft, &routes[at]);
         draft.add_some(call)?;
     }
     Ok(())
