@@ -4,7 +4,7 @@ use Rattle.serde_json.specs.View.{view, items_view, members_view}
 use Rattle.serde_json.proofs.Views.{Entry, view-Array, view-Object}
 use Rattle.doc_tree.proofs.Levels.{within-array, within-object}
 use Rattle.std.specs.declared.alloc.Global.{Global}
-use Rattle.std.proofs.Common.{◌-◌, Vec, BTreeMap, String, rules, subst}
+use Rattle.std.proofs.Common.{◌-◌, Vec, BTreeMap, String, subst}
 use Rattle.serde_json.specs.declared.value.Value as Value
 use Rattle.serde_json.specs.declared.value.Value.{Value}
 use Rattle.doc_tree.specs.Shape.{Shape, list, mapping, more, pair, shape, pair_shape, shapes_of, pairs_of}
@@ -17,7 +17,8 @@ use Rattle.base_model.specs.declared.path.PathStep.TheVariants.{Key, At}
 use Rattle.doc_tree.specs.declared.read.Stop.{Stop}
 use Rattle.doc_tree.specs.declared.read.Stop.TheVariants as stop
 use Rattle.doc_tree.specs.declared.tree.Tree as Tree
-use Rattle.doc_tree.specs.declared.tree.Tree.{Tree, the_lemmas}
+use Rattle.doc_tree.specs.declared.tree.Tree.{Tree}
+use Rattle.doc_tree.proofs.lemmas.Trees.{shape-List, shape-Map}
 
 abbrev pub value_shape : Value → Shape
 value_shape v = shape_of (view v)
@@ -148,12 +149,6 @@ module _ (n : ℕ) (entries it left : List Entry) (pairs : List (List ℕ × Tre
 
 pub stopped : (n : ℕ) (value same : Value) (r : Result Tree Stop) (s : Stop) → value ≡ same → r ≡ Err s → MakesTree n (view same) (Err s) → MakesTree n (view value) r
 stopped n value same r s is stop h = subst (λ v. MakesTree n (view v) r) (sym is) (subst (λ x. MakesTree n (view same) x) (sym stop) h)
-
-shape-List : (v : Vec Tree Global) → shape (Tree.List v) ≡ list (shapes_of (map shape v.items))
-shape-List v = search (rules, the_lemmas)
-
-shape-Map : (v : Vec (List ℕ × Tree) Global) → shape (Tree.Map v) ≡ mapping (pairs_of (map pair_shape v.items))
-shape-Map v = search (rules, the_lemmas)
 
 pub array_tree : (n : ℕ) (items : Vec Value Global) (trees : Vec Tree Global) → 0 < n → MakesItems (n - 1) (items_view items.items) (Ok trees) → MakesTree n (view (Value.Array items)) (Ok (Tree.List trees))
 array_tree n items trees h made = rw (view-Array items, shape-List trees) (sym (within-array n (items_view items.items) h) ∙ made.0, made.1, ap list made.2)

@@ -4,7 +4,10 @@ mod Rollbacks
 mod Recovers
 mod Applies
 mod EndsEarly
+mod PolicySeen
+mod PolicyAnswers
 mod PolicyApplies
+mod PolicyRefused
 mod Untouched
 mod Refusals
 mod Files

@@ -1,20 +1,18 @@
 -- All that is said of an apply of a policy which comes to the change of its document, from what the engine promises of the recovery, the
 -- dump and the change.
-use Rattle.std.proofs.Common.{◌≡◌, ◌⊎◌, ◌≤◌, inl, inr, refl, sym, ap, subst, arith, ◌∙◌, ℕ, [], ◌++◌, Some, None}
+use Rattle.std.proofs.Common.{[], ◌≡◌, ◌⊎◌, ◌≤◌, inl, inr, refl, sym, ap, subst, ◌∙◌, ℕ, ◌++◌, Some, None}
 use Rattle.std.specs.Prelude.{◌≢◌, false, Result, Ok, Err, IsErrOf}
 use Rattle.net_model.specs.NetData.{NetData}
 use Rattle.document_model.specs.declared.Doc.{Doc}
 use Rattle.policy_model.specs.Values.{PolicyData}
 use Rattle.host_core.specs.Faults.{Rose, RoseTwice}
-use Rattle.host_core.specs.HostView.{State, HostView, NoneRefused, HasNet}
-use Rattle.host_core.specs.Stops.{Steps, Stays}
-use Rattle.checkpoint_cell.specs.Cell.{cell_of}
+use Rattle.host_core.specs.HostView.{HostView, NoneRefused, HasNet}
 use Rattle.checkpoint_cell.specs.Settled.{Standing, standing, restored_to}
 use Rattle.merge_model.specs.MergedNet.{merge}
 use Rattle.engine_model.specs.Machine.{Asked, Outcome, asked, apply, recover}
 use Rattle.engine_model.specs.Sound.{Fit, Sound}
 use Rattle.engine_model.specs.Answers.{IsClear}
-use Rattle.engine_model.specs.Stations.{Stands, Entry, Near, Only, Settled, Either, Kept, entry_of, at, left_by}
+use Rattle.engine_model.specs.Stations.{Stands, Entry, Only, Settled, Either, Kept, entry_of, at}
 use Rattle.engine_model.specs.Exit.{ApplyExit}
 use Rattle.engine_model.specs.Refusals.{NoCallMade, ApplyCounts}
 use Rattle.engine_model.specs.Faults.{ApplyAnswers, ApplyExact, ApplySays, MayStandHalf, Tries, FailsTwice, Dumps, Backs, HadDamaged, HasTaken}
@@ -24,169 +22,37 @@ use Rattle.engine_model.specs.declared.Applied.{Applied}
 use Rattle.engine_model.specs.declared.Recovered.{Recovered}
 use Rattle.engine_model.specs.declared.Recovered.TheVariants.{Nothing, Waiting as Waits, Restored}
 use Rattle.engine_model.specs.declared.BackFault.{BackFault}
-use Rattle.engine_model.specs.declared.BackFault.TheVariants as ba
-use Rattle.host_core.specs.declared.DumpFault.{DumpFault}
-use Rattle.host_core.specs.declared.DumpFault.TheVariants as du
 use Rattle.host_core.proofs.lemmas.Counts.{rose_after}
 use Rattle.engine_model.specs.declared.ApplyFault.{ApplyFault}
 use Rattle.engine_model.specs.declared.ApplyFault.TheVariants.{Pending, MergeRefused, HostFault, KernelRefused, NotVerified, InDoubt, Damaged, HardwareDiffers, OutOfMemory}
 use Rattle.engine_model.specs.declared.ApplyOpts.{ApplyOpts}
-use Rattle.engine_model.proofs.lemmas.Leading.{alike_is, near_wider, both, kept_on, kept_stays}
-use Rattle.engine_model.proofs.lemmas.Refusals.{quiet_on, quiet_dumped, unmade_on}
+use Rattle.engine_model.proofs.lemmas.Leading.{alike_is}
 use Rattle.engine_core.specs.Calm.{CalmSince, UpToNow}
 use Rattle.engine_core.specs.Saying.{DamagedSince}
 use Rattle.top_model.specs.Said.{Said, Says, said_applied}
-use Rattle.top_model.specs.Orders.{Text, Inputs, Order, document_on, applying_policy, committing, rolling_back, recovering, order_of}
+use Rattle.top_model.specs.Orders.{Text, Inputs, Order, document_on, applying_policy, order_of}
 use Rattle.top_model.specs.Machine.{told_of, apply_cause, apply_read, apply_on, apply_after, apply_policy, ground_after, machine_of}
 use Rattle.top_model.specs.Texts.{error_line, note_lines}
 use Rattle.top_model.specs.Runs.{Run, MayRead, HostRose, HostRoseTwice, entry, reads, left_at_exit}
 use Rattle.top_model.specs.Grounds.{Grounds, IsGround, IsDocumentOf}
 use Rattle.top_model.specs.Told.{NotedOn, ErrTextOn, Told}
-use Rattle.top_model.specs.Causes.{MayWant, MayAnswer, Comes, Expects, ExactlyOf, expected}
+use Rattle.top_model.specs.Causes.{MayWant, Comes, Expects, ExactlyOf, expected}
 use Rattle.top_model.specs.Counts.{PolicyCounted}
 use Rattle.top_model.specs.Tried.{HasExcuse}
 use Rattle.top_model.specs.Exits.{PolicyLeaves}
 use Rattle.top_model.specs.Undisturbed.{Spares}
 use Rattle.top_model.specs.Answered.{GoesOn, Answered}
-use Rattle.top_model.specs.declared.report.DocFault.{DocFault}
 use Rattle.top_model.specs.declared.report.Cause.{Cause}
 use Rattle.top_model.specs.declared.report.Cause.TheVariants as cause
-use Rattle.top_model.proofs.lemmas.Counting.{nothing_other}
 use Rattle.top_model.proofs.lemmas.Settles.{same_some}
 use Rattle.top_model.proofs.lemmas.Settling.{refused_settles}
-use Rattle.top_model.proofs.lemmas.Wanting.{may_want_order}
 use Rattle.top_model.proofs.lemmas.Continued as go
-use Rattle.top_model.proofs.lemmas.Deriving.{late}
 use Rattle.answer_text.specs.Speaking.{Spoken}
-use Rattle.answer_text.proofs.lemmas.Told.{written, starved_line, told_refused}
-use Rattle.order_reading.specs.Reading.{Answers, itself}
-use Rattle.nmstate_top.specs.Begun.{Recovers, side_of, look_cause, Seen, Wants, told_side, fault_notes}
+use Rattle.answer_text.proofs.lemmas.Told.{written, told_refused}
+use Rattle.nmstate_top.specs.Begun.{side_of, Seen, Wants, told_side, fault_notes}
 use Rattle.nmstate_top.proofs.Applies.{answer_of, tried}
-use Rattle.nmstate_top.proofs.EndsEarly.{recovery_cause, refused_late, ran_out}
-use Rattle.nmstate_top.proofs.Evaluates.{document_refused}
-
-abbrev given : Recovered → Result Recovered BackFault
-given done = Ok done
-
-abbrev failed : ApplyFault → Result Applied ApplyFault
-failed fault = Err fault
-
-abbrev read_as : Doc → Result Doc Cause
-read_as doc = Ok doc
-
-same_given : (a b : Recovered) → given a ≡ given b → a ≡ b
-same_given a b e = cc
-
-same_doc : (a b : Doc) → read_as a ≡ read_as b → a ≡ b
-same_doc a b e = cc
-
--- a fault is told as what stands behind the recovery
-pub sided : (done : Recovered) (fault : ApplyFault) → go.told_as (side_of done) (failed fault) ≡ failed (told_side done fault)
-sided done (Pending deadline) = refl
-sided done (MergeRefused refused) = refl
-sided done (HostFault sides.NotBegun) = refl
-sided done (HostFault sides.RolledBack) = refl
-sided done (HostFault sides.Pending) = refl
-sided done (KernelRefused k n left) = refl
-sided done (NotVerified found left) = refl
-sided done InDoubt = refl
-sided done (Damaged area) = refl
-sided done (HardwareDiffers names) = refl
-sided done OutOfMemory = refl
-
--- ---- what was done before the change
-
-begun_pending : sides.NotBegun ≡ sides.Pending → ⊥
-begun_pending e = cc
-
-rolled_pending : sides.RolledBack ≡ sides.Pending → ⊥
-rolled_pending e = cc
-
-rolled_begun : sides.RolledBack ≡ sides.NotBegun → ⊥
-rolled_begun e = cc
-
-never_pending : (done : Recovered) → side_of done ≢ sides.Pending
-never_pending Nothing e = begun_pending e
-never_pending (Waits deadline) e = begun_pending e
-never_pending Restored e = rolled_pending e
-
--- nothing was begun where nothing was taken back
-unbegun : (done : Recovered) → IsClear done → side_of done ≡ sides.NotBegun → done ≡ Nothing
-unbegun Nothing clear is = refl
-unbegun (Waits deadline) clear is = absurd clear
-unbegun Restored clear is = absurd (rolled_begun is)
-
--- what is told as taken back was restored
-restored : (done : Recovered) → IsClear done → side_of done ≡ sides.RolledBack → done ≡ Restored
-restored Nothing clear is = absurd (rolled_begun (sym is))
-restored (Waits deadline) clear is = absurd clear
-restored Restored clear is = refl
-
-same_or_restored : {X : Type 0} (done : Recovered) → IsClear done → X → (side_of done ≡ sides.NotBegun) ⊎ X
-same_or_restored Nothing clear x = inl refl
-same_or_restored (Waits deadline) clear x = inr x
-same_or_restored Restored clear x = inr x
-
-pub later : (a b c : ℕ) → a ≤ b → b ≤ c → a ≤ c
-later a b c one two = omega arith
-
-module _ (tells honest : Type 0) (honest_tells : honest → tells) (now : ℕ) (done : Recovered) (old between new : HostView) (net : NetData) (seen : Seen tells honest now done old between new net) where
-  abbrev first : Recovers tells honest now old between (Ok done)
-  first = seen.begun.recovers
-
-  seen_faults : old.faults ≤ new.faults
-  seen_faults = later old.faults between.faults new.faults first.later seen.looks.cause.later
-
-  seen_moment : old.stops.moment ≤ new.stops.moment
-  seen_moment = later old.stops.moment between.stops.moment new.stops.moment first.moment seen.looks.stops.later
-
-  seen_quiet : NoneRefused old.kernel new.kernel
-  seen_quiet = quiet_on old.kernel between.kernel new.kernel first.counts (quiet_dumped between.kernel new.kernel seen.looks.calls)
-
-  -- where nothing was taken back, no call was made
-  seen_unmade : side_of done ≡ sides.NotBegun → NoCallMade old.kernel new.kernel
-  seen_unmade is = unmade_on old.kernel between.kernel new.kernel (inl (first.unmade (λ e. nothing_other (sym (unbegun done seen.begun.clear is) ∙ e)))) (inr seen.looks.calls)
-
-  -- where something was, it was to be
-  seen_taken : side_of done ≡ sides.RolledBack → tells → HasTaken now (standing old.state).cell
-  seen_taken is t = first.restored t (ap given (restored done seen.begun.clear is))
-
-  -- no checkpoint stands
-  seen_none : tells → (standing new.state).cell ≡ None
-  seen_none t = ap (λ (s : State). cell_of s.cell) (seen.looks.state t) ∙ (first.cleared t seen.begun.clear).cell
-
-  -- where nothing was taken back, nothing was changed
-  seen_same : side_of done ≡ sides.NotBegun → tells → new.state ≡ old.state
-  seen_same is t = seen.looks.state t ∙ first.same t (ap given (unbegun done seen.begun.clear is))
-
-  seen_stays : side_of done ≡ sides.NotBegun → Steps Stays old.stops new.stops
-  seen_stays is = both old.stops between.stops new.stops (first.stays (ap given (unbegun done seen.begun.clear is))) seen.looks.stops
-
-  seen_answer : honest → (recover now (standing old.state)).answer ≡ given done
-  seen_answer h = first.exact h
-
-  seen_after : honest → standing new.state ≡ (recover now (standing old.state)).after
-  seen_after h = ap standing (seen.looks.state (honest_tells h)) ∙ first.after h
-
-  seen_found : honest → new.state.net ≡ Some net
-  seen_found h = ap (λ (s : State). s.net) (seen.looks.state (honest_tells h)) ∙ seen.looks.net h
-
-  seen_kept : honest → Sound old → Kept (Only (recover now (standing old.state)).after) old new
-  seen_kept h sound =
-      let kept = first.kept h sound in
-      kept_on (Only (recover now (standing old.state)).after) old between new kept (kept_stays (Only (recover now (standing old.state)).after) between new kept.sound seen.looks.stops)
-
-  -- all that is left settles like what reads
-  seen_left : honest → Sound old → (x : Standing) → left_by new x → Near (Only (standing new.state)) x
-  seen_left h sound x left =
-      let from = seen.looks.stops.now left.0 left.1 in
-      near_wider (Only (recover now (standing old.state)).after) (Only (standing new.state)) (λ y is. is ∙ sym (seen_after h)) x
-      (first.exit h sound x (from.0, from.1, ap standing (sym from.2) ∙ left.2))
-
-  seen_alone : honest → standing new.state ≡ restored_to net
-  seen_alone h = λ i. record { net = seen_found h i; cell = seen_none (honest_tells h) i }
-
--- ---- by the machine
+use Rattle.nmstate_top.proofs.PolicySeen.{given, failed, same_given, same_doc, sided, never_pending, seen_faults, seen_moment, seen_quiet, seen_unmade, seen_taken, seen_none, seen_same, seen_stays, seen_answer, seen_after, seen_found, seen_kept, seen_left, seen_alone}
+use Rattle.nmstate_top.proofs.PolicyAnswers.{Unpending, unpending, may, may_want, leaves}
 
 module _ (p : PolicyData) (opts : ApplyOpts) (now : ℕ) where
   ground_clear : (e : Standing) (answer : Result Recovered BackFault) (done : Recovered) → answer ≡ Ok done → IsClear done → ground_after e answer ≡ e.net
@@ -201,69 +67,6 @@ module _ (p : PolicyData) (opts : ApplyOpts) (now : ℕ) where
 
 abbrev answers_as : Outcome Applied ApplyFault → Outcome Said Cause
 answers_as outcome = told_of said_applied apply_cause outcome
-
--- ---- what is answered
-
--- where the host tells what it holds, no change waits
-abbrev Unpending : Type 0 → Result Applied ApplyFault → Type 0
-Unpending tells (Err (Pending until)) = tells → ⊥
-Unpending tells result = Unit {0}
-
-unpending : (tells : Type 0) (a : Asked) (back : Left) (mid new : HostView) → (tells → (standing mid.state).cell ≡ None) → (result : Result Applied ApplyFault) → ApplySays tells a mid new result
-    → Unpending tells (go.told_as back result)
-unpending tells a back mid new none (Ok done) says = tt
-unpending tells a back mid new none (Err (Pending until)) says = λ t. go.none_waits a (standing mid.state) until (none t) (says t).answer
-unpending tells a back mid new none (Err (MergeRefused refused)) says = tt
-unpending tells a back mid new none (Err (HostFault sides.NotBegun)) says = tt
-unpending tells a back mid new none (Err (HostFault sides.RolledBack)) says = tt
-unpending tells a back mid new none (Err (HostFault sides.Pending)) says = tt
-unpending tells a back mid new none (Err (KernelRefused k n left)) says = tt
-unpending tells a back mid new none (Err (NotVerified found left)) says = tt
-unpending tells a back mid new none (Err InDoubt) says = tt
-unpending tells a back mid new none (Err (Damaged area)) says = tt
-unpending tells a back mid new none (Err (HardwareDiffers names)) says = tt
-unpending tells a back mid new none (Err OutOfMemory) says = tt
-
-may : (p : PolicyData) (opts : ApplyOpts) (result : Result Applied ApplyFault) → MayAnswer (Ok (applying_policy p opts)) (answer_of result)
-may p opts (Ok done) = tt
-may p opts (Err (Pending deadline)) = tt
-may p opts (Err (MergeRefused refused)) = tt
-may p opts (Err (HostFault side)) = tt
-may p opts (Err (KernelRefused k n side)) = tt
-may p opts (Err (NotVerified found side)) = tt
-may p opts (Err InDoubt) = tt
-may p opts (Err (Damaged area)) = tt
-may p opts (Err (HardwareDiffers names)) = tt
-may p opts (Err OutOfMemory) = tt
-
--- another order than those of the three single words
-other_commit : (p : PolicyData) (opts : ApplyOpts) → applying_policy p opts ≢ committing
-other_commit p opts e = cc
-
-other_rollback : (p : PolicyData) (opts : ApplyOpts) → applying_policy p opts ≢ rolling_back
-other_rollback p opts e = cc
-
-other_recover : (p : PolicyData) (opts : ApplyOpts) → applying_policy p opts ≢ recovering
-other_recover p opts e = cc
-
--- memory may run out in an apply
-pub may_want : (r : Run) (p : PolicyData) (opts : ApplyOpts) (inputs : Inputs) → order_of r.in_script inputs r.words ≡ Ok (applying_policy p opts) → MayWant r
-may_want r p opts inputs is = may_want_order r inputs (applying_policy p opts) is (other_commit p opts) (other_rollback p opts) (other_recover p opts)
-
-leaves : (a : Asked) (entry : Entry) (left : Stands) (rose twice : Type 0) (result : Result Applied ApplyFault) → ApplyExit a entry left rose twice result
-    → PolicyLeaves a.opts a.now (apply a entry.reads).after entry left rose twice (answer_of result)
-leaves a entry left rose twice (Ok done) exit = exit
-leaves a entry left rose twice (Err (Pending deadline)) exit = exit
-leaves a entry left rose twice (Err (MergeRefused refused)) exit = exit
-leaves a entry left rose twice (Err (HostFault sides.NotBegun)) exit = exit
-leaves a entry left rose twice (Err (HostFault sides.RolledBack)) exit = exit
-leaves a entry left rose twice (Err (HostFault sides.Pending)) exit = exit
-leaves a entry left rose twice (Err (KernelRefused k n side)) exit = absurd exit
-leaves a entry left rose twice (Err (NotVerified found side)) exit = absurd exit
-leaves a entry left rose twice (Err InDoubt) exit = record { to = exit.to; near = exit.near; net = exit.net; changed = exit.changed }
-leaves a entry left rose twice (Err (Damaged area)) exit = exit
-leaves a entry left rose twice (Err (HardwareDiffers names)) exit = absurd exit
-leaves a entry left rose twice (Err OutOfMemory) exit = inr exit
 
 module _ (r : Run) (p : PolicyData) (opts : ApplyOpts) (doc : Doc) (done : Recovered) (between mid : HostView) (goes_on : GoesOn r) (wants : Wants r.host_tells r.honest r.now done r.host between mid p doc) where
   abbrev Ask : Asked
@@ -548,61 +351,3 @@ module _ (r : Run) (p : PolicyData) (opts : ApplyOpts) (doc : Doc) (done : Recov
           kept = λ a. policy_kept a.honest (kept_all a.honest a.sound);
           spares = λ a. spares a.honest a.sound;
         }
-
--- no count fell on the way
-pub seen_later : (tells honest : Type 0) (now : ℕ) (done : Recovered) (old mid new : HostView) (net : NetData) → Seen tells honest now done old mid new net → old.faults ≤ new.faults
-seen_later tells honest now done old mid new net seen = later old.faults mid.faults new.faults seen.begun.recovers.later seen.looks.cause.later
-
-pub wanted_later : (tells honest : Type 0) (now : ℕ) (done : Recovered) (old mid between new : HostView) (p : PolicyData) (doc : Doc) → Wants tells honest now done old mid between p doc
-    → between.faults ≤ new.faults → old.faults ≤ new.faults
-wanted_later tells honest now done old mid between new p doc wants le =
-    later old.faults between.faults new.faults (seen_later tells honest now done old mid between wants.net wants.seen) le
-
--- ---- how it is told that it ends before the change
-
--- a refusal was told, with the cause that was made of a fault
-pub told_plain : (r : Run) (order : Result Order Cause) (c named : Cause) → c ≡ named → ErrTextOn (Grounds r order) order named (error_line named)
-    → Spoken r.sinks_tell c [] ([] ++ error_line c) r.out r.out_after r.err r.err_after r.report → Told r order (Err named)
-told_plain r order c named is plain spoken = told_refused r order named [] plain (subst (λ (x : Cause). Spoken r.sinks_tell x [] ([] ++ error_line x) r.out r.out_after r.err r.err_after r.report) is spoken)
-
-module _ (on : NetData → Type 0) (p : PolicyData) (opts : ApplyOpts) where
-  pub recovery_err : (fault : BackFault) → ErrTextOn on (Ok (applying_policy p opts)) (recovery_cause fault) (error_line (recovery_cause fault))
-  recovery_err ba.NoCheckpoint = inl refl
-  recovery_err (ba.HostFault left) = inl refl
-  recovery_err (ba.KernelRefused k n left) = inl refl
-  recovery_err (ba.Damaged area) = inl refl
-  recovery_err (ba.HardwareDiffers names) = inl refl
-  recovery_err ba.OutOfMemory = inl refl
-
-  pub look_err : (done : Recovered) (fault : DumpFault) → ErrTextOn on (Ok (applying_policy p opts)) (look_cause done fault) (error_line (look_cause done fault))
-  look_err done du.Failed = inl refl
-  look_err done du.Damaged = inl refl
-  look_err done du.OutOfMemory = inl refl
-
--- ---- the policy is no document on the network that was dumped
-
-line_fault : (n : ℕ) (fault : DocFault) → cause.BadLine n ≡ cause.DocRefused fault → ⊥
-line_fault n fault e = cc
-
-batch_fault : (n : ℕ) (fault : DocFault) → cause.BatchLine n ≡ cause.DocRefused fault → ⊥
-batch_fault n fault e = cc
-
-large_fault : (fault : DocFault) → cause.BatchLarge ≡ cause.DocRefused fault → ⊥
-large_fault fault e = cc
-
-module _ (r : Run) (p : PolicyData) (opts : ApplyOpts) (inputs : Inputs) (may_read : MayRead r inputs) (is : order_of r.in_script inputs r.words ≡ Ok (applying_policy p opts))
-    (done : Recovered) (mid : HostView) (net : NetData) (seen : Seen r.host_tells r.honest r.now done r.host mid r.host_after net) (goes_on : GoesOn r) where
-  abbrev refused_as : Cause → Result Doc Cause
-  refused_as c = Err c
-
-  pub no_document : (c : Cause) → Answers itself (document_on p net) (refused_as c) → Spoken r.sinks_tell c [] ([] ++ error_line c) r.out r.out_after r.err r.err_after r.report → Answered r
-  no_document (cause.DocRefused fault) refused spoken =
-      refused_late r p opts inputs may_read is done seen.begun.clear mid seen.begun.recovers net seen.looks fault refused (document_refused fault p net refused) goes_on
-      (told_refused r (Ok (applying_policy p opts)) (cause.DocRefused fault) [] refl spoken)
-  no_document (cause.BadLine n) refused spoken = let is_refusal = late p net (cause.BadLine n) refused in absurd (line_fault n is_refusal.0 is_refusal.1)
-  no_document (cause.BatchLine n) refused spoken = let is_refusal = late p net (cause.BatchLine n) refused in absurd (batch_fault n is_refusal.0 is_refusal.1)
-  no_document cause.BatchLarge refused spoken = let is_refusal = late p net cause.BatchLarge refused in absurd (large_fault is_refusal.0 is_refusal.1)
-  no_document cause.OutOfMemory refused spoken =
-      ran_out r p opts inputs may_read is done seen.begun.clear mid seen.begun.recovers net seen.looks goes_on
-      (told_refused r (Ok (applying_policy p opts)) cause.OutOfMemory [] (starved_line (Grounds r (Ok (applying_policy p opts))) (Ok (applying_policy p opts))) spoken)
-  no_document c refused spoken = absurd refused

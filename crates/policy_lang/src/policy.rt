@@ -20,10 +20,19 @@ use std::marker::Model;
 
 /// A policy: captures, and the tree that is wanted, whose places refer to them. It has none of the faults that
 /// [`policy_of`] answers.
-#[derive(Drop)]
 pub struct Policy {
     captures: Vec<Capture>,
     desired: Tree,
+}
+
+// By hand, so that a proof sees one call where one is dropped, and not a step for each part.
+impl Drop for Policy {
+    fn drop(self) {
+        let Policy {
+            captures: _,
+            desired: _,
+        } = self;
+    }
 }
 
 impl Model for Policy {

@@ -11,3 +11,4 @@ pub mod InPlace
 pub mod Known
 pub mod Sized
 pub mod Low
+pub mod Below

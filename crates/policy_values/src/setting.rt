@@ -1,5 +1,5 @@
 //! `:=` in a tree that no one else has: the value at the path, in every element of each list.
-ghost use Rattle.std.specs.Prelude.{◌≡◌, ◌<◌, length, IfSome, Some, None, IfOk, option_map, map, bytes_eq, if◌then◌else◌};
+ghost use Rattle.std.specs.Prelude.{◌≡◌, ◌<◌, length, IfSome, Some, None, IfOk, option_map, map, bytes_eq};
 ghost use Rattle.doc_tree.specs.Shape.{shape, shapes_of, pair_shape, pairs_of};
 ghost use Rattle.policy_model.specs.Steps.{tree_of, added, set, set_each, set_under};
 ghost use Rattle.policy_lang.specs.Parting.{pairs_onto};
@@ -48,15 +48,24 @@ pub(crate) fn set(value: &Constant, path: &[Str], tree: Tree) -> Result<Option<T
     let [key, keys @ ..] = path else {
         return Ok(Some(tree_of(value)?));
     };
-    match tree {
-        Tree::List(trees) => match set_each(value, path, trees)? {
-            Some(trees) => Ok(Some(Tree::List(trees))),
-            None => Ok(None),
-        },
-        Tree::Map(pairs) => match set_under(value, key, keys, pairs)? {
-            Some(pairs) => Ok(Some(Tree::Map(pairs))),
-            None => Ok(None),
-        },
+    let mut tree = tree;
+    match &mut tree {
+        Tree::List(trees) => {
+            let alloc = *trees.allocator();
+            let trees = mem::replace(trees, Vec::new(alloc));
+            match set_each(value, path, trees)? {
+                Some(trees) => Ok(Some(Tree::List(trees))),
+                None => Ok(None),
+            }
+        }
+        Tree::Map(pairs) => {
+            let alloc = *pairs.allocator();
+            let pairs = mem::replace(pairs, Vec::new(alloc));
+            match set_under(value, key, keys, pairs)? {
+                Some(pairs) => Ok(Some(Tree::Map(pairs))),
+                None => Ok(None),
+            }
+        }
         _ => Ok(None),
     }
 }

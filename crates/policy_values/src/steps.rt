@@ -11,6 +11,7 @@ use doc_tree::Tree;
 use policy_lang::copy_tree;
 use policy_model::{Constant, Verb};
 use std::alloc::{AllocError, Global};
+use std::mem;
 
 /// The string, number or boolean that a tree is, if it is one.
 pub(crate) fn value_of_tree(tree: &Tree) -> Result<Option<Constant>, AllocError>
@@ -165,9 +166,11 @@ pub(crate) fn narrowed_of(
 ) -> Result<Option<Tree>, AllocError>
     ensures { IfOk result (λ found. option_map shape found ≡ narrowed verb value.now path.now (shape tree)) }
 {
-    match tree {
-        Tree::List(trees) => changed(verb, value, path, trees),
+    let mut tree = tree;
+    match &mut tree {
+        Tree::List(trees) => changed(verb, value, path, mem::replace(trees, Vec::new(alloc))),
         Tree::Map(pairs) => {
+            let pairs = mem::replace(pairs, Vec::new(alloc));
             let [key, keys @ ..] = path else {
                 return Ok(None);
             };

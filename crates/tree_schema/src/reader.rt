@@ -1,5 +1,5 @@
 //! How far a reading has come.
-ghost use Rattle.std.specs.Prelude.{◌≡◌, ◌<◌, ◌++◌, ◌∷◌, [], OnOk, OnErr, IfOk, map};
+ghost use Rattle.std.specs.Prelude.{◌≡◌, ◌<◌, ◌++◌, ◌∷◌, [], OnOk, IfOk};
 ghost use Rattle.tree_schema.specs.Faults.{path_of};
 ghost use Rattle.tree_schema.specs.Reached.{Reached, reached, entered};
 ghost use Rattle.std.specs.Prelude.{List};
@@ -14,11 +14,21 @@ use std::marker::Model;
 const MAX_ITEMS: usize = 2_147_483_647;
 
 /// Where a reading stands, and what was read over so far. Where a reading is refused, it stands at the place.
-#[derive(Drop)]
 pub struct Reader {
     alloc: Global,
     here: Vec<PathStep>,
     notes: Vec<Path>,
+}
+
+// By hand, so that a proof sees one call where one is dropped, and not a step for each part.
+impl Drop for Reader {
+    fn drop(self) {
+        let Reader {
+            alloc: _,
+            here: _,
+            notes: _,
+        } = self;
+    }
 }
 
 impl Model for Reader {

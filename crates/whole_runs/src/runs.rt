@@ -1,5 +1,6 @@
 //! One command on a host, and what is seen of it.
 
+use crate::machine::copied_net;
 use crate::reading::{first_word, number, words};
 use anyhow::Result;
 use host_core::Host;
@@ -131,8 +132,8 @@ fn script<H: Host>(
 
 fn make_seen(report: Report, out: &MemorySink, err: &MemorySink) -> Result<Seen> {
     let Report { status, cause } = report;
-    let found = match cause {
-        Cause::NotVerified(net, _) => Some(net),
+    let found = match &cause {
+        Cause::NotVerified(net, _) => copied_net(Some(net))?,
         _ => None,
     };
     Ok(Seen {

@@ -15,6 +15,5 @@ pub mod OpenLaws
 pub mod QuoteLaws
 pub mod ReaderLaws
 pub mod RowLaws
-pub mod Shapes
 pub mod Sound
 pub mod Texts

@@ -1,6 +1,6 @@
 //! The rows of a text: its lines that aren't blank.
 
-ghost use Rattle.std.specs.Prelude.{◌≡◌, ◌+◌, ◌&&◌, ◌<◌, ◌^◌, ◌++◌, ◌∷◌, false, [], length, map, is_some, IfOk, OnOk};
+ghost use Rattle.std.specs.Prelude.{◌≡◌, ◌+◌, ◌&&◌, ◌<◌, ◌^◌, ◌++◌, false, length, map, is_some, IfOk, OnOk};
 ghost use Rattle.yaml_read.specs.Bytes.{tail, leading_spaces, skip_spaces};
 ghost use Rattle.std.specs.Str.Lines.{lines};
 ghost use Rattle.yaml_read.specs.Keys.{key};
@@ -15,7 +15,6 @@ use crate::style::Style;
 use std::alloc::{AllocError, Global};
 
 /// A line, or a part of one: the dash before a map, or the map's first pair.
-#[derive(Drop)]
 pub struct Row {
     /// The number of the line, from 1.
     pub number: u64,
@@ -25,6 +24,18 @@ pub struct Row {
     pub text: Vec<u8>,
     /// The whole line.
     pub line: Vec<u8>,
+}
+
+// By hand, so that a proof sees one call where one is dropped, and not a step for each part.
+impl Drop for Row {
+    fn drop(self) {
+        let Row {
+            number: _,
+            column: _,
+            text: _,
+            line: _,
+        } = self;
+    }
 }
 
 /// Whether the text begins with the mark of an entry of a sequence.

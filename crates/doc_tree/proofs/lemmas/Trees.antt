@@ -1,9 +1,27 @@
 -- Trees: what holds of a node holds of those below it.
-use Rattle.std.proofs.Common.{◌≡◌, ◌<◌, ◌≤◌, ◌&&◌, ℕ, suc, max, List, [], ◌∷◌, length, map, Bool, true, false, Option, Some, refl, ap, subst, arith}
+use Rattle.std.proofs.Common.{◌≡◌, ◌<◌, ◌≤◌, ◌&&◌, ℕ, suc, max, List, [], ◌∷◌, length, map, Bool, true, false, Option, Some, refl, ap, subst, arith, rules, Vec, Global}
 use Rattle.std.specs.Prelude.{bytes_eq, nat_lt, ◌^◌, if◌then◌else◌}
 use Rattle.std.proofs.lemmas.Bool.{and_parts}
-use Rattle.doc_tree.specs.Shape.{Shape, nothing, truth, whole, text, list, mapping, Shapes, more, Pairs, no_pairs, pair, shapes_of, lacks, is_distinct, shapes_are_distinct, pairs_are_distinct, levels, pairs_levels, item_count, has_short_lists, shapes_have_short_lists, pairs_have_short_lists}
+use Rattle.doc_tree.specs.Shape.{Shape, shape, pair_shape, pairs_of, nothing, truth, whole, text, list, mapping, Shapes, more, Pairs, no_pairs, pair, shapes_of, lacks, is_distinct, shapes_are_distinct, pairs_are_distinct, levels, pairs_levels, item_count, has_short_lists, shapes_have_short_lists, pairs_have_short_lists}
 use Rattle.doc_tree.specs.Lookup.{find, get}
+use Rattle.doc_tree.specs.declared.tree.Tree as tree
+use Rattle.doc_tree.specs.declared.tree.Tree.{Tree}
+use Rattle.doc_tree.proofs.tree.Tree.TheLaws as laws
+
+-- what falls where a call goes down a tree
+abbrev pub the_size : Tree → ℕ
+the_size = laws.the_size
+
+-- the shape of a tree, by what it is
+
+pub shape-Null : shape tree.Null ≡ nothing
+shape-Null = search (rules, tree.the_lemmas)
+
+pub shape-List : (v : Vec Tree Global) → shape (tree.List v) ≡ list (shapes_of (map shape v.items))
+shape-List v = search (rules, tree.the_lemmas)
+
+pub shape-Map : (v : Vec (List ℕ × Tree) Global) → shape (tree.Map v) ≡ mapping (pairs_of (map pair_shape v.items))
+shape-Map v = search (rules, tree.the_lemmas)
 
 -- a list's items are counted by the list's length
 pub item_count-shapes_of : (ss : List Shape) → item_count (shapes_of ss) ≡ length ss

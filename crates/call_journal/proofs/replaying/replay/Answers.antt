@@ -39,14 +39,6 @@ returns-in_err-step-clause-bad c =
     rw (p.1, p.2) (λ is. refused_there c.args.bytes.now (λ i. omega (arith, c.type_inv.bytes i)) c.records.at c.in_ok-call.behind c.in_ok-call.call c.records.net (replayed c.args.net.now c.args.bytes.now) c.in_err-step.field-0.0
     c.in_ok-call.ensures.read (sym c.is_open_at.ensures ∙ c.records-test.true) (λ k e. c.in_err-step.ensures.refused k (let same : Err c.in_err-step.field-0.0 ≡ Err (Refused k) = cc in same)) c.records.invariant.carried is)
 
-pub records-preserved-in_ok-step : goal.records-preserved-in_ok-step
-records-preserved-in_ok-step c = record {
-  within = c.in_ok-call.ensures.within;
-  carried = carried_on c.args.bytes.now (λ i. omega (arith, c.type_inv.bytes i)) c.records.at c.in_ok-call.behind c.in_ok-call.call c.records.net c.in_ok-call.ensures.read c.step.new.net (replayed c.args.net.now c.args.bytes.now)
-      (sym c.is_open_at.ensures ∙ c.records-test.true) c.in_ok-call.ensures.further c.in_ok-call.ensures.within c.in_ok-step.ensures.done c.records.invariant.carried;
-  led = led_on c.args.bytes.now (λ i. omega (arith, c.type_inv.bytes i)) c.records.at c.in_ok-call.behind c.in_ok-call.call c.records.net c.in_ok-call.ensures.read c.args.net.now c.step.new.net c.records.invariant.led c.in_ok-step.ensures.done;
-}
-
 pub records-preserved : goal.records-preserved
 records-preserved c = record {
   within = c.in_ok-call.ensures.within;

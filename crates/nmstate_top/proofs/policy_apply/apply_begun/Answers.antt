@@ -7,7 +7,8 @@ use Rattle.top_model.specs.Answered.{GoesOn}
 use Rattle.top_model.proofs.lemmas.Taken.{takes_only}
 use Rattle.nmstate_top.specs.Begun.{Looks, look_cause}
 use Rattle.nmstate_top.proofs.EndsEarly.{failed_look}
-use Rattle.nmstate_top.proofs.PolicyApplies.{later, told_plain, look_err}
+use Rattle.nmstate_top.proofs.PolicySeen.{later}
+use Rattle.nmstate_top.proofs.PolicyRefused.{told_plain, look_err}
 use Rattle.nmstate_top.proofs.policy_apply.apply_begun.Goals as goal
 
 pub returns-in-Ok : goal.returns-in-Ok

@@ -8,7 +8,7 @@ use Rattle.top_model.specs.declared.report.Cause.TheVariants.{OutOfMemory}
 use Rattle.top_model.proofs.lemmas.Taken.{takes_only}
 use Rattle.answer_text.proofs.lemmas.Told.{starved_line, told_refused}
 use Rattle.nmstate_top.proofs.EndsEarly.{ran_out}
-use Rattle.nmstate_top.proofs.PolicyApplies.{seen_later}
+use Rattle.nmstate_top.proofs.PolicySeen.{seen_later}
 use Rattle.nmstate_top.proofs.policy_apply.apply_doc.Goals as goal
 
 pub returns-in-Err : goal.returns-in-Err

@@ -3,7 +3,8 @@ use Rattle.top_model.specs.Said.{said_applied}
 use Rattle.top_model.specs.Runs.{run_of}
 use Rattle.top_model.specs.Answered.{GoesOn}
 use Rattle.top_model.proofs.lemmas.Taken.{takes_only}
-use Rattle.nmstate_top.proofs.PolicyApplies.{answered, told_applied, told_fault_as, wanted_later}
+use Rattle.nmstate_top.proofs.PolicyApplies.{answered, told_applied, told_fault_as}
+use Rattle.nmstate_top.proofs.PolicySeen.{wanted_later}
 use Rattle.nmstate_top.proofs.Telling.{says_as}
 use Rattle.nmstate_top.proofs.policy_apply.apply_noted.Goals as goal
 

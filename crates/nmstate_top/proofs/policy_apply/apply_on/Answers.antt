@@ -2,7 +2,8 @@ use Rattle.policy_lang.specs.Held.{data_of}
 use Rattle.top_model.specs.Runs.{run_of}
 use Rattle.top_model.specs.Answered.{GoesOn}
 use Rattle.top_model.proofs.lemmas.Taken.{takes_only}
-use Rattle.nmstate_top.proofs.PolicyApplies.{seen_later, no_document}
+use Rattle.nmstate_top.proofs.PolicySeen.{seen_later}
+use Rattle.nmstate_top.proofs.PolicyRefused.{no_document}
 use Rattle.nmstate_top.proofs.policy_apply.apply_on.Goals as goal
 
 pub returns-in-Ok : goal.returns-in-Ok

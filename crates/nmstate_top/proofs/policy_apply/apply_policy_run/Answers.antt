@@ -6,7 +6,7 @@ use Rattle.top_model.specs.Grounds.{Grounds}
 use Rattle.top_model.specs.Answered.{GoesOn}
 use Rattle.top_model.proofs.lemmas.Taken.{takes_only}
 use Rattle.nmstate_top.proofs.EndsEarly.{recovery_cause, failed_recovering}
-use Rattle.nmstate_top.proofs.PolicyApplies.{told_plain, recovery_err}
+use Rattle.nmstate_top.proofs.PolicyRefused.{told_plain, recovery_err}
 use Rattle.nmstate_top.proofs.policy_apply.apply_policy_run.Goals as goal
 
 pub returns-in-Ok : goal.returns-in-Ok

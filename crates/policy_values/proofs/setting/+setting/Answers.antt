@@ -1,14 +1,16 @@
-use Rattle.std.proofs.Common.{◌≡◌, ◌∙◌, ◌<◌, ◌≤◌, ◌≢◌, ◌+◌, ℕ, List, arith, rules, length, set, get_or, map, None, Some, option_map, ap, sym, subst}
+use Rattle.std.proofs.Common.{◌≡◌, ◌∙◌, ◌<◌, ◌≤◌, ◌≢◌, ℕ, List, arith, rules, length, set, get_or, map, None, Some, option_map, ap, sym, subst, Vec, Global}
 use denote.Param.Weighed.{most, at_most}
-use Rattle.std.proofs.lemmas.List.{length-set, get_or-set_other, set-set}
+use Rattle.std.proofs.lemmas.List.{length-set, get_or-set_other}
 use Rattle.std.proofs.lemmas.Result.{IfOk-weaker}
 use Rattle.doc_tree.specs.Shape.{shape, shapes_of, pair_shape, pairs_of}
+use Rattle.base_model.specs.declared.Str.{Str}
 use Rattle.doc_tree.specs.declared.Tree.{Tree}
-use Rattle.doc_tree.proofs.tree.Tree.TheLaws.{the_size}
+use Rattle.doc_tree.proofs.lemmas.Trees.{the_size, shape-Map}
 use Rattle.policy_model.specs.Steps.{set_each}
 use Rattle.policy_model.specs.Steps as steps
 use Rattle.policy_values.specs.Lists.{place_of}
 use Rattle.policy_values.proofs.InPlace.{each_on, each_done, set_missing, set_nowhere, set_done}
+use Rattle.policy_values.proofs.Below.{rest, set_in_map}
 use Rattle.policy_values.proofs.setting.+setting.Goals as goal
 
 -- the item is one of those that the list began with
@@ -68,3 +70,21 @@ set_under-returns t c =
     set_done v k ks ps c.in-Some.i c.index_mut.result.now (sym (c.in-Some.ensures.place ∙ ap (λ (qs : List (List ℕ × Tree)). place_of k qs) c.as_slice.ensures.value)) c.index_mut.ensures.value
     c.index_mut-2.result.now c.replace-tree.new.dest c.in-Some-2.tree (omega (arith, c.in-Some.ensures.inside, ap (λ (qs : List (List ℕ × Tree)). length qs) c.as_slice.ensures.value)) c.index_mut-2.ensures.value
     (sym (ap (option_map shape) c.in-Some-2.is) ∙ c.in_ok-tree.ensures ∙ ap (λ (x : Tree). steps.set v ks (shape x)) c.replace-tree.ensures.value)
+
+pub set-returns-in-Some-2 : goal.set-returns-in-Some-2
+set-returns-in-Some-2 t c =
+    let v = c.args.value.now in
+    let path = c.args.path.now in
+    ap Some (shape-Map c.in-Some-2.pairs) ∙ set_in_map v path c.key-item.result (shape c.args.tree) (pairs_of (map pair_shape c.in-Map.pairs.items)) (Some (pairs_of (map pair_shape c.in-Some-2.pairs.items)))
+    (ap shape c.in-Map.is ∙ shape-Map c.in-Map.pairs) c.in-len1-up.len_at_least c.key-item.is
+    (sym (ap (option_map (λ (ps : Vec (Str × Tree) Global). pairs_of (map pair_shape ps.items))) c.in-Some-2.is) ∙ c.in_ok-pairs-in-Map.ensures
+    ∙ ap (λ (ps : Vec (Str × Tree) Global). steps.set_under v c.key-item.result (rest path) (pairs_of (map pair_shape ps.items))) (c.replace-pairs.ensures.value ∙ c.in-Map.pairs-is))
+
+pub set-returns-in-Map : goal.set-returns-in-Map
+set-returns-in-Map t c =
+    let v = c.args.value.now in
+    let path = c.args.path.now in
+    set_in_map v path c.key-item.result (shape c.args.tree) (pairs_of (map pair_shape c.in-Map.pairs.items)) None
+    (ap shape c.in-Map.is ∙ shape-Map c.in-Map.pairs) c.in-len1-up.len_at_least c.key-item.is
+    (sym (ap (option_map (λ (ps : Vec (Str × Tree) Global). pairs_of (map pair_shape ps.items))) c.in-None-2.is) ∙ c.in_ok-pairs-in-Map.ensures
+    ∙ ap (λ (ps : Vec (Str × Tree) Global). steps.set_under v c.key-item.result (rest path) (pairs_of (map pair_shape ps.items))) (c.replace-pairs.ensures.value ∙ c.in-Map.pairs-is))

@@ -7,7 +7,7 @@ use Rattle.yaml_read.specs.Bytes.{begins, tail}
 use Rattle.yaml_read.specs.Keys.{◌>>=◌}
 use Rattle.yaml_read.specs.Flow.{next_key, flow, flow_items, flow_pairs}
 use Rattle.yaml_read.proofs.Fronts.{behind_front, Fails-bind, Fails-same}
-use Rattle.yaml_read.proofs.Shapes.{shape-List, shape-Map}
+use Rattle.doc_tree.proofs.lemmas.Trees.{shape-List, shape-Map}
 use Rattle.yaml_read.proofs.FlowLaws.{items_end, items_fail, items_unparted, items_go, items_turns, pairs_end, keys_fail, values_fail, pairs_unparted, pairs_go, pairs_turns, flow_other, flow_deep, flow_unfit, flow_list, flow_map, flow_scalar, list_rest, map_rest}
 use Rattle.yaml_read.proofs.flow.+flow.Goals as goal
 use Rattle.yaml_read.proofs.flow.+flow.Goals.{flow-then-begins_node, flow-else-begins_node}

@@ -9,7 +9,7 @@ use Rattle.yaml_read.specs.Rows.{is_dash}
 use Rattle.yaml_read.specs.Reading.{value_of, items, pairs, node}
 use Rattle.yaml_read.specs.Seen.{seen, all_seen}
 use Rattle.yaml_read.proofs.Fronts.{behind_front, Refuses-bind, Refuses-same, Refuses-named}
-use Rattle.yaml_read.proofs.Shapes.{shape-Null}
+use Rattle.doc_tree.proofs.lemmas.Trees.{shape-Null}
 use Rattle.yaml_read.proofs.ReaderLaws.{items_end, items_fail, items_go, items_turns, pairs_end, pairs_repeat, pairs_fail, pairs_go, pairs_turns, node_nil, node_deep, node_list, node_map, list_rest, map_rest}
 use Rattle.yaml_read.proofs.reader.+reader.Goals as goal
 
