@@ -123,6 +123,10 @@ establishing first old mid1 mid2 new one two three =
     (λ r s left same. inl (ap state_of same))
     (λ q r s begin left same made. subst (λ (p : Areas). AreasMade first p s) same made)
 
+-- what stayed as it was may have been made
+pub staying : (first : NetData) (old mid new : Stops Areas) → Steps Stays old mid → Steps Stays mid new → Steps (AreasMade first) old new
+staying first old mid new one two = follow Stays Stays (AreasMade first) old mid new one two (λ r s left same. inl (ap state_of same)) (λ q r s begin left a b. inl (ap state_of (b ∙ a)))
+
 pub not_is : (b s : Bool) → not b ≡ true → b ≡ s → s ≡ false
 not_is true s is same = let e : false ≡ true = is in absurd (cc)
 not_is false s is same = sym same

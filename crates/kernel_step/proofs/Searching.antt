@@ -3,16 +3,15 @@ use Rattle.std.proofs.Common.{◌≡◌, ℕ, Bool, true, false, List, get_or, O
 use Rattle.std.specs.Prelude.{Ok, Err, insert}
 use Rattle.std.specs.List.{list_any}
 use Rattle.std.specs.Ordering.{is_eq}
-use Rattle.net_model.specs.Address.{Block}
 use Rattle.net_model.specs.Rule.{RuleParts}
 use Rattle.net_model.specs.Words.{put, rises}
 use Rattle.net_model.specs.Edits.{same_route}
-use Rattle.net_model.specs.Order.{block_cmp, route_cmp, rule_cmp}
-use Rattle.net_model.specs.OrderLaws.{block_cmp_total, rule_cmp_total}
-use Rattle.net_model.specs.Valid.{same_block, same_key, same_rule}
+use Rattle.net_model.specs.Order.{route_cmp, rule_cmp}
+use Rattle.net_model.specs.OrderLaws.{rule_cmp_total}
+use Rattle.net_model.specs.Valid.{same_key, same_rule}
 use Rattle.net_model.specs.declared.route.Route.{Route}
 use Rattle.net_model.proofs.lemmas.Orders.{route_cmp_total}
-use Rattle.net_model.proofs.lemmas.Ties.{blocks_tie, keys_tie, rules_tie}
+use Rattle.net_model.proofs.lemmas.Ties.{keys_tie, rules_tie}
 use Rattle.net_model.proofs.lemmas.Rises.{apart-rises}
 use Rattle.net_model.proofs.lemmas.Places.{any_at, none_at, stands}
 use Rattle.net_model.proofs.lemmas.RouteIndexes.{same_route_key}
@@ -33,9 +32,6 @@ module _ {X : Type 0} (R : X → X → Ordering) (same : X → X → Bool) (tie 
 
   pub missed_puts : (i : ℕ) → Searches R x xs (Err i) → insert xs i x ≡ put R x xs
   missed_puts i s = insert_is_put R x xs i s.0 (λ k d lt. s.1.0 k d (omega (arith, s.0, lt)) lt) (λ k d above lt. s.1.1 k d above lt)
-
-pub address_tie : (a b : Block) → same_block a b ≡ is_eq (block_cmp b a)
-address_tie a b = blocks_tie a b ∙ tied_both block_cmp block_cmp_total a b
 
 pub key_tie : (a b : Route) → same_key a b ≡ is_eq (route_cmp b a)
 key_tie a b = keys_tie a b ∙ tied_both route_cmp route_cmp_total a b

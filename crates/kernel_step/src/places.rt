@@ -2,22 +2,12 @@
 ghost use Rattle.std.specs.Prelude.{◌≡◌, ◌≤◌, true, false, length, insert};
 ghost use Rattle.std.specs.List.{list_any};
 ghost use Rattle.net_model.specs.Words.{rises, put};
-ghost use Rattle.net_model.specs.Order.{block_cmp, route_cmp, rule_cmp};
-ghost use Rattle.net_model.specs.Valid.{same_block, same_key, same_rule};
+ghost use Rattle.net_model.specs.Order.{route_cmp, rule_cmp};
+ghost use Rattle.net_model.specs.Valid.{same_key, same_rule};
 ghost use Rattle.net_model.specs.Edits.{same_route};
 ghost use Rattle.kernel_step.specs.Searches.{Searches};
 
-use net_model::{Prefix, Route, Rule, same_route};
-
-fn search_addresses(addrs: &[Prefix], addr: &Prefix) -> Result<usize, usize>
-    requires { rises block_cmp addrs.now ≡ true }
-    ensures { Searches block_cmp addr.now addrs.now result }
-{
-    match addrs.binary_search(addr) {
-        Ok(i) => Ok(i),
-        Err(i) => Err(i),
-    }
-}
+use net_model::{Route, Rule, same_route};
 
 fn search_routes(routes: &[Route], route: &Route) -> Result<usize, usize>
     requires { rises route_cmp routes.now ≡ true }
@@ -69,18 +59,6 @@ pub(crate) fn has_rule(rules: &[Rule], rule: &Rule) -> bool
     match search_rules(rules, rule) {
         Ok(_) => true,
         Err(_) => false,
-    }
-}
-
-// Where an address belongs that isn't there.
-pub(crate) fn address_gap(addrs: &[Prefix], addr: &Prefix) -> usize
-    requires { rises block_cmp addrs.now ≡ true }
-    ensures inside { result ≤ length addrs.now }
-    ensures puts { list_any (same_block addr.now) addrs.now ≡ false → insert addrs.now result addr.now ≡ put block_cmp addr.now addrs.now }
-{
-    match search_addresses(addrs, addr) {
-        Ok(i) => i,
-        Err(i) => i,
     }
 }
 

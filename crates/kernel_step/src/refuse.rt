@@ -78,23 +78,6 @@ fn link_is_full(links: &[Link], name: &Name) -> bool
     find_link(links, name).is_some_and(|link| link.addrs.items().len() >= MAX_LINK_ADDRESSES)
 }
 
-// Counts down from the limit, so that no sum is made which might not fit.
-fn addresses_full(links: &[Link]) -> bool
-    ensures { result ≡ nat_le MAX_ADDRESSES (address_count links.now) }
-{
-    let mut room = MAX_ADDRESSES;
-    let mut left = links;
-    while let Some((link, rest)) = left.split_first() {
-        let count = link.addrs.items().len();
-        if count >= room {
-            return true;
-        }
-        room -= count;
-        left = rest;
-    }
-    false
-}
-
 fn is_v6_on_down(links: &[Link], name: &Name, addr: &Prefix) -> bool
     requires { rises link_cmp links.now ≡ true }
     ensures { result ≡ (addr.now.addr.v6 && named_passes (λ l. not l.up) links.now name.now) }
@@ -102,11 +85,11 @@ fn is_v6_on_down(links: &[Link], name: &Name, addr: &Prefix) -> bool
     addr.addr().is_v6() && is_down(links, name)
 }
 
-fn has_no_room(links: &[Link], name: &Name) -> bool
-    requires { rises link_cmp links.now ≡ true }
-    ensures { result ≡ (named_passes (λ l. is_full MAX_LINK_ADDRESSES l.addrs) links.now name.now || nat_le MAX_ADDRESSES (address_count links.now)) }
+fn has_no_room(net: &Net, name: &Name) -> bool
+    ensures { result ≡ (named_passes (λ l. is_full MAX_LINK_ADDRESSES l.addrs) net.now.links name.now || nat_le MAX_ADDRESSES (address_count net.now.links)) }
 {
-    link_is_full(links, name) || addresses_full(links)
+    net.laws();
+    link_is_full(net.links(), name) || net.address_count() >= MAX_ADDRESSES
 }
 
 pub(crate) fn add_address(net: &Net, name: &Name, addr: &Prefix) -> Option<u8>
@@ -126,13 +109,13 @@ pub(crate) fn add_address(net: &Net, name: &Name, addr: &Prefix) -> Option<u8>
     if is_v6_on_down(links, name, addr) {
         return Some(LINK_DOWN);
     }
-    if has_no_room(links, name) {
+    if has_no_room(net, name) {
         return Some(LIMIT);
     }
     None
 }
 
-pub(crate) fn same_block(a: &Prefix, b: &Prefix) -> bool
+fn same_block(a: &Prefix, b: &Prefix) -> bool
     ensures { result ≡ same_block a.now b.now }
 {
     a.addr() == b.addr() && a.len() == b.len()

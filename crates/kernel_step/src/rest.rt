@@ -7,7 +7,7 @@ ghost use Rattle.net_model.specs.Valid.{same_rule};
 ghost use Rattle.kernel_model.specs.Rest.{after_add_rule, after_del_rule, after_set_dns};
 
 use crate::places::rule_gap;
-use net_model::{Dns, OutOfMemory, Parts, Rule};
+use net_model::{Dns, OutOfMemory, Parts, Position, Rule, rule_position};
 
 fn insert_rule(parts: &mut Parts, i: usize, rule: Rule) -> Result<(), OutOfMemory>
     requires { i ≤ length parts.old.rules }
@@ -29,22 +29,24 @@ pub(crate) fn add_rule(parts: &mut Parts, rule: &Rule) -> Result<(), OutOfMemory
     insert_rule(parts, i, *rule)
 }
 
-fn same_rule(a: &Rule, b: &Rule) -> bool
-    ensures { result ≡ same_rule a.now b.now }
-{
-    a == b
-}
-
-fn keep_rules(rules: &mut Vec<Rule>, rule: &Rule)
+// Takes a rule out, where it is there. Binary search finds it.
+fn take_rule(rules: &mut Vec<Rule>, rule: &Rule)
+    requires { rises rule_cmp rules.old.items ≡ true }
     ensures { rules.new.items ≡ filter (λ r. not (same_rule rule.now r)) rules.old.items }
 {
-    rules.retain(|own| !same_rule(rule, own));
+    match rule_position(rules, rule) {
+        Position::At(i) => {
+            rules.remove(i);
+        }
+        Position::Gap(_) => {}
+    }
 }
 
 pub(crate) fn del_rule(parts: &mut Parts, rule: &Rule)
+    requires { rises rule_cmp parts.old.rules ≡ true }
     ensures { parts.new ≡ after_del_rule rule.now parts.old }
 {
-    keep_rules(&mut parts.rules, rule);
+    take_rule(&mut parts.rules, rule);
 }
 
 // Replaces both lists. The copy is made first.

@@ -5,7 +5,6 @@ use Rattle.net_model.specs.Lists.{NetData}
 use Rattle.net_model.specs.declared.link.Link.{Link}
 use Rattle.net_model.specs.declared.route.Route.{Route}
 use Rattle.net_model.specs.Edits.{unless_gone, port_freed, freed, without}
-use Rattle.kernel_model.specs.UpDown.{lowered, fallen}
 
 pub map_agree : {X Y : Type 0} (f g : X → Y) → ((x : X) → f x ≡ g x) → (xs : List X) → map f xs ≡ map g xs
 map_agree f g same [] = refl
@@ -30,13 +29,6 @@ module _ (p q : List ℕ → Bool) (same : (n : List ℕ) → p n ≡ q n) where
   pub without_agree : (net : NetData) → without p net ≡ without q net
   without_agree net =
       rw (filter_agree (λ l. not (p l.name)) (λ l. not (q l.name)) (λ l. ap not (same l.name)) net.links, map_agree (freed p) (freed q) freed_agree (filter (λ l. not (q l.name)) net.links), routes_agree net.routes) refl
-
-  lowered_agree : (l : Link) → lowered p l ≡ lowered q l
-  lowered_agree l = rw (same l.name) refl
-
-  -- what is left of those that fall
-  pub fallen_agree : (net : NetData) → fallen p net ≡ fallen q net
-  fallen_agree net = rw (map_agree (lowered p) (lowered q) lowered_agree net.links, routes_agree net.routes) refl
 
 -- ---- where none go
 

@@ -1,4 +1,4 @@
--- What a call writes on a link, no index reads.
+-- What a call writes on a link, no index reads and no count.
 use Rattle.std.proofs.Common.{◌≡◌, refl}
 use Rattle.net_model.specs.declared.Link.{Link}
 use Rattle.net_model.specs.declared.Call.{Call}
@@ -64,3 +64,23 @@ written_controller (DelRoute route) l = refl
 written_controller (AddRule rule) l = refl
 written_controller (DelRule rule) l = refl
 written_controller (SetDns dns) l = refl
+
+pub written_addrs : (call : Call) (l : Link) → (written call l).addrs ≡ l.addrs
+written_addrs (AddLink name kind) l = refl
+written_addrs (DelLink name) l = refl
+written_addrs (Up name) l = refl
+written_addrs (Down name) l = refl
+written_addrs (SetMtu name mtu) l = refl
+written_addrs (SetMac name mac) l = refl
+written_addrs (SetBond name opts) l = refl
+written_addrs (SetBridge name opts) l = refl
+written_addrs (Attach port controller) l = refl
+written_addrs (Detach port) l = refl
+written_addrs (SetPort port opts) l = refl
+written_addrs (AddAddress name addr) l = refl
+written_addrs (DelAddress name addr) l = refl
+written_addrs (AddRoute route) l = refl
+written_addrs (DelRoute route) l = refl
+written_addrs (AddRule rule) l = refl
+written_addrs (DelRule rule) l = refl
+written_addrs (SetDns dns) l = refl

@@ -1,5 +1,5 @@
 -- Lists of names: which are in them, and that each is there once.
-use Rattle.std.proofs.Common.{◌≡◌, ◌==◌, ℕ, suc, ◌≤◌, Bool, true, false, not, ◌||◌, ◌++◌, cond, List, [], ◌∷◌, length, map, Some, None, IsPermutation, IsSorted, refl, sym, ap, ◌∙◌, arith, eqb-true}
+use Rattle.std.proofs.Common.{◌≡◌, ◌==◌, ℕ, suc, ◌≤◌, Bool, true, false, not, ◌&&◌, ◌||◌, ◌++◌, cond, List, [], ◌∷◌, length, map, filter, Some, None, IsPermutation, IsSorted, refl, sym, ap, ◌∙◌, arith, eqb-true}
 use Rattle.std.specs.Prelude.{if◌then◌else◌}
 use Rattle.std.specs.List.{list_any, find, AllByRecursion, IsDistinct}
 use Rattle.std.specs.Cmp.Lexicographic.{texts_ties}
@@ -102,3 +102,33 @@ any_among p (x ∷ xs) n h on =
     or_elim (same_bytes x n) (is_among xs n) (list_any p (x ∷ xs) ≡ true)
     (λ e. or_left (p x) (list_any p xs) (ap p (one_name x n e) ∙ on))
     (λ e. or_right (p x) (list_any p xs) (any_among p xs n e on)) h
+
+-- ---- those that pass a test
+
+and_no : (b : Bool) → (b && false) ≡ false
+and_no true = refl
+and_no false = refl
+
+-- a name is among those that pass where it is among them all and passes
+pub among_filter : (q : List ℕ → Bool) (xs : List (List ℕ)) (n : List ℕ) → is_among (filter q xs) n ≡ (is_among xs n && q n)
+among_filter q [] n = refl
+among_filter q (x ∷ xs) n =
+    elim (same_bytes x n) as (λ v. same_bytes x n ≡ v → is_among (cond (q x) (x ∷ filter q xs) (filter q xs)) n ≡ ((v || is_among xs n) && q n)) [
+      | true ↦ λ e.
+          let same : q x ≡ q n = ap q (one_name x n e) in
+          elim (q x) as (λ w. q x ≡ w → is_among (cond w (x ∷ filter q xs) (filter q xs)) n ≡ q n) [
+            | true ↦ λ k. ap (λ b. b || is_among (filter q xs) n) e ∙ sym k ∙ same
+            | false ↦ λ k. let off : q n ≡ false = sym same ∙ k in among_filter q xs n ∙ ap (λ b. is_among xs n && b) off ∙ and_no (is_among xs n) ∙ sym off
+          ] refl
+      | false ↦ λ e. elim (q x) as (λ w. is_among (cond w (x ∷ filter q xs) (filter q xs)) n ≡ (is_among xs n && q n)) [
+        | true ↦ ap (λ b. b || is_among (filter q xs) n) e ∙ among_filter q xs n
+        | false ↦ among_filter q xs n
+      ]
+    ] refl
+
+-- where each passes, those are all
+pub all_pass : (q : List ℕ → Bool) (xs : List (List ℕ)) → ((n : List ℕ) → is_among xs n ≡ true → q n ≡ true) → filter q xs ≡ xs
+all_pass q [] each = refl
+all_pass q (x ∷ xs) each =
+    ap (λ b. cond b (x ∷ filter q xs) (filter q xs)) (each x (or_left (same_bytes x x) (is_among xs x) (itself x)))
+    ∙ ap (λ (ns : List (List ℕ)). x ∷ ns) (all_pass q xs (λ n h. each n (or_right (same_bytes x n) (is_among xs n) h)))

@@ -7,7 +7,7 @@ use Rattle.net_model.specs.Name.{same_bytes}
 use Rattle.net_model.specs.Words.{is_among}
 use Rattle.net_model.specs.Links.{find_link, is_named, is_bond, is_port_of, ports_of}
 use Rattle.net_model.specs.Options.{primary_ok, takes_primary, is_fast, is_802_3ad, is_layer2, delays_ok}
-use Rattle.net_model.specs.Edits.{has_primary, is_free_but_for}
+use Rattle.net_model.specs.Edits.{has_primary, has_primary_port, is_free_but_for}
 use Rattle.net_model.specs.NetData.{NetData, IsNet}
 use Rattle.net_model.specs.declared.link.Link.{Link}
 use Rattle.net_model.specs.declared.link.Kind.{Kind}
@@ -38,6 +38,45 @@ among : (mode : BondMode) (o : Option (List ℕ)) (ports : List (List ℕ)) (por
 among mode None ports port h e = absurd cc
 among mode (Some n) ports port h e = ap (is_among ports) (sym (one_name n port e)) ∙ and_left (is_among ports n) (takes_primary mode) h
 
+-- a bond's primary is right for its mode and its ports
+bond_primary : (net : NetData) → IsNet net → (l : Link) → find_link l.name net.links ≡ Some l → is_bond l.kind ≡ true → (mode : BondMode) × (primary_ok mode l.bond.primary (ports_of net.links l.name) ≡ true)
+bond_primary net is l found b =
+    let mode = bond_of l.kind b in
+    let fits = ((facts net is).link l.name l found).bond_right mode.0 mode.1 in (
+      mode.0,
+      and_left (primary_ok mode.0 l.bond.primary (ports_of net.links l.name)) (not (is_fast l.bond.lacp_rate) || is_802_3ad mode.0)
+          (and_left (primary_ok mode.0 l.bond.primary (ports_of net.links l.name) && (not (is_fast l.bond.lacp_rate) || is_802_3ad mode.0)) (delays_ok l.bond) fits),
+    )
+
+-- and a link that is no bond has none
+no_primary : (net : NetData) → IsNet net → (l : Link) → find_link l.name net.links ≡ Some l → is_bond l.kind ≡ false → is_none l.bond.primary ≡ true
+no_primary net is l found b =
+    let unused = ((facts net is).link l.name l found).bond_unused b in
+    let u4 = and_left (is_none l.bond.primary && not (is_fast l.bond.lacp_rate) && is_layer2 l.bond.hash_policy && (l.bond.miimon == 0) && (l.bond.updelay == 0)) (l.bond.downdelay == 0) unused in
+    let u3 = and_left (is_none l.bond.primary && not (is_fast l.bond.lacp_rate) && is_layer2 l.bond.hash_policy && (l.bond.miimon == 0)) (l.bond.updelay == 0) u4 in
+    let u2 = and_left (is_none l.bond.primary && not (is_fast l.bond.lacp_rate) && is_layer2 l.bond.hash_policy) (l.bond.miimon == 0) u3 in
+    let u1 = and_left (is_none l.bond.primary && not (is_fast l.bond.lacp_rate)) (is_layer2 l.bond.hash_policy) u2 in
+    and_left (is_none l.bond.primary) (not (is_fast l.bond.lacp_rate)) u1
+
+-- where there is a primary, it is among the ports
+one_of_ports : (mode : BondMode) (o : Option (List ℕ)) (ports : List (List ℕ)) → primary_ok mode o ports ≡ true → option_map_or (is_among ports) o true ≡ true
+one_of_ports mode None ports h = refl
+one_of_ports mode (Some p) ports h = and_left (is_among ports p) (takes_primary mode) h
+
+-- where there is none, nothing is asked of the ports
+none_asked : (o : Option (List ℕ)) (ports : List (List ℕ)) → is_none o ≡ true → option_map_or (is_among ports) o true ≡ true
+none_asked None ports h = refl
+none_asked (Some p) ports h = absurd cc
+
+-- each primary of a network is one of its bond's ports
+pub primaries : (net : NetData) → IsNet net → list_all (has_primary_port net.links) net.links ≡ true
+primaries net is = by_name (has_primary_port net.links) net.links (names_differ-rises net.links is.in_order.links) (λ n l found.
+    let own : find_link l.name net.links ≡ Some l = ap (λ m. find_link m net.links) (found_named net.links n l found) ∙ found in
+    elim (is_bond l.kind) as (λ v. is_bond l.kind ≡ v → has_primary_port net.links l ≡ true) [
+      | true ↦ λ b. let right = bond_primary net is l own b in one_of_ports right.0 l.bond.primary (ports_of net.links l.name) right.1
+      | false ↦ λ b. none_asked l.bond.primary (ports_of net.links l.name) (no_primary net is l own b)
+    ] refl)
+
 module _ (net : NetData) (is : IsNet net) (port controller : List ℕ) (owns : option_map_or (λ l. l.controller) (find_link port net.links) None ≡ Some controller) where
   -- the controller of the port that is found
   owner : (p : Link) → find_link port net.links ≡ Some p → p.controller ≡ Some controller
@@ -50,20 +89,10 @@ module _ (net : NetData) (is : IsNet net) (port controller : List ℕ) (owns : o
   held : (l : Link) → find_link l.name net.links ≡ Some l → has_primary port l ≡ true → is_named controller l ≡ true
   held l found has = elim (is_bond l.kind) as (λ v. is_bond l.kind ≡ v → is_named controller l ≡ true) [
     | true ↦ λ b.
-        let mode = bond_of l.kind b in
-        let fits = ((facts net is).link l.name l found).bond_right mode.0 mode.1 in
-        let ok : primary_ok mode.0 l.bond.primary (ports_of net.links l.name) ≡ true =
-        and_left (primary_ok mode.0 l.bond.primary (ports_of net.links l.name)) (not (is_fast l.bond.lacp_rate) || is_802_3ad mode.0)
-        (and_left (primary_ok mode.0 l.bond.primary (ports_of net.links l.name) && (not (is_fast l.bond.lacp_rate) || is_802_3ad mode.0)) (delays_ok l.bond) fits) in
-        let p = passing_found (is_port_of l.name) net.links port (names_differ-rises net.links is.in_order.links) (sym (among_ports net.links l.name port) ∙ among mode.0 l.bond.primary (ports_of net.links l.name) port ok has) in
+        let right = bond_primary net is l found b in
+        let p = passing_found (is_port_of l.name) net.links port (names_differ-rises net.links is.in_order.links) (sym (among_ports net.links l.name port) ∙ among right.0 l.bond.primary (ports_of net.links l.name) port right.1 has) in
         ap (same_bytes l.name) (sym (same_owner p.0 l.name (owner p.0 p.1) p.2)) ∙ itself l.name
-    | false ↦ λ b.
-        let unused = ((facts net is).link l.name l found).bond_unused b in
-        let u4 = and_left (is_none l.bond.primary && not (is_fast l.bond.lacp_rate) && is_layer2 l.bond.hash_policy && (l.bond.miimon == 0) && (l.bond.updelay == 0)) (l.bond.downdelay == 0) unused in
-        let u3 = and_left (is_none l.bond.primary && not (is_fast l.bond.lacp_rate) && is_layer2 l.bond.hash_policy && (l.bond.miimon == 0)) (l.bond.updelay == 0) u4 in
-        let u2 = and_left (is_none l.bond.primary && not (is_fast l.bond.lacp_rate) && is_layer2 l.bond.hash_policy) (l.bond.miimon == 0) u3 in
-        let u1 = and_left (is_none l.bond.primary && not (is_fast l.bond.lacp_rate)) (is_layer2 l.bond.hash_policy) u2 in
-        absurd (none_there l.bond.primary (and_left (is_none l.bond.primary) (not (is_fast l.bond.lacp_rate)) u1) port has)
+    | false ↦ λ b. absurd (none_there l.bond.primary (no_primary net is l found b) port has)
   ] refl
 
   pub free_but_for : list_all (is_free_but_for port controller) net.links ≡ true

@@ -54,7 +54,7 @@ module _ (g : Link → Link) (named : (l : Link) → (g l).name ≡ l.name) (aga
 -- ---- a link that goes down
 
 abbrev pub down_link : Link → Link
-down_link l = lowered (λ n. true) l
+down_link l = record l { up = false; addrs = v4_alone l.addrs }
 
 pub and_no : (b : Bool) → (b && false) ≡ false
 and_no true = refl
@@ -73,12 +73,12 @@ v4_twice (b ∷ bs) = elim (not b.addr.v6) as (λ v. not b.addr.v6 ≡ v → v4_
 
 -- and goes down once more
 pub down_twice : (l : Link) → down_link (down_link l) ≡ down_link l
-down_twice l = rw (and_no l.up, v4_twice l.addrs) refl
+down_twice l = rw (v4_twice l.addrs) refl
 
 -- those fall on which that is written
 pub lowered_as : (names : List (List ℕ)) (l : Link) → written_on down_link names l ≡ lowered (is_among names) l
 lowered_as names l = elim (is_among names l.name) as (λ v. (if v then down_link l else l) ≡ record l { up = l.up && not v; addrs = if v then v4_alone l.addrs else l.addrs }) [
-  | true ↦ refl
+  | true ↦ rw (and_no l.up) refl
   | false ↦ rw (and_yes l.up) refl
 ]
 

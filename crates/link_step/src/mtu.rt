@@ -7,7 +7,7 @@ ghost use Rattle.net_model.specs.Edits.{edit_link};
 ghost use Rattle.kernel_model.specs.Settings.{with_mtu, after_set_mtu};
 ghost use Rattle.link_step.specs.Clamped.{clamped};
 
-use crate::hanging::hanging;
+use crate::hanging::{Affected, affected_on};
 use net_model::{Link, Name, OutOfMemory, Parts, place_of};
 use std::alloc::Global;
 
@@ -63,7 +63,8 @@ fn clamp_all(parts: &mut Parts, name: &Name, mtu: u32, over: &[Name])
     clamp_each(&mut parts.links, name, mtu, over);
 }
 
-// Sets the MTU of the link, and lowers those of the VLANs over it. The memory for their names is taken first.
+// Sets the MTU of the link, and lowers those of the VLANs over it. Only those that are above it are gone over, and the
+// link itself, which gets it in any case. The memory for their names is taken first.
 pub(crate) fn set_mtu(
     alloc: Global,
     parts: &mut Parts,
@@ -74,7 +75,8 @@ pub(crate) fn set_mtu(
     ensures ok { OnOk result (parts.new ≡ after_set_mtu name.now mtu parts.old) }
     ensures err { OnErr result (parts.new ≡ parts.old) }
 {
-    let over = hanging(alloc, parts, name)?;
+    let mut over = affected_on(alloc, parts, name, Affected::Above(mtu))?;
+    over.push(*name)?;
     clamp_all(parts, name, mtu, &over);
     Ok(())
 }

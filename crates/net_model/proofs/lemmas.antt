@@ -26,6 +26,7 @@ pub mod SameLists
 pub mod InOrder
 pub mod Differing
 pub mod Vlans
+pub mod VlanKeys
 pub mod Arranged
 pub mod Drawn
 pub mod Cycles
@@ -33,5 +34,8 @@ pub mod Listing
 pub mod ListChanges
 pub mod Editing
 pub mod LinkIndexes
+pub mod Counting
 pub mod RouteIndexes
+pub mod NoRoutes
 pub mod Detaching
+pub mod Going

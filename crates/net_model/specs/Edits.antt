@@ -1,10 +1,13 @@
 -- What edits make of the lists of a network.
-use Rattle.std.specs.Prelude.{ℕ, Bool, false, not, ◌&&◌, ◌||◌, List, map, filter, Option, Some, None, if◌then◌else◌}
+use Rattle.std.specs.Prelude.{ℕ, Bool, true, false, not, ◌&&◌, ◌||◌, List, map, filter, Option, Some, None, is_some, if◌then◌else◌}
 use Rattle.std.specs.Option.{option_map_or, option_eq}
 use Rattle.net_model.specs.Name.{same_bytes}
-use Rattle.net_model.specs.Links.{is_named, named_passes}
+use Rattle.net_model.specs.Address.{Block}
+use Rattle.net_model.specs.Words.{put, is_among, is_empty}
+use Rattle.net_model.specs.Order.{block_cmp}
+use Rattle.net_model.specs.Links.{is_named, named_passes, ports_of}
 use Rattle.net_model.specs.Options.{default_port}
-use Rattle.net_model.specs.Valid.{same_address, same_key, route_on_link}
+use Rattle.net_model.specs.Valid.{same_address, same_block, same_key, route_on_link}
 use Rattle.net_model.specs.Lists.{NetData}
 use Rattle.net_model.specs.declared.link.Link.{Link}
 use Rattle.net_model.specs.declared.options.BondOpts.{BondOpts}
@@ -47,6 +50,14 @@ has_primary port l = option_map_or (λ n. same_bytes n port) l.bond.primary fals
 abbrev pub is_free_but_for : List ℕ → List ℕ → Link → Bool
 is_free_but_for port controller l = is_named port l || is_named controller l || not (has_primary port l)
 
+-- the link has no primary, or one of its own ports
+abbrev pub has_primary_port : List Link → Link → Bool
+has_primary_port links l = option_map_or (is_among (ports_of links l.name)) l.bond.primary true
+
+-- the named link has ports or a controller: where it has neither, it is no link's controller and no bond's primary
+abbrev pub may_be_named : List Link → List ℕ → Bool
+may_be_named links name = not (is_empty (ports_of links name)) || named_passes (λ l. is_some l.controller) links name
+
 -- a port whose controller goes gets default options
 abbrev pub port_freed : (List ℕ → Bool) → Link → PortOpts
 port_freed goes l = if option_map_or goes l.controller false then default_port else l.port
@@ -66,3 +77,15 @@ same_route a b = same_key a b && option_eq same_address a.gateway b.gateway && s
 -- the route is of another device, or its gateway is on-link at the named one of these links
 abbrev pub stays_on_link : List ℕ → List Link → Route → Bool
 stays_on_link name links r = not (same_bytes r.dev name) || named_passes (λ l. route_on_link l r) links name
+
+-- the link with one address more, which is put into its place
+abbrev pub address_put : Block → Link → Link
+address_put block l = record l { addrs = put block_cmp block l.addrs }
+
+-- the link without the address with that length
+abbrev pub address_removed : Block → Link → Link
+address_removed block l = record l { addrs = filter (λ b. not (same_block block b)) l.addrs }
+
+-- the link down, without its IPv6 addresses
+abbrev pub taken_down : Link → Link
+taken_down l = record l { up = false; addrs = filter (λ b. not b.addr.v6) l.addrs }

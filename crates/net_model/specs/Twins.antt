@@ -1,5 +1,5 @@
 -- The keys of VLANs.
-use Rattle.std.specs.Prelude.{◌≡◌, ℕ, Bool, true, false, List, Option, Some, None}
+use Rattle.std.specs.Prelude.{◌≡◌, ℕ, Bool, true, false, not, ◌&&◌, List, Option, Some, None}
 use Rattle.std.specs.List.{list_any}
 use Rattle.std.specs.Option.{option_map_or}
 use Rattle.std.specs.Ordering.{is_eq, nat_cmp, bool_cmp, ordering_then}
@@ -33,3 +33,7 @@ has_key key kind = option_map_or (λ k. is_eq (vlan_cmp k key)) (vlan_key kind) 
 -- the set has the keys of the VLANs among the links
 abbrev pub HasVlans : BTreeSet (List ℕ × ℕ × Bool) → List Link → Type 0
 HasVlans seen links = (key : List ℕ × ℕ × Bool) → contains vlan_cmp seen key ≡ list_any (λ l. has_key key l.kind) links
+
+-- the set has lost the keys that pass, and no other
+abbrev pub Loses : (List ℕ × ℕ × Bool → Bool) → BTreeSet (List ℕ × ℕ × Bool) → BTreeSet (List ℕ × ℕ × Bool) → Type 0
+Loses test old new = (key : List ℕ × ℕ × Bool) → contains vlan_cmp new key ≡ (contains vlan_cmp old key && not (test key))

@@ -1,31 +1,38 @@
 //! The indexes of a network: what edits add to them and take out.
-ghost use Rattle.std.specs.Prelude.{◌≡◌, ℕ, List, [], true, false, filter, not, IfOk, OnOk, OnErr};
+ghost use Rattle.std.specs.Prelude.{◌≡◌, ◌&&◌, ◌++◌, ◌∷◌, ℕ, List, [], true, false, filter, not, IfOk, OnOk, OnErr};
 ghost use Rattle.std.specs.List.{list_any};
+ghost use Rattle.std.specs.Option.{option_map_or};
 ghost use Rattle.std.specs.Ordering.{is_eq};
 ghost use Rattle.net_model.specs.Name.{same_bytes};
 ghost use Rattle.net_model.specs.Words.{rises, is_among};
 ghost use Rattle.net_model.specs.Order.{name_cmp, link_cmp};
-ghost use Rattle.net_model.specs.Links.{is_port_of, ports_of};
+ghost use Rattle.net_model.specs.Links.{find_link, is_port_of, ports_of};
 ghost use Rattle.net_model.specs.Dependence.{has_base};
 ghost use Rattle.net_model.specs.KeyOrder.{key_cmp, is_other};
 ghost use Rattle.net_model.specs.Listed.{ChangesAt, Same, Puts, LeavesOut, listed};
 ghost use Rattle.net_model.specs.Indexed.{AreIndexes, over, key_of};
+ghost use Rattle.net_model.specs.Twins.{has_key, HasVlans, Loses};
+ghost use Rattle.net_model.specs.declared.link.Link.{Link};
 
 use crate::build::{over_index, ports_index, routes_index};
+use crate::id::VlanId;
 use crate::index::Index;
 use crate::link::{Kind, Link};
 use crate::name::Name;
 use crate::position::{Position, link_position};
 use crate::route::Route;
 use crate::route_key::RouteKey;
+use crate::twins::{is_first_vlan, leave_out_seen, vlan_keys};
 use base_model::OutOfMemory;
 use std::alloc::Global;
+use std::collections::BTreeSet;
 
-/// The VLANs over each base, the ports of each controller and the routes of each device.
+/// The VLANs over each base, the ports of each controller and the routes of each device, and the keys of the VLANs.
 pub struct Indexes {
     pub over: Index<Name>,
     pub ports: Index<Name>,
     pub routes: Index<RouteKey>,
+    pub vlans: BTreeSet<(Name, VlanId, bool)>,
 }
 
 // By hand, so that a proof sees one call where one is dropped, and not a step for each part.
@@ -35,6 +42,7 @@ impl Drop for Indexes {
             over: _,
             ports: _,
             routes: _,
+            vlans: _,
         } = self;
     }
 }
@@ -48,6 +56,7 @@ impl Indexes {
             over: Index::new(alloc),
             ports: Index::new(alloc),
             routes: Index::new(alloc),
+            vlans: BTreeSet::new(alloc),
         }
     }
 
@@ -59,6 +68,7 @@ impl Indexes {
             over: over_index(alloc, links)?,
             ports: ports_index(alloc, links)?,
             routes: routes_index(alloc, routes)?,
+            vlans: vlan_keys(alloc, links)?,
         })
     }
 }
@@ -74,7 +84,7 @@ pub(crate) fn put_name(index: &mut Index<Name>, of: &Name, name: &Name) -> Resul
 }
 
 // Puts a link's name into its base's list.
-pub(crate) fn put_vlan(index: &mut Index<Name>, link: &Link) -> Result<(), OutOfMemory>
+fn put_vlan(index: &mut Index<Name>, link: &Link) -> Result<(), OutOfMemory>
     requires in_order { (k : List ℕ) → rises name_cmp (listed index.old k) ≡ true }
     requires new { (k : List ℕ) → list_any (λ n. is_eq (name_cmp n link.now.name)) (listed index.old k) ≡ false }
     ensures ok { OnOk result (Puts name_cmp link.now.name (has_base link.now.kind) (listed index.old) (listed index.new)) }
@@ -83,6 +93,39 @@ pub(crate) fn put_vlan(index: &mut Index<Name>, link: &Link) -> Result<(), OutOf
     match &link.kind {
         Kind::Vlan { base, .. } => put_name(index, base, &link.name),
         _ => Ok(()),
+    }
+}
+
+// Takes a link's key out of the set again, if it is a VLAN whose key was new there.
+fn take_back(seen: &mut BTreeSet<(Name, VlanId, bool)>, link: &Link, first: bool)
+    ensures { Loses (λ key. first && has_key key link.now.kind) seen.old seen.new }
+{
+    if first {
+        leave_out_seen(seen, link);
+    }
+}
+
+// Puts a link's key into the set and its name into its base's list, if it is a VLAN. After out of memory both are as they
+// were.
+pub(crate) fn add_vlan(
+    index: &mut Index<Name>,
+    seen: &mut BTreeSet<(Name, VlanId, bool)>,
+    link: &Link,
+) -> Result<(), OutOfMemory>
+    requires in_order { (k : List ℕ) → rises name_cmp (listed index.old k) ≡ true }
+    requires new { (k : List ℕ) → list_any (λ n. is_eq (name_cmp n link.now.name)) (listed index.old k) ≡ false }
+    ensures ok { OnOk result (Puts name_cmp link.now.name (has_base link.now.kind) (listed index.old) (listed index.new)) }
+    ensures err { OnErr result (Same (listed index.old) (listed index.new)) }
+    ensures seen { OnOk result ((links : List Link) → HasVlans seen.old links → HasVlans seen.new (links ++ link.now ∷ [])) }
+    ensures unseen { OnErr result ((links : List Link) → HasVlans seen.old links → HasVlans seen.new links) }
+{
+    let first = is_first_vlan(seen, link)?;
+    match put_vlan(index, link) {
+        Ok(()) => Ok(()),
+        Err(OutOfMemory) => {
+            take_back(seen, link, first);
+            Err(OutOfMemory)
+        }
     }
 }
 
@@ -137,6 +180,31 @@ pub(crate) fn leave_out_vlans(index: &mut Index<Name>, links: &[Link], goes: &[N
 {
     for at in 0..goes.len() {
         leave_out_vlan(index, links, &goes[at]);
+    }
+}
+
+// Takes the key of the named link out of the set, if it is a VLAN.
+fn leave_out_key_at(seen: &mut BTreeSet<(Name, VlanId, bool)>, links: &[Link], name: &Name)
+    requires { rises link_cmp links.now ≡ true }
+    ensures { Loses (λ key. option_map_or (λ l. has_key key l.kind) (find_link name.now links.now) false) seen.old seen.new }
+{
+    match link_position(links, name) {
+        Position::At(i) => leave_out_seen(seen, &links[i]),
+        Position::Gap(_) => {}
+    }
+}
+
+// Takes the keys of the VLANs of these names out of the set.
+pub(crate) fn leave_out_keys(
+    seen: &mut BTreeSet<(Name, VlanId, bool)>,
+    links: &[Link],
+    goes: &[Name],
+)
+    requires { rises link_cmp links.now ≡ true }
+    ensures { Loses (λ key. list_any (λ l. is_among goes.now l.name && has_key key l.kind) links.now) seen.old seen.new }
+{
+    for at in 0..goes.len() {
+        leave_out_key_at(seen, links, &goes[at]);
     }
 }
 

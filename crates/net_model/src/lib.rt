@@ -3,6 +3,8 @@
 
 // Addresses, prefixes and subnets.
 mod address;
+// Edits of the addresses of links, and how many these have.
+mod address_edits;
 // Indexes of lists as they stand.
 mod build;
 // The calls of the kernel.
@@ -85,7 +87,7 @@ pub use link::{Kind, Link};
 pub use link_edits::is_among;
 pub use lookup::{
     can_be_base, find_link, has_base, has_peer, is_bond, is_bond_or_bridge, is_bridge, is_ethernet,
-    is_port_of, is_twin, peer_of, ports_of, takes,
+    is_port_of, peer_of, ports_of, takes,
 };
 pub use mac::Mac;
 pub use name::Name;
@@ -102,6 +104,6 @@ pub use rule::{Rule, Target};
 pub use twins::is_first_vlan;
 pub use valid_dependence::no_cycle;
 pub use valid_limits::{is_default_bond, is_default_bridge, is_default_port};
-pub use valid_links::{base_stands, has_twin, mtu_in_range};
+pub use valid_links::{base_stands, mtu_in_range};
 pub use valid_options::{bond_ok, bridge_in_range, port_in_range};
 pub use valid_routes::{is_on_link, route_on_link};

@@ -1,12 +1,13 @@
 //! Edits of links alone, as `parts` makes them beside those of the indexes.
-ghost use Rattle.std.specs.Prelude.{◌≡◌, ◌≤◌, ◌<◌, ◌+◌, true, not, None, map, filter, length, insert, vec_len, vec_capacity};
+ghost use Rattle.std.specs.Prelude.{◌≡◌, ◌≤◌, ◌<◌, ◌+◌, true, not, None, is_some, map, filter, length, insert, vec_len, vec_capacity};
 ghost use Rattle.std.specs.List.{list_all};
 ghost use Rattle.net_model.specs.Words.{rises, put, is_among};
 ghost use Rattle.net_model.specs.Order.{name_cmp, link_cmp};
-ghost use Rattle.net_model.specs.Links.{find_link};
+ghost use Rattle.net_model.specs.Links.{find_link, is_named, named_passes};
 ghost use Rattle.net_model.specs.Edits.{edit_link, attached, detached, is_free_but_for, unless_gone, port_freed, freed};
 
 use crate::link::Link;
+use crate::lookup::find_link;
 use crate::name::Name;
 use crate::options::PortOpts;
 use crate::position::{Position, link_position};
@@ -184,18 +185,44 @@ fn free_each(links: &mut [Link], goes: &[Name])
     }
 }
 
-fn keep_links(links: &mut Vec<Link>, goes: &[Name])
+// Leaves the links without naming what goes.
+pub(crate) fn free_links(links: &mut Vec<Link>, goes: &[Name])
     requires { rises name_cmp goes.now ≡ true }
-    ensures { links.new.items ≡ filter (λ l. not (is_among goes.now l.name)) links.old.items }
+    ensures { links.new.items ≡ map (freed (is_among goes.now)) links.old.items }
 {
-    links.retain(|link| !is_among(goes, &link.name));
+    free_each(links, goes);
 }
 
-// Leaves the links that don't go, and these without naming what goes.
-pub(crate) fn remove_links(links: &mut Vec<Link>, goes: &[Name])
-    requires { rises name_cmp goes.now ≡ true }
-    ensures { links.new.items ≡ map (freed (is_among goes.now)) (filter (λ l. not (is_among goes.now l.name)) links.old.items) }
+// Whether the named link has a controller.
+#[tactic(auto, using(crate::proofs::lemmas::Found::named_passes_found))]
+pub(crate) fn is_port(links: &[Link], name: &Name) -> bool
+    requires { rises link_cmp links.now ≡ true }
+    ensures { result ≡ named_passes (λ l. is_some l.controller) links.now name.now }
 {
-    keep_links(links, goes);
-    free_each(links, goes);
+    find_link(links, name).is_some_and(|link| link.controller.is_some())
+}
+
+// Takes the named link out, where binary search finds it, and moves those after it up.
+fn leave_out(links: &mut Vec<Link>, name: &Name)
+    requires { rises link_cmp links.old.items ≡ true }
+    ensures { links.new.items ≡ filter (λ l. not (is_named name.now l)) links.old.items }
+{
+    match link_position(links, name) {
+        Position::At(i) => {
+            links.remove(i);
+        }
+        Position::Gap(_) => {}
+    }
+}
+
+// Leaves the links that don't go. One that goes alone is found by binary search.
+pub(crate) fn keep_links(links: &mut Vec<Link>, goes: &[Name])
+    requires in_order { rises link_cmp links.old.items ≡ true }
+    requires names { rises name_cmp goes.now ≡ true }
+    ensures { links.new.items ≡ filter (λ l. not (is_among goes.now l.name)) links.old.items }
+{
+    match goes {
+        [name] => leave_out(links, name),
+        _ => links.retain(|link| !is_among(goes, &link.name)),
+    }
 }

@@ -1,9 +1,10 @@
 //! A network.
 ghost use Rattle.std.specs.Prelude.{◌≡◌, ◌↔◌, true, [], Some, None, if◌then◌else◌, is_some, IfOk, IsTrue, option_copied};
+ghost use Rattle.std.specs.List.{list_any};
 ghost use Rattle.net_model.specs.Address.{Address, Block};
 ghost use Rattle.net_model.specs.Facts.{Facts};
 ghost use Rattle.net_model.specs.Hardware.{hardware};
-ghost use Rattle.net_model.specs.Links.{find_link, ports_of};
+ghost use Rattle.net_model.specs.Links.{find_link, is_twin, ports_of};
 ghost use Rattle.net_model.specs.Indexed.{over, routes_of};
 ghost use Rattle.net_model.specs.KeyOrder.{key_cmp};
 ghost use Rattle.net_model.specs.Words.{rises};
@@ -12,11 +13,11 @@ ghost use Rattle.net_model.specs.Order.{name_cmp, route_cmp, rule_cmp};
 ghost use Rattle.net_model.specs.Positions.{LinkPosition, Located};
 ghost use Rattle.net_model.specs.Rule.{RuleParts};
 ghost use Rattle.net_model.specs.SameLists.{SameLinks, SameAddresses, SameRoutes, SameRules};
-ghost use Rattle.net_model.specs.Valid.{least_broken, same_address, same_block, same_key, same_rule};
+ghost use Rattle.net_model.specs.Valid.{address_count, least_broken, same_address, same_block, same_key, same_rule};
 
 use crate::dns::Dns;
 use crate::hardware::same_devices;
-use crate::link::Link;
+use crate::link::{Kind, Link};
 use crate::lookup::find_link;
 use crate::name::Name;
 use crate::parts::Parts;
@@ -205,6 +206,20 @@ impl Net {
         ensures in_order { rises key_cmp result.now ≡ true }
     {
         self.parts.routes_of(dev)
+    }
+
+    /// Whether a link is a VLAN over the same base with the same protocol and number, by one look-up. It takes no memory.
+    pub fn has_twin(&self, kind: &Kind) -> bool
+        ensures { result ≡ list_any (λ l. is_twin kind.now l.kind) self.now.links }
+    {
+        self.parts.has_twin(kind)
+    }
+
+    /// How many addresses the links have together. It takes no memory.
+    pub fn address_count(&self) -> usize
+        ensures { result ≡ address_count self.now.links }
+    {
+        self.parts.address_count()
     }
 
     /// The settings of DNS, as they were given.

@@ -2,25 +2,29 @@
 ghost use Rattle.std.specs.Prelude.{◌≡◌, true, false, None, [], filter, map, not, is_some, IfOk, OnOk, OnErr};
 ghost use Rattle.std.specs.List.{list_any, list_all};
 ghost use Rattle.net_model.specs.Name.{same_bytes};
-ghost use Rattle.net_model.specs.Words.{rises, put, is_among};
-ghost use Rattle.net_model.specs.Order.{name_cmp, link_cmp, route_cmp, rule_cmp};
-ghost use Rattle.net_model.specs.Links.{find_link, named_passes, ports_of};
+ghost use Rattle.net_model.specs.Words.{rises, put, is_among, is_empty};
+ghost use Rattle.net_model.specs.Order.{block_cmp, name_cmp, link_cmp, route_cmp, rule_cmp};
+ghost use Rattle.net_model.specs.Links.{find_link, named_passes, is_twin, ports_of};
 ghost use Rattle.net_model.specs.Lists.{net_of, no_dns};
-ghost use Rattle.net_model.specs.Valid.{same_key, same_rule};
+ghost use Rattle.net_model.specs.Valid.{address_count, vlans_differ, same_block, same_key, same_rule};
 ghost use Rattle.net_model.specs.declared.link.Kind.TheVariants.{Veth};
-ghost use Rattle.net_model.specs.Edits.{edit_link, attached, detached, is_free_but_for, without, same_route, stays_on_link};
+ghost use Rattle.net_model.specs.Edits.{edit_link, attached, detached, is_free_but_for, has_primary_port, may_be_named, freed, without, same_route, stays_on_link, address_put, address_removed, taken_down};
 ghost use Rattle.net_model.specs.Indexed.{over, routes_of};
 ghost use Rattle.net_model.specs.KeyOrder.{key_cmp};
 ghost use Rattle.net_model.specs.NetData.{is_in_order};
 ghost use Rattle.net_model.specs.Positions.{LinkPosition, Located};
 
+use crate::address::Prefix;
+use crate::address_edits::{count_all, count_without, counted, lower, put_address, remove_address};
 use crate::dns::Dns;
 use crate::indexes::{
-    Indexes, leave_out_key, leave_out_port, leave_out_ports, leave_out_vlans, put_key, put_name,
-    put_vlan,
+    Indexes, add_vlan, leave_out_key, leave_out_keys, leave_out_port, leave_out_ports,
+    leave_out_vlans, put_key, put_name,
 };
-use crate::link::Link;
-use crate::link_edits::{attach_named, detach_from, detach_named, insert_link, remove_links};
+use crate::link::{Kind, Link};
+use crate::link_edits::{
+    attach_named, detach_from, detach_named, free_links, insert_link, is_port, keep_links,
+};
 use crate::name::Name;
 use crate::order::{each_in_order, links_in_order, routes_in_order, rules_in_order};
 use crate::position::{Position, link_position, route_position, rule_position};
@@ -28,18 +32,20 @@ use crate::route::Route;
 use crate::route_edits::{insert_route, keep_on_link, position_of, remove_routes};
 use crate::route_key::RouteKey;
 use crate::rule::Rule;
+use crate::twins::has_vlan;
 use base_model::{Items, OutOfMemory};
 use std::alloc::{AllocError, Global};
 use std::marker::Model;
 
-/// The lists of a network, of which nothing is known but that the indexes list what stands in them: a network that is taken
-/// apart to be changed. Contracts see the lists alone.
+/// The lists of a network, of which nothing is known but that the indexes list what stands in them, and that the addresses are
+/// counted: a network that is taken apart to be changed. Contracts see the lists alone.
 pub struct Parts {
     pub links: Vec<Link>,
     pub routes: Vec<Route>,
     pub rules: Vec<Rule>,
     pub dns: Dns,
     indexes: Indexes,
+    addresses: usize,
 }
 
 // By hand, so that a proof sees one call where one is dropped, and not a step for each part.
@@ -51,19 +57,20 @@ impl Drop for Parts {
             rules: _,
             dns: _,
             indexes: _,
+            addresses: _,
         } = self;
     }
 }
 
 impl Model for Parts {
     ghost use Rattle.net_model.specs.Lists.{NetData};
-    ghost use Rattle.net_model.specs.Indexed.{AreIndexes};
+    ghost use Rattle.net_model.specs.Indexed.{IsIndexed};
 
     ghost Value = { NetData };
 
     ghost view = { λ n. record { links = n.links.items; routes = n.routes.items; rules = n.rules.items; dns = n.dns } };
 
-    ghost invariant = { λ n. AreIndexes n.links.items n.routes.items n.indexes };
+    ghost invariant = { λ n. IsIndexed n.links.items n.routes.items n.indexes n.addresses };
 }
 
 impl Parts {
@@ -78,12 +85,14 @@ impl Parts {
         ensures { IfOk result (λ parts. parts ≡ net_of links.items routes.items rules.items dns) }
     {
         let indexes = Indexes::of(alloc, &links, &routes)?;
+        let addresses = count_all(&links)?;
         Ok(Parts {
             links,
             routes,
             rules,
             dns,
             indexes,
+            addresses,
         })
     }
 
@@ -100,6 +109,7 @@ impl Parts {
                 search: Items::of(Vec::new(alloc)),
             },
             indexes: Indexes::new(alloc),
+            addresses: 0,
         }
     }
 
@@ -175,6 +185,20 @@ impl Parts {
         self.indexes.routes.at(dev)
     }
 
+    /// Whether a link is a VLAN over the same base with the same protocol and number, by one look-up. It takes no memory.
+    pub fn has_twin(&self, kind: &Kind) -> bool
+        ensures { result ≡ list_any (λ l. is_twin kind.now l.kind) self.now.links }
+    {
+        has_vlan(&self.indexes.vlans, kind)
+    }
+
+    /// How many addresses the links have together. It takes no memory.
+    pub fn address_count(&self) -> usize
+        ensures { result ≡ address_count self.now.links }
+    {
+        self.addresses
+    }
+
     /// Puts a link into its place whose name none has and that has no controller. What has to grow grows before the first
     /// change.
     pub fn put_link(&mut self, link: Link) -> Result<(), OutOfMemory>
@@ -184,9 +208,11 @@ impl Parts {
         ensures ok { OnOk result (self.new ≡ record self.old { links = put link_cmp link self.old.links }) }
         ensures err { OnErr result (self.new ≡ self.old) }
     {
+        let addresses = counted(self.addresses, &link)?;
         self.links.reserve(1)?;
-        put_vlan(&mut self.indexes.over, &link)?;
+        add_vlan(&mut self.indexes.over, &mut self.indexes.vlans, &link)?;
         insert_link(&mut self.links, link);
+        self.addresses = addresses;
         Ok(())
     }
 
@@ -204,9 +230,12 @@ impl Parts {
         ensures ok { OnOk result (self.new ≡ record self.old { links = put link_cmp second (put link_cmp first self.old.links) }) }
         ensures err { OnErr result (self.new ≡ self.old) }
     {
+        let with_first = counted(self.addresses, &first)?;
+        let with_both = counted(with_first, &second)?;
         self.links.reserve(2)?;
         insert_link(&mut self.links, first);
         insert_link(&mut self.links, second);
+        self.addresses = with_both;
         Ok(())
     }
 
@@ -243,18 +272,100 @@ impl Parts {
         detach_from(&mut self.links, port, controller);
     }
 
+    // Whether a link may have this one as its controller, or as its primary: it has ports, or a controller, as a primary has.
+    fn may_be_named(&self, name: &Name) -> bool
+        requires { rises link_cmp self.now.links ≡ true }
+        ensures { result ≡ may_be_named self.now.links name.now }
+    {
+        !self.ports_of(name).is_empty() || is_port(&self.links, name)
+    }
+
+    // Whether a link may have one of these as its controller or its primary.
+    fn may_name(&self, names: &[Name]) -> bool
+        requires { rises link_cmp self.now.links ≡ true }
+        ensures { result ≡ list_any (may_be_named self.now.links) names.now }
+    {
+        names.iter().any(|name| self.may_be_named(name))
+    }
+
+    // What has one of these, which are sorted, as its controller has none then, and what has one as its primary neither. The
+    // links are gone over only where one of these has ports or a controller.
+    fn free_links(&mut self, goes: &[Name])
+        requires in_order { rises link_cmp self.old.links ≡ true }
+        requires names { rises name_cmp goes.now ≡ true }
+        requires primaries { list_all (has_primary_port self.old.links) self.old.links ≡ true }
+        ensures { self.new ≡ record self.old { links = map (freed (is_among goes.now)) self.old.links } }
+    {
+        if self.may_name(goes) {
+            self.indexes.ports.clear_all(goes);
+            free_links(&mut self.links, goes);
+        }
+    }
+
+    // Takes out the links of these names, which are sorted, and leaves the others as they are.
+    fn keep_links(&mut self, goes: &[Name])
+        requires in_order { rises link_cmp self.old.links ≡ true }
+        requires names { rises name_cmp goes.now ≡ true }
+        requires twins { vlans_differ self.old.links ≡ true }
+        ensures { self.new ≡ record self.old { links = filter (λ l. not (is_among goes.now l.name)) self.old.links } }
+    {
+        let addresses = count_without(&self.links, self.addresses, goes);
+        leave_out_vlans(&mut self.indexes.over, &self.links, goes);
+        leave_out_ports(&mut self.indexes.ports, &self.links, goes);
+        leave_out_keys(&mut self.indexes.vlans, &self.links, goes);
+        keep_links(&mut self.links, goes);
+        self.addresses = addresses;
+    }
+
     /// Takes out the links of these names, which are sorted, and the routes over them. What had one as its controller has none
-    /// then, and what had one as its primary neither. It takes no memory.
+    /// then, and what had one as its primary neither. No two of the links before are twins, and a primary is one of its bond's
+    /// ports. Where one goes alone that is no port and has none, those after it move up, and no other link is looked at. It
+    /// takes no memory.
     pub fn remove_links(&mut self, goes: &[Name])
         requires in_order { rises link_cmp self.old.links ≡ true }
         requires names { rises name_cmp goes.now ≡ true }
+        requires twins { vlans_differ self.old.links ≡ true }
+        requires primaries { list_all (has_primary_port self.old.links) self.old.links ≡ true }
         ensures { self.new ≡ without (is_among goes.now) self.old }
     {
-        leave_out_vlans(&mut self.indexes.over, &self.links, goes);
-        leave_out_ports(&mut self.indexes.ports, &self.links, goes);
-        self.indexes.ports.clear_all(goes);
-        remove_links(&mut self.links, goes);
+        self.free_links(goes);
+        self.keep_links(goes);
         self.remove_routes_of(goes);
+    }
+
+    /// Puts an address into its place that the named link doesn't have. What has to grow grows before the first change.
+    pub fn put_address(&mut self, name: &Name, addr: &Prefix) -> Result<(), OutOfMemory>
+        requires names { rises link_cmp self.old.links ≡ true }
+        requires in_order { list_all (λ l. rises block_cmp l.addrs) self.old.links ≡ true }
+        requires new { named_passes (λ l. list_any (same_block addr.now) l.addrs) self.old.links name.now ≡ false }
+        ensures ok { OnOk result (self.new ≡ record self.old { links = edit_link name.now (address_put addr.now) self.old.links }) }
+        ensures err { OnErr result (self.new ≡ self.old) }
+    {
+        if self.addresses == usize::MAX {
+            return Err(OutOfMemory);
+        }
+        let more = put_address(&mut self.links, name, addr)?;
+        self.addresses += more;
+        Ok(())
+    }
+
+    /// Takes an address with its length from the named link, where it has it. It takes no memory.
+    pub fn remove_address(&mut self, name: &Name, addr: &Prefix)
+        requires { rises link_cmp self.old.links ≡ true }
+        ensures edit { self.new ≡ record self.old { links = edit_link name.now (address_removed addr.now) self.old.links } }
+        ensures rise { rises link_cmp self.new.links ≡ true }
+    {
+        let gone = remove_address(&mut self.links, name, addr);
+        self.addresses -= gone;
+    }
+
+    /// Takes the named link down, and its IPv6 addresses away. It takes no memory.
+    pub fn lower(&mut self, name: &Name)
+        requires { rises link_cmp self.old.links ≡ true }
+        ensures { self.new ≡ record self.old { links = edit_link name.now taken_down self.old.links } }
+    {
+        let lost = lower(&mut self.links, name);
+        self.addresses -= lost;
     }
 
     /// Puts a route into its place whose key none has. What has to grow grows before the first change.
@@ -281,13 +392,23 @@ impl Parts {
         }
     }
 
-    /// Takes out the routes of the devices of these names, which are sorted. It takes no memory.
+    // Whether one of these devices has a route.
+    fn have_routes(&self, devs: &[Name]) -> bool
+        ensures { result ≡ list_any (λ n. not (is_empty (routes_of self.now.routes n))) devs.now }
+    {
+        devs.iter().any(|dev| !self.routes_of(dev).is_empty())
+    }
+
+    /// Takes out the routes of the devices of these names, which are sorted. The routes are gone over only where the index
+    /// has one of them. It takes no memory.
     pub fn remove_routes_of(&mut self, devs: &[Name])
         requires { rises name_cmp devs.now ≡ true }
         ensures { self.new ≡ record self.old { routes = filter (λ r. not (is_among devs.now r.dev)) self.old.routes } }
     {
-        self.indexes.routes.clear_all(devs);
-        remove_routes(&mut self.routes, devs);
+        if self.have_routes(devs) {
+            self.indexes.routes.clear_all(devs);
+            remove_routes(&mut self.routes, devs);
+        }
     }
 
     /// Takes out the routes of a device whose gateway isn't on-link there. It takes no memory.

@@ -3,7 +3,7 @@ ghost use Rattle.std.specs.Prelude.{◌≡◌, true};
 ghost use Rattle.net_model.specs.Words.{rises};
 ghost use Rattle.net_model.specs.Order.{address_cmp, block_cmp, link_cmp, route_cmp, rule_cmp};
 ghost use Rattle.net_model.specs.Positions.{LinkPosition, Located, Places};
-ghost use Rattle.net_model.specs.Valid.{addresses_differ, same_address, same_key, same_rule};
+ghost use Rattle.net_model.specs.Valid.{addresses_differ, same_address, same_block, same_key, same_rule};
 
 use crate::address::Prefix;
 use crate::link::Link;
@@ -79,6 +79,17 @@ pub fn address_position(addrs: &[Prefix], prefix: &Prefix) -> Position
     ensures { Located (λ a b. same_address a.addr b.addr) block_cmp result prefix.now addrs.now }
 {
     match addrs.binary_search_by(|other| order_addresses(other, prefix)) {
+        Ok(i) => Position::At(i),
+        Err(i) => Position::Gap(i),
+    }
+}
+
+// The place of a prefix, with its length, in prefixes that are sorted.
+pub(crate) fn prefix_position(addrs: &[Prefix], prefix: &Prefix) -> Position
+    requires { rises block_cmp addrs.now ≡ true }
+    ensures { Located same_block block_cmp result prefix.now addrs.now }
+{
+    match addrs.binary_search(prefix) {
         Ok(i) => Position::At(i),
         Err(i) => Position::Gap(i),
     }

@@ -3,13 +3,13 @@ ghost use Rattle.std.specs.Prelude.{◌≡◌, ◌&&◌, ◌||◌, true, nat_le,
 ghost use Rattle.std.specs.List.{list_any};
 ghost use Rattle.net_model.specs.Words.{rises, is_before_head, steps_up, is_empty};
 ghost use Rattle.net_model.specs.Order.{link_cmp};
-ghost use Rattle.net_model.specs.Links.{is_twin, named_passes, can_be_base, takes, base_passes, controller_passes, is_bond_or_bridge};
+ghost use Rattle.net_model.specs.Links.{named_passes, can_be_base, takes, base_passes, controller_passes, is_bond_or_bridge};
 ghost use Rattle.net_model.specs.Valid.{names_differ, each_base_stands, bases_stand, controllers_take, bases_up, mtu_in_range, mtus_fit, is_bond_or_bridge_port, ports_without_addresses, all_v4, same_address, addresses_differ, addresses_fit};
 
 use crate::address::Prefix;
 use crate::limits::{MAX_MTU, MIN_MTU};
 use crate::link::{Kind, Link};
-use crate::lookup::{can_be_base, find_link, is_bond_or_bridge, is_twin, takes};
+use crate::lookup::{can_be_base, find_link, is_bond_or_bridge, takes};
 use crate::name::Name;
 use crate::twins::vlans_differ;
 use std::alloc::{AllocError, Global};
@@ -69,13 +69,6 @@ fn each_base_stands(links: &[Link]) -> bool
     ensures { result ≡ each_base_stands links.now }
 {
     links.iter().all(|link| base_stands(links, &link.kind))
-}
-
-/// Whether one of the links is a VLAN over the same base with the same protocol and number.
-pub fn has_twin(links: &[Link], kind: &Kind) -> bool
-    ensures { result ≡ list_any (λ l. is_twin kind.now l.kind) links.now }
-{
-    links.iter().any(|link| is_twin(kind, &link.kind))
 }
 
 // Part 2: whether each base is there and can be one, and VLANs differ.

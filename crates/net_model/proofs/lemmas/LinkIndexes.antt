@@ -1,15 +1,18 @@
 -- What edits of links do to the indexes.
-use Rattle.std.proofs.Common.{◌≡◌, ◌∙◌, ℕ, Bool, true, false, not, ◌&&◌, ◌||◌, cond, List, [], ◌∷◌, map, filter, Some, None, Option, refl, sym, ap}
+use Rattle.std.proofs.Common.{◌≡◌, ◌∙◌, ℕ, Bool, true, false, not, ◌&&◌, ◌||◌, cond, List, [], ◌∷◌, ◌++◌, map, filter, Some, None, Option, refl, sym, ap}
 use Rattle.std.specs.Prelude.{is_some, if◌then◌else◌}
 use Rattle.std.specs.List.{list_any, find}
 use Rattle.std.specs.Option.{option_map_or}
 use Rattle.std.specs.Ordering.{is_eq}
+use Rattle.std.specs.BTreeSet.{BTreeSet}
 use Rattle.std.proofs.lemmas.Cmp.{nat_list_cmp_total}
 use Rattle.net_model.specs.Name.{same_bytes}
 use Rattle.net_model.specs.Words.{rises, put, is_among}
 use Rattle.net_model.specs.Order.{name_cmp, link_cmp}
-use Rattle.net_model.specs.Links.{is_named, is_port_of, find_link, named_passes, ports_of}
+use Rattle.net_model.specs.Links.{is_named, is_port_of, is_twin, find_link, named_passes, ports_of}
 use Rattle.net_model.specs.Dependence.{has_base}
+use Rattle.net_model.specs.Twins.{vlan_key, has_key, HasVlans, Loses}
+use Rattle.net_model.specs.Valid.{vlans_differ}
 use Rattle.net_model.specs.declared.link.Link.{Link}
 use Rattle.net_model.specs.declared.link.Kind.{Kind}
 use Rattle.net_model.specs.declared.link.Kind.TheVariants.{Vlan, Veth}
@@ -19,9 +22,11 @@ use Rattle.net_model.proofs.lemmas.Found.{one_name, names_tie, names_differ-rise
 use Rattle.net_model.proofs.lemmas.Orders.{link_cmp_total}
 use Rattle.net_model.proofs.lemmas.ByName.{passes_as}
 use Rattle.net_model.proofs.lemmas.Maps.{rises_map}
-use Rattle.net_model.proofs.lemmas.Parts.{rises_filter}
+use Rattle.net_model.proofs.lemmas.Parts.{apart_filter, rises_filter}
 use Rattle.net_model.proofs.lemmas.Ports.{among_filtered}
 use Rattle.net_model.proofs.lemmas.Puts.{rises_put, find_other}
+use Rattle.net_model.proofs.lemmas.ValidMoved.{apart_map}
+use Rattle.net_model.proofs.lemmas.VlanKeys.{vlans_map, vlans_put, vlans_put-other, vlans_left}
 use Rattle.net_model.specs.declared.index.Index.{Index}
 use Rattle.net_model.specs.declared.indexes.Indexes.{Indexes}
 use Rattle.net_model.specs.Listed.{Same, Puts, LeavesOut, listed}
@@ -40,7 +45,8 @@ over_rise links k up = keys_rise (λ (l : Link). l.name) (λ l. has_base l.kind 
 pub ports_rise : (links : List Link) (k : List ℕ) → rises link_cmp links ≡ true → rises name_cmp (ports_of links k) ≡ true
 ports_rise links k up = keys_rise (λ (l : Link). l.name) (is_port_of k) name_cmp links up
 
-not_there : {X : Type 0} (p : X → Bool) (xs : List X) → find p xs ≡ None → list_any p xs ≡ false
+-- where none is found, none passes
+pub not_there : {X : Type 0} (p : X → Bool) (xs : List X) → find p xs ≡ None → list_any p xs ≡ false
 not_there p [] h = refl
 not_there {X} p (x ∷ xs) h =
     elim (p x) as (λ v. cond v (Some x) (find p xs) ≡ None → (v || list_any p xs) ≡ false) [
@@ -73,14 +79,15 @@ other_new links first second none off = find_other link_cmp first (is_named seco
 
 -- ---- the laws of edits, where the indexes are those of the lists before
 
--- a link without a controller that is put into its place, and its name into the list of its base
-pub put_link : (link : Link) (links : List Link) (routes : List Route) (old : Indexes) (new : Index (List ℕ)) → rises link_cmp links ≡ true → link.controller ≡ None → AreIndexes links routes old
-    → Puts name_cmp link.name (has_base link.kind) (listed old.over) (listed new) → AreIndexes (put link_cmp link links) routes (record old { over = new })
-put_link link links routes old new up free is puts = record {
+-- a link without a controller that is put into its place, its name into the list of its base, and its key into the set
+pub put_link : (link : Link) (links : List Link) (routes : List Route) (old : Indexes) (new : Index (List ℕ)) (seen : BTreeSet (List ℕ × ℕ × Bool)) → rises link_cmp links ≡ true → link.controller ≡ None → AreIndexes links routes old
+    → Puts name_cmp link.name (has_base link.kind) (listed old.over) (listed new) → HasVlans seen (links ++ link ∷ []) → AreIndexes (put link_cmp link links) routes (record old { over = new; vlans = seen })
+put_link link links routes old new seen up free is puts has = record {
   over = λ k. puts k ∙ ap (λ (ns : List (List ℕ)). if has_base link.kind k then put name_cmp link.name ns else ns) (is.over k)
       ∙ sym (keys_placed (λ (l : Link). l.name) (λ l. has_base l.kind k) name_cmp nat_list_cmp_total link links up);
   ports = λ k. is.ports k ∙ sym (keys_put-other (λ (l : Link). l.name) (is_port_of k) link_cmp link (ap (λ o. option_map_or (λ c. same_bytes c k) o false) free) links);
   by_dev = is.by_dev;
+  vlans = vlans_put link links seen has;
 }
 
 -- a veth without a controller that is put into its place
@@ -89,15 +96,16 @@ put_end link peer links routes indexes end free is = record {
   over = λ k. is.over k ∙ sym (keys_put-other (λ (l : Link). l.name) (λ l. has_base l.kind k) link_cmp link (ap (λ (kind : Kind). has_base kind k) end) links);
   ports = λ k. is.ports k ∙ sym (keys_put-other (λ (l : Link). l.name) (is_port_of k) link_cmp link (ap (λ o. option_map_or (λ c. same_bytes c k) o false) free) links);
   by_dev = is.by_dev;
+  vlans = vlans_put-other link links indexes.vlans (ap vlan_key end) is.vlans;
 }
 
--- a list of bases that has grown without a change
-pub same_over : (links : List Link) (routes : List Route) (old : Indexes) (new : Index (List ℕ)) → AreIndexes links routes old → Same (listed old.over) (listed new) → AreIndexes links routes (record old { over = new })
-same_over links routes old new is same = record { over = λ k. same k ∙ is.over k; ports = is.ports; by_dev = is.by_dev }
+-- a list of bases and a set that have grown without a change
+pub same_over : (links : List Link) (routes : List Route) (old : Indexes) (new : Index (List ℕ)) (seen : BTreeSet (List ℕ × ℕ × Bool)) → AreIndexes links routes old → Same (listed old.over) (listed new) → HasVlans seen links → AreIndexes links routes (record old { over = new; vlans = seen })
+same_over links routes old new seen is same has = record { over = λ k. same k ∙ is.over k; ports = is.ports; by_dev = is.by_dev; vlans = has }
 
 -- a list of controllers that has grown without a change
 pub same_ports : (links : List Link) (routes : List Route) (old : Indexes) (new : Index (List ℕ)) → AreIndexes links routes old → Same (listed old.ports) (listed new) → AreIndexes links routes (record old { ports = new })
-same_ports links routes old new is same = record { over = is.over; ports = λ k. same k ∙ is.ports k; by_dev = is.by_dev }
+same_ports links routes old new is same = record { over = is.over; ports = λ k. same k ∙ is.ports k; by_dev = is.by_dev; vlans = is.vlans }
 
 -- the link of a name that is there
 pub some_link : (o : Option Link) → is_some o ≡ true → (l : Link) × (o ≡ Some l)
@@ -116,6 +124,10 @@ found_free links port l up found free = no_name l.controller (sym (passes_as (λ
 pub no_port : (l : Link) (k : List ℕ) → l.controller ≡ None → is_port_of k l ≡ false
 no_port l k free = ap (λ o. option_map_or (λ c. same_bytes c k) o false) free
 
+-- what a change of the named link keeps, the change keeps of each
+pub changed_keeps : {X : Type 0} (get : Link → X) (name : List ℕ) (g : Link → Link) → ((l : Link) → get (g l) ≡ get l) → (l : Link) → get (changed name g l) ≡ get l
+changed_keeps get name g same l = elim (is_named name l) as (λ v. get (if v then g l else l) ≡ get l) [ true ↦ same l | false ↦ refl ]
+
 -- a link that gets a controller, and its name that is put into the controller's list
 pub attached_port : (port controller : List ℕ) (l : Link) (links : List Link) (routes : List Route) (old : Indexes) (new : Index (List ℕ))
     → rises link_cmp links ≡ true → find_link port links ≡ Some l → l.controller ≡ None → AreIndexes links routes old
@@ -125,6 +137,7 @@ attached_port port controller l links routes old new up found free is puts = rec
   over = λ k. is.over k ∙ sym (names_edited-same port (attached controller) (λ m. refl) (λ m. has_base m.kind k) l refl links up found);
   ports = λ k. puts k ∙ ap (λ (ns : List (List ℕ)). if same_bytes controller k then put name_cmp port ns else ns) (is.ports k) ∙ sym (listed_then k);
   by_dev = is.by_dev;
+  vlans = vlans_map (changed port (attached controller)) (changed_keeps (λ m. m.kind) port (attached controller) (λ m. refl)) links old.vlans is.vlans;
 }
   where
     listed_then : (k : List ℕ) → ports_of (edit_link port (attached controller) links) k ≡ (if same_bytes controller k then put name_cmp port (ports_of links k) else ports_of links k)
@@ -145,11 +158,8 @@ module _ (f : Link → Link) (name : (l : Link) → (f l).name ≡ l.name) (kind
     over = λ k. is.over k ∙ sym (over_map links k);
     ports = λ k. is.ports k ∙ sym (keys_map (λ (l : Link). l.name) (is_port_of k) f name (λ l. ap (λ o. option_map_or (λ c. same_bytes c k) o false) (controller l)) links);
     by_dev = is.by_dev;
+    vlans = vlans_map f kind links indexes.vlans is.vlans;
   }
-
--- what a change of the named link keeps, the change keeps of each
-changed_keeps : {X : Type 0} (get : Link → X) (name : List ℕ) (g : Link → Link) → ((l : Link) → get (g l) ≡ get l) → (l : Link) → get (changed name g l) ≡ get l
-changed_keeps get name g same l = elim (is_named name l) as (λ v. get (if v then g l else l) ≡ get l) [ true ↦ same l | false ↦ refl ]
 
 -- a change of the named link alone that keeps name, kind and controller leaves the indexes as they are
 pub kept_edit : (name : List ℕ) (g : Link → Link) → ((l : Link) → (g l).name ≡ l.name) → ((l : Link) → (g l).kind ≡ l.kind) → ((l : Link) → (g l).controller ≡ l.controller)
@@ -164,6 +174,7 @@ detached_port port links routes old new is leaves = record {
   over = λ k. is.over k ∙ sym (over_map (detached port) name kind links k);
   ports = λ k. leaves k ∙ ap (filter (λ n. not (same_bytes n port))) (is.ports k) ∙ sym (keys_left (λ (l : Link). l.name) (is_port_of k) (detached port) (λ n. not (same_bytes n port)) name (test k) links);
   by_dev = is.by_dev;
+  vlans = vlans_map (detached port) kind links old.vlans is.vlans;
 }
   where
     name : (l : Link) → (detached port l).name ≡ l.name
@@ -186,7 +197,7 @@ detached_port port links routes old new is leaves = record {
       | false ↦ and_true (is_port_of k l)
     ]
 
--- links that go, whose names are taken out of all lists, and whose own lists of ports are emptied
+-- links that go
 module _ (goes : List ℕ → Bool) where
   differs : (c k : List ℕ) → goes c ≡ not (goes k) → same_bytes c k ≡ false
   differs c k other = elim (same_bytes c k) as (λ v. same_bytes c k ≡ v → v ≡ false) [
@@ -218,24 +229,43 @@ module _ (goes : List ℕ → Bool) where
   no_keys key p f off [] = refl
   no_keys key p f off (x ∷ xs) = rw (off x) (no_keys key p f off xs)
 
-  -- the indexes are those of the links that stay
-  pub removed_links : (links : List Link) (routes : List Route) (old : Indexes) (vlans left ports : Index (List ℕ)) → AreIndexes links routes old
-      → ((k : List ℕ) → listed vlans k ≡ filter (λ n. not (goes n)) (over links k)) → ((k : List ℕ) → listed left k ≡ filter (λ n. not (goes n)) (ports_of links k))
-      → ((k : List ℕ) → listed ports k ≡ (if goes k then [] else listed left k))
-      → AreIndexes (map (freed goes) (filter (λ l. not (goes l.name)) links)) routes (record old { over = vlans; ports = ports })
-  removed_links links routes old vlans left ports is of_bases of_controllers emptied = record {
-    over = λ k. of_bases k ∙ sym (over_map (freed goes) (λ l. refl) (λ l. refl) rest k ∙ keys_filter (λ (l : Link). l.name) (λ l. has_base l.kind k) (λ n. not (goes n)) links);
-    ports = λ k. elim (goes k) as (λ v. goes k ≡ v → listed ports k ≡ (if v then [] else listed left k) → listed ports k ≡ ports_of (map (freed goes) rest) k) [
-      | true ↦ λ e h. h ∙ sym (no_keys (λ (l : Link). l.name) (is_port_of k) (freed goes) (λ l. none_left k e l.controller) rest)
-      | false ↦ λ e h. h ∙ of_controllers k
-          ∙ sym (keys_map (λ (l : Link). l.name) (is_port_of k) (freed goes) (λ l. refl) (λ l. all_left k e l.controller) rest ∙ keys_filter (λ (l : Link). l.name) (is_port_of k) (λ n. not (goes n)) links)
+  -- where their lists of ports are emptied, the indexes are those of the links that name none of them
+  pub freed_links : (links : List Link) (routes : List Route) (old : Indexes) (ports : Index (List ℕ)) → AreIndexes links routes old → ((k : List ℕ) → listed ports k ≡ (if goes k then [] else listed old.ports k))
+      → AreIndexes (map (freed goes) links) routes (record old { ports = ports })
+  freed_links links routes old ports is emptied = record {
+    over = λ k. is.over k ∙ sym (over_map (freed goes) (λ l. refl) (λ l. refl) links k);
+    ports = λ k. elim (goes k) as (λ v. goes k ≡ v → listed ports k ≡ (if v then [] else listed old.ports k) → listed ports k ≡ ports_of (map (freed goes) links) k) [
+      | true ↦ λ e h. h ∙ sym (no_keys (λ (l : Link). l.name) (is_port_of k) (freed goes) (λ l. none_left k e l.controller) links)
+      | false ↦ λ e h. h ∙ is.ports k ∙ sym (keys_map (λ (l : Link). l.name) (is_port_of k) (freed goes) (λ l. refl) (λ l. all_left k e l.controller) links)
     ] refl (emptied k);
     by_dev = is.by_dev;
+    vlans = vlans_map (freed goes) (λ l. refl) links old.vlans is.vlans;
   }
-    where
-      rest : List Link
-      rest = filter (λ l. not (goes l.name)) links
+
+  -- where their names are taken out of all lists and their keys out of the set, the indexes are those of the links that stay
+  pub kept_links : (links : List Link) (routes : List Route) (old : Indexes) (vlans ports : Index (List ℕ)) (seen : BTreeSet (List ℕ × ℕ × Bool)) → vlans_differ links ≡ true → AreIndexes links routes old
+      → ((k : List ℕ) → listed vlans k ≡ filter (λ n. not (goes n)) (over links k)) → ((k : List ℕ) → listed ports k ≡ filter (λ n. not (goes n)) (ports_of links k))
+      → Loses (λ key. list_any (λ (l : Link). goes l.name && has_key key l.kind) links) old.vlans seen
+      → AreIndexes (filter (λ l. not (goes l.name)) links) routes (record old { over = vlans; ports = ports; vlans = seen })
+  kept_links links routes old vlans ports seen differ is of_bases of_controllers lost = record {
+    over = λ k. of_bases k ∙ sym (keys_filter (λ (l : Link). l.name) (λ l. has_base l.kind k) (λ n. not (goes n)) links);
+    ports = λ k. of_controllers k ∙ sym (keys_filter (λ (l : Link). l.name) (is_port_of k) (λ n. not (goes n)) links);
+    by_dev = is.by_dev;
+    vlans = vlans_left goes links old.vlans seen differ is.vlans lost;
+  }
+
+  -- one that stays has those of its ports that stay
+  pub ports_left : (links : List Link) (k : List ℕ) → goes k ≡ false → ports_of (map (freed goes) (filter (λ l. not (goes l.name)) links)) k ≡ filter (λ n. not (goes n)) (ports_of links k)
+  ports_left links k stays =
+      keys_map (λ (l : Link). l.name) (is_port_of k) (freed goes) (λ l. refl) (λ l. all_left k stays l.controller) (filter (λ l. not (goes l.name)) links)
+      ∙ keys_filter (λ (l : Link). l.name) (is_port_of k) (λ n. not (goes n)) links
 
 -- the links that stay are strictly sorted where all were
 pub rises_left : (goes : List ℕ → Bool) (links : List Link) → rises link_cmp links ≡ true → rises link_cmp (map (freed goes) (filter (λ l. not (goes l.name)) links)) ≡ true
 rises_left goes links up = rises_map (freed goes) (λ l. refl) (filter (λ l. not (goes l.name)) links) ∙ rises_filter link_cmp (λ l. not (goes l.name)) links up
+
+-- and no two of them are twins where no two were
+pub twins_left : (goes : List ℕ → Bool) (links : List Link) → vlans_differ links ≡ true → vlans_differ (map (freed goes) (filter (λ l. not (goes l.name)) links)) ≡ true
+twins_left goes links differ =
+    apart_map (freed goes) (λ (a b : Link). is_twin a.kind b.kind) (λ (a b : Link). is_twin a.kind b.kind) (λ a b. refl) (filter (λ l. not (goes l.name)) links)
+    ∙ apart_filter (λ (a b : Link). is_twin a.kind b.kind) (λ (l : Link). not (goes l.name)) links differ

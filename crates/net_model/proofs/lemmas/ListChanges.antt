@@ -70,7 +70,7 @@ any_append p (x ∷ xs) ys = ap (λ v. p x || v) (any_append p xs ys) ∙ groupe
     grouped false b c = refl
 
 -- whether a name is one of the first so many, and one more
-among_more : (names : List (List ℕ)) (i : ℕ) (name k : List ℕ) → i < length names → name ≡ get_or names i name → is_among (take (i + 1) names) k ≡ (is_among (take i names) k || (same_bytes name k || false))
+pub among_more : (names : List (List ℕ)) (i : ℕ) (name k : List ℕ) → i < length names → name ≡ get_or names i name → is_among (take (i + 1) names) k ≡ (is_among (take i names) k || (same_bytes name k || false))
 among_more names i name k lt own =
     ap (λ (ns : List (List ℕ)). is_among ns k) (take_more names i name lt) ∙ any_append (λ n. same_bytes n k) (take i names) (get_or names i name ∷ [])
     ∙ ap (λ (n : List ℕ). is_among (take i names) k || (same_bytes n k || false)) (sym own)

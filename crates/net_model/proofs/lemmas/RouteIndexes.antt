@@ -69,13 +69,14 @@ pub put_route : (route : Route) (links : List Link) (routes : List Route) (old :
 put_route route links routes old new up is puts = record {
   over = is.over;
   ports = is.ports;
+  vlans = is.vlans;
   by_dev = λ k. puts k ∙ ap (λ (ks : List RouteKey). if same_bytes route.dev k then put key_cmp (key_of route) ks else ks) (is.by_dev k)
       ∙ sym (keys_placed key_of (λ r. same_bytes r.dev k) key_cmp key_cmp_total route routes up);
 }
 
 -- lists of devices that have grown without a change
 pub same_routes : (links : List Link) (routes : List Route) (old : Indexes) (new : Index RouteKey) → AreIndexes links routes old → Same (listed old.routes) (listed new) → AreIndexes links routes (record old { routes = new })
-same_routes links routes old new is same = record { over = is.over; ports = is.ports; by_dev = λ k. same k ∙ is.by_dev k }
+same_routes links routes old new is same = record { over = is.over; ports = is.ports; vlans = is.vlans; by_dev = λ k. same k ∙ is.by_dev k }
 
 -- the routes of devices that go, whose lists are emptied
 pub cleared_routes : (goes : List ℕ → Bool) (links : List Link) (routes : List Route) (old : Indexes) (new : Index RouteKey) → AreIndexes links routes old
@@ -83,6 +84,7 @@ pub cleared_routes : (goes : List ℕ → Bool) (links : List Link) (routes : Li
 cleared_routes goes links routes old new is cleared = record {
   over = is.over;
   ports = is.ports;
+  vlans = is.vlans;
   by_dev = λ k.
       elim (goes k) as (λ v. goes k ≡ v → listed new k ≡ (if v then [] else listed old.routes k) → listed new k ≡ routes_of (filter (λ r. not (goes r.dev)) routes) k) [
         | true ↦ λ e h. h ∙ sym (keys_gone key_of (λ r. same_bytes r.dev k) (λ r. not (goes r.dev)) (λ r on. ap not (ap goes (one_name r.dev k on) ∙ e)) routes)
@@ -108,6 +110,7 @@ pub removed_route : (route : Route) (i : ℕ) (links : List Link) (routes : List
 removed_route route i links routes old new at is changes = record {
   over = is.over;
   ports = is.ports;
+  vlans = is.vlans;
   by_dev = λ k.
       elim (same_bytes k route.dev) as (λ v. same_bytes k route.dev ≡ v → listed new k ≡ routes_of (remove routes i) k) [
         | true ↦ λ e.
@@ -129,6 +132,7 @@ pub kept_on_link : (name : List ℕ) (links : List Link) (routes : List Route) (
 kept_on_link name links routes old new up is changes = record {
   over = is.over;
   ports = is.ports;
+  vlans = is.vlans;
   by_dev = λ k.
       elim (same_bytes k name) as (λ v. same_bytes k name ≡ v → listed new k ≡ routes_of (filter (stays_on_link name links) routes) k) [
         | true ↦ λ e.

@@ -23,7 +23,7 @@ use Rattle.net_model.proofs.lemmas.Truth.{and_left, and_right, and_both, not_tru
 use Rattle.net_model.proofs.lemmas.Differing.{apart_more, apart_with}
 
 -- whether one passes, with one more
-any_more : {X : Type 0} (p : X → Bool) (xs : List X) (x : X) → list_any p (xs ++ x ∷ []) ≡ cond (p x) true (list_any p xs)
+pub any_more : {X : Type 0} (p : X → Bool) (xs : List X) (x : X) → list_any p (xs ++ x ∷ []) ≡ cond (p x) true (list_any p xs)
 any_more p xs x = list_any-append p xs (x ∷ []) ∙ turned (list_any p xs) (p x)
   where
     turned : (a b : Bool) → (a || (b || false)) ≡ cond b true a
@@ -45,7 +45,7 @@ tie a i p b j q =
     (protos_tie p q)
 
 -- a kind with the key of a VLAN is a twin of it
-key_twin : (b : List ℕ) (j : ℕ) (q : Proto) (a : Kind) → has_key (b, j, is_dot1ad q) a ≡ is_twin a (Vlan b j q)
+pub key_twin : (b : List ℕ) (j : ℕ) (q : Proto) (a : Kind) → has_key (b, j, is_dot1ad q) a ≡ is_twin a (Vlan b j q)
 key_twin b j q (Vlan a i p) = sym (tie a i p b j q)
 key_twin b j q (Ethernet m) = refl
 key_twin b j q (Bond m) = refl
@@ -148,3 +148,8 @@ module _ (links : List Link) (i : ℕ) (l : Link) (lt : i < length links) (is : 
   -- with its key the set has those of one link more
   pub has_more : ((ls : List Link) → HasVlans seen ls → HasVlans new (ls ++ l ∷ [])) → HasVlans new (take (i + 1) links)
   has_more more = rw (take_one links i l lt is) (more (take i links) has)
+
+-- the set with the keys of the first so many, and the next
+pub vlans_more : (links : List Link) (i : ℕ) (l : Link) → i < length links → l ≡ get_or links i l → (seen new : BTreeSet (List ℕ × ℕ × Bool)) → HasVlans seen (take i links)
+    → ((ls : List Link) → HasVlans seen ls → HasVlans new (ls ++ l ∷ [])) → HasVlans new (take (i + 1) links)
+vlans_more links i l lt is seen new has more = rw (take_one links i l lt is) (more (take i links) has)

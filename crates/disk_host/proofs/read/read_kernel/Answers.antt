@@ -18,3 +18,7 @@ pub returns-then-stored-clause-untouched : goal.returns-then-stored-clause-untou
 returns-then-stored-clause-untouched g c =
     untouched_twice g.D.Disk.tells (g.D.Disk.told c.args.disk.now) (g.D.Disk.told c.selected.new.disk) (g.D.Disk.told c.read_journal.new.disk) c.selected.ensures.untouched
     (untouched_twice g.D.Disk.tells (g.D.Disk.told c.selected.new.disk) (g.D.Disk.told c.read_image.new.disk) (g.D.Disk.told c.read_journal.new.disk) c.read_image.ensures.untouched c.read_journal.ensures.untouched)
+
+pub returns-clause-untouched : goal.returns-clause-untouched
+returns-clause-untouched g c =
+    untouched_twice g.D.Disk.tells (g.D.Disk.told c.args.disk.now) (g.D.Disk.told c.selected.new.disk) (g.D.Disk.told c.read_image.new.disk) c.selected.ensures.untouched c.read_image.ensures.untouched

@@ -1,11 +1,14 @@
-use Rattle.std.proofs.Common.{List, refl, sym, subst}
-use Rattle.net_model.specs.declared.Link.{Link}
-use Rattle.net_model.specs.Indexed.{AreIndexes}
-use Rattle.net_model.proofs.lemmas.LinkIndexes.{kept_edit}
-use Rattle.kernel_model.specs.Addresses.{without_address}
+use Rattle.std.proofs.Common.{◌∙◌, filter, ap}
+use Rattle.net_model.specs.Words.{rises}
+use Rattle.net_model.specs.Order.{route_cmp}
+use Rattle.net_model.specs.Lists.{NetData}
+use Rattle.net_model.specs.Edits.{stays_on_link}
 use Rattle.kernel_step.proofs.addresses.del_address.Goals as goal
 
-pub invariant_of-parts : goal.invariant_of-parts
-invariant_of-parts c =
-    subst (λ (ls : List Link). AreIndexes ls c.parts.inside.routes.items c.parts.inside.indexes) (sym c.take_in.ensures.edit)
-    (kept_edit c.args.name.now (without_address c.args.addr.now) (λ l. refl) (λ l. refl) (λ l. refl) c.parts.inside.links.items c.parts.inside.routes.items c.parts.inside.indexes c.parts.invariant)
+pub keep_on_link-requires-clause-routes : goal.keep_on_link-requires-clause-routes
+keep_on_link-requires-clause-routes c = ap (λ (n : NetData). rises route_cmp n.routes) c.remove_address.ensures.edit ∙ c.requires.routes
+
+pub returns : goal.returns
+returns c =
+    c.keep_on_link.ensures
+    ∙ ap (λ (n : NetData). let m : NetData = record n { routes = filter (stays_on_link c.args.name.now n.links) n.routes } in m) c.remove_address.ensures.edit

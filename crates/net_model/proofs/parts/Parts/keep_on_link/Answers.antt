@@ -20,8 +20,11 @@ invariant_of-self c =
     let old : List ℕ → List RouteKey = listed c.self.inside.indexes.routes in
     let new : List ℕ → List RouteKey = listed c.keep_on_link.new.self in
     let up : rises route_cmp routes ≡ true = ap (λ (n : NetData). rises route_cmp n.routes) c.self.view_is ∙ c.requires.routes in
-    subst (λ (rs : List Route). AreIndexes links rs (record c.self.inside.indexes { routes = c.keep_on_link.new.self }))
-    (sym (c.keep_on_link-2.ensures ∙ ap (λ (ls : List Link). filter (stays_on_link dev ls) routes) c.deref-3.ensures.value))
-    (kept_on_link dev links routes c.self.inside.indexes c.keep_on_link.new.self up c.self.invariant
-    (subst (λ (ls : List Link). ChangesAt dev (filter (key_stays dev ls routes) (old dev)) old new) c.deref.ensures.value
-    (subst (λ (rs : List Route). ChangesAt dev (filter (key_stays dev c.deref.result.now rs) (old dev)) old new) c.deref-2.ensures.value c.keep_on_link.ensures)))
+    record {
+      lists = subst (λ (rs : List Route). AreIndexes links rs (record c.self.inside.indexes { routes = c.keep_on_link.new.self }))
+          (sym (c.keep_on_link-2.ensures ∙ ap (λ (ls : List Link). filter (stays_on_link dev ls) routes) c.deref-3.ensures.value))
+          (kept_on_link dev links routes c.self.inside.indexes c.keep_on_link.new.self up c.self.invariant.lists
+          (subst (λ (ls : List Link). ChangesAt dev (filter (key_stays dev ls routes) (old dev)) old new) c.deref.ensures.value
+          (subst (λ (rs : List Route). ChangesAt dev (filter (key_stays dev c.deref.result.now rs) (old dev)) old new) c.deref-2.ensures.value c.keep_on_link.ensures)));
+      count = c.self.invariant.count;
+    }

@@ -2,10 +2,12 @@ use Rattle.std.proofs.Common.{◌≡◌, ◌∙◌, List, ap, sym, subst}
 use Rattle.net_model.specs.Words.{rises, put}
 use Rattle.net_model.specs.Order.{link_cmp}
 use Rattle.net_model.specs.Links.{find_link}
+use Rattle.net_model.specs.Valid.{address_count}
 use Rattle.net_model.specs.Lists.{NetData}
 use Rattle.net_model.specs.declared.link.Link.{Link}
 use Rattle.net_model.specs.Indexed.{AreIndexes}
 use Rattle.net_model.proofs.lemmas.LinkIndexes.{rises_new, other_new, put_end}
+use Rattle.net_model.proofs.lemmas.Counting.{count_put}
 use Rattle.net_model.proofs.parts.Parts.put_pair.Goals as goal
 
 pub insert_link-requires-2-clause-in_order : goal.insert_link-requires-2-clause-in_order
@@ -25,6 +27,9 @@ invariant_of-self-2 c =
     let links : List Link = c.self.inside.links.items in
     let done : c.insert_link-2.new.links.items ≡ put link_cmp c.args.second (put link_cmp c.args.first links) =
     c.insert_link-2.ensures.items ∙ ap (put link_cmp c.args.second) (c.insert_link.ensures.items ∙ ap (put link_cmp c.args.first) c.reserve.ensures.items) in
-    subst (λ (ls : List Link). AreIndexes ls c.self.inside.routes.items c.self.inside.indexes) (sym done)
-    (put_end c.args.second c.args.first.name (put link_cmp c.args.first links) c.self.inside.routes.items c.self.inside.indexes c.requires.second_end c.requires.second_free
-    (put_end c.args.first c.args.second.name links c.self.inside.routes.items c.self.inside.indexes c.requires.first_end c.requires.first_free c.self.invariant))
+    record {
+      lists = subst (λ (ls : List Link). AreIndexes ls c.self.inside.routes.items c.self.inside.indexes) (sym done)
+          (put_end c.args.second c.args.first.name (put link_cmp c.args.first links) c.self.inside.routes.items c.self.inside.indexes c.requires.second_end c.requires.second_free
+          (put_end c.args.first c.args.second.name links c.self.inside.routes.items c.self.inside.indexes c.requires.first_end c.requires.first_free c.self.invariant.lists));
+      count = count_put c.args.second (put link_cmp c.args.first links) _ _ (count_put c.args.first links _ _ c.self.invariant.count c.in_ok-with_first.ensures) c.in_ok-with_both.ensures ∙ ap (λ (ls : List Link). address_count ls) (sym done);
+    }

@@ -14,16 +14,19 @@ use Rattle.net_model.proofs.parts.Parts.put_route.Goals as goal
 pub put_key-requires-clause-in_order : goal.put_key-requires-clause-in_order
 put_key-requires-clause-in_order c =
     let up : rises route_cmp c.self.inside.routes.items ≡ true = ap (λ (n : NetData). rises route_cmp n.routes) c.self.view_is ∙ c.requires.in_order in
-    ap (rises key_cmp) (c.self.invariant.by_dev c.args.route.dev) ∙ routes_rise c.self.inside.routes.items c.args.route.dev up
+    ap (rises key_cmp) (c.self.invariant.lists.by_dev c.args.route.dev) ∙ routes_rise c.self.inside.routes.items c.args.route.dev up
 
 pub put_key-requires-clause-new : goal.put_key-requires-clause-new
 put_key-requires-clause-new c =
     let none : list_any (same_key c.args.route) c.self.inside.routes.items ≡ false = ap (λ (n : NetData). list_any (same_key c.args.route) n.routes) c.self.view_is ∙ c.requires.new in
-    ap (list_any (λ k. is_eq (key_cmp k (key_of c.args.route)))) (c.self.invariant.by_dev c.args.route.dev) ∙ new_key c.args.route c.self.inside.routes.items c.args.route.dev none
+    ap (list_any (λ k. is_eq (key_cmp k (key_of c.args.route)))) (c.self.invariant.lists.by_dev c.args.route.dev) ∙ new_key c.args.route c.self.inside.routes.items c.args.route.dev none
 
 pub invariant_of-self-2 : goal.invariant_of-self-2
 invariant_of-self-2 c =
     let routes : List Route = c.self.inside.routes.items in
     let up : rises route_cmp routes ≡ true = ap (λ (n : NetData). rises route_cmp n.routes) c.self.view_is ∙ c.requires.in_order in
-    subst (λ (rs : List Route). AreIndexes c.self.inside.links.items rs (record c.self.inside.indexes { routes = c.put_key.new.index })) (sym (c.insert_route.ensures ∙ ap (put route_cmp c.args.route) c.reserve.ensures.items))
-    (put_route c.args.route c.self.inside.links.items routes c.self.inside.indexes c.put_key.new.index up c.self.invariant c.in_ok-put_key.ensures.ok)
+    record {
+      lists = subst (λ (rs : List Route). AreIndexes c.self.inside.links.items rs (record c.self.inside.indexes { routes = c.put_key.new.index })) (sym (c.insert_route.ensures ∙ ap (put route_cmp c.args.route) c.reserve.ensures.items))
+          (put_route c.args.route c.self.inside.links.items routes c.self.inside.indexes c.put_key.new.index up c.self.invariant.lists c.in_ok-put_key.ensures.ok);
+      count = c.self.invariant.count;
+    }

@@ -1,16 +1,25 @@
-use Rattle.std.proofs.Common.{◌∙◌, List, not, filter, ap, sym, subst}
-use Rattle.net_model.specs.Words.{is_among}
-use Rattle.net_model.specs.Links.{ports_of}
+use Rattle.std.proofs.Common.{◌∙◌, List, not, filter, ap}
+use Rattle.net_model.specs.Words.{rises, is_among}
+use Rattle.net_model.specs.Order.{link_cmp}
+use Rattle.net_model.specs.Lists.{NetData}
+use Rattle.net_model.specs.Valid.{vlans_differ}
 use Rattle.net_model.specs.declared.link.Link.{Link}
-use Rattle.net_model.specs.Indexed.{AreIndexes, over}
-use Rattle.net_model.proofs.lemmas.LinkIndexes.{removed_links}
+use Rattle.net_model.proofs.lemmas.Going.{rises_freed, twins_freed, free_then_keep}
 use Rattle.net_model.proofs.parts.Parts.remove_links.Goals as goal
 
-pub invariant_of-self : goal.invariant_of-self
-invariant_of-self c =
-    let links : List Link = c.self.inside.links.items in
-    subst (λ (ls : List Link). AreIndexes ls c.self.inside.routes.items (record c.self.inside.indexes { over = c.leave_out_vlans.new.index; ports = c.clear_all.new.self })) (sym c.remove_links.ensures)
-    (removed_links (is_among c.args.goes.now) links c.self.inside.routes.items c.self.inside.indexes c.leave_out_vlans.new.index c.leave_out_ports.new.index c.clear_all.new.self c.self.invariant
-    (λ k. c.leave_out_vlans.ensures k ∙ ap (λ (ls : List Link). filter (λ n. not (is_among c.args.goes.now n)) (over ls k)) c.deref.ensures.value)
-    (λ k. c.leave_out_ports.ensures k ∙ ap (λ (ls : List Link). filter (λ n. not (is_among c.args.goes.now n)) (ports_of ls k)) c.deref-2.ensures.value)
-    c.clear_all.ensures)
+pub keep_links-requires-clause-in_order : goal.keep_links-requires-clause-in_order
+keep_links-requires-clause-in_order c =
+    ap (λ (n : NetData). rises link_cmp n.links) c.free_links.ensures ∙ rises_freed (is_among c.args.goes.now) c.args.self.now.links c.requires.in_order
+
+pub keep_links-requires-clause-twins : goal.keep_links-requires-clause-twins
+keep_links-requires-clause-twins c =
+    ap (λ (n : NetData). vlans_differ n.links) c.free_links.ensures ∙ twins_freed (is_among c.args.goes.now) c.args.self.now.links c.requires.twins
+
+pub returns : goal.returns
+returns c =
+    let net : NetData = c.args.self.now in
+    let goes = is_among c.args.goes.now in
+    c.remove_routes_of.ensures
+    ∙ ap (λ (n : NetData). let m : NetData = record n { routes = filter (λ r. not (goes r.dev)) n.routes } in m) c.keep_links.ensures
+    ∙ ap (λ (n : NetData). let m : NetData = record n { links = filter (λ l. not (goes l.name)) n.links; routes = filter (λ r. not (goes r.dev)) n.routes } in m) c.free_links.ensures
+    ∙ ap (λ (ls : List Link). let m : NetData = record net { links = ls; routes = filter (λ r. not (goes r.dev)) net.routes } in m) (free_then_keep goes net.links)
