@@ -1,5 +1,3 @@
-mod Draws
-mod Plain
 mod Lengths
 mod Says
 mod Answers

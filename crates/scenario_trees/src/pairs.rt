@@ -2,7 +2,7 @@
 ghost use Rattle.std.specs.Prelude.{◌≡◌, ◌++◌, [], OnOk};
 ghost use Rattle.doc_tree.specs.Shape.{shape, text};
 ghost use Rattle.show_core.specs.Fields.{fields, field, number};
-ghost use Rattle.scenario.specs.Pairs.{held};
+ghost use Rattle.scenario_trees.specs.Pairs.{held};
 
 use base_model::{OutOfMemory, Str};
 use doc_tree::Tree;

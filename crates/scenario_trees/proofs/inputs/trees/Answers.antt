@@ -2,8 +2,8 @@ use Rattle.std.proofs.Common.{◌≡◌, ◌∙◌, ap, List}
 use Rattle.doc_tree.specs.Shape.{shape}
 use Rattle.scenario_model.specs.Draws.{devices}
 use Rattle.scenario_model.specs.Trees.{hardware_tree, first_tree, second_tree}
-use Rattle.scenario.proofs.Plain.{all_plain}
-use Rattle.scenario.proofs.inputs.trees.Goals as goal
+use Rattle.scenario_trees.proofs.Plain.{all_plain}
+use Rattle.scenario_trees.proofs.inputs.trees.Goals as goal
 
 pub returns-clause-plain : goal.returns-clause-plain
 returns-clause-plain c =

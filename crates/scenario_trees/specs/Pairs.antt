@@ -2,7 +2,7 @@
 use Rattle.std.specs.Prelude.{map}
 use Rattle.doc_tree.specs.Shape.{pair_shape}
 use Rattle.show_core.specs.Fields.{Fields}
-use Rattle.scenario.specs.declared.pairs.Pairs.{Pairs}
+use Rattle.scenario_trees.specs.declared.pairs.Pairs.{Pairs}
 
 -- each key with the shape of its tree
 abbrev pub held : Pairs → Fields

@@ -1,7 +1,7 @@
 use Rattle.std.proofs.Common.{◌≡◌, ◌∙◌, ◌*◌, sym, ap}
 use Rattle.scenario_model.specs.Draws.{next_draw, draw}
-use Rattle.scenario.proofs.Draws.{even_draw, pushed}
-use Rattle.scenario.proofs.devices.devices.Goals as goal
+use Rattle.scenario_trees.proofs.Draws.{even_draw, pushed}
+use Rattle.scenario_trees.proofs.devices.devices.Goals as goal
 
 pub loop-before-preserved : goal.loop-before-preserved
 loop-before-preserved c =

@@ -1,6 +1,6 @@
 use Rattle.std.proofs.Common.{◌≡◌, ◌*◌}
 use Rattle.scenario_model.specs.Draws.{draw, devices}
-use Rattle.scenario.proofs.devices.devices.Given as goal
+use Rattle.scenario_trees.proofs.devices.devices.Given as goal
 
 -- two draws were made for each device so far
 abbrev pub invariant-loop-before : goal.invariant-loop-before
