@@ -86,7 +86,7 @@ module _ (net : NetData) (is : IsNet net) (port controller : List ℕ) (owns : o
   same_owner p n e h = sym (one_name controller n (sym (ap (λ o. option_map_or (λ c. same_bytes c n) o false) e) ∙ h))
 
   -- a link with the port as its primary is the controller
-  held : (l : Link) → find_link l.name net.links ≡ Some l → has_primary port l ≡ true → is_named controller l ≡ true
+  pub held : (l : Link) → find_link l.name net.links ≡ Some l → has_primary port l ≡ true → is_named controller l ≡ true
   held l found has = elim (is_bond l.kind) as (λ v. is_bond l.kind ≡ v → is_named controller l ≡ true) [
     | true ↦ λ b.
         let right = bond_primary net is l found b in

@@ -4,3 +4,4 @@ pub mod OneLink
 pub mod Clamped
 pub mod Calls
 pub mod Pairs
+pub mod Releasing

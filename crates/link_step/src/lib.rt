@@ -19,6 +19,8 @@ mod one_link;
 mod refuse;
 // The refusals of calls on ports.
 mod refuse_port;
+// Links that are released before they go.
+mod release;
 // One call on links.
 mod step;
 

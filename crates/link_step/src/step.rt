@@ -1,9 +1,7 @@
 //! One call on links.
 ghost use Rattle.std.specs.Prelude.{◌≡◌, ℕ, true, Some, None, Ok, Err, OnOk, OnErr, IfOk};
-ghost use Rattle.std.specs.Option.{option_map_or};
 ghost use Rattle.net_model.specs.Words.{rises};
 ghost use Rattle.net_model.specs.Order.{link_cmp};
-ghost use Rattle.net_model.specs.Links.{find_link};
 ghost use Rattle.net_model.specs.NetData.{IsNet};
 ghost use Rattle.net_model.specs.Edits.{edit_link};
 ghost use Rattle.kernel_model.specs.Outcome.{first_true};
@@ -13,13 +11,14 @@ ghost use Rattle.kernel_model.specs.declared.fault.StepFault.TheVariants.{Refuse
 ghost use Rattle.link_step.specs.Calls.{is_on_links};
 ghost use Rattle.link_step.specs.OneLink.{written};
 
+use crate::lookup::controller_of;
 use crate::lower::down;
 use crate::made::{add_link, del_link};
 use crate::mtu::set_mtu;
 use crate::one_link::write_on;
 use crate::{refuse, refuse_port};
 use kernel_model::StepFault;
-use net_model::{Call, Link, Name, Net, OutOfMemory, Parts, find_link};
+use net_model::{Call, Name, Net, OutOfMemory, Parts};
 use std::alloc::Global;
 
 // The least number with which the call is refused.
@@ -60,16 +59,6 @@ fn attach(parts: &mut Parts, port: &Name, controller: &Name) -> Result<(), OutOf
     ensures err { OnErr result (parts.new ≡ parts.old) }
 {
     parts.attach(port, controller)
-}
-
-fn controller_of(links: &[Link], port: &Name) -> Option<Name>
-    requires { rises link_cmp links.now ≡ true }
-    ensures { result ≡ option_map_or (λ l. l.controller) (find_link port.now links.now) None }
-{
-    match find_link(links, port) {
-        Some(link) => link.controller,
-        None => None,
-    }
 }
 
 // Detaches a port. A primary is one of the ports of its bond, so no link but the controller can have this one.
