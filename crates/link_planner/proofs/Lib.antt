@@ -31,3 +31,6 @@ pub mod SameBonds
 pub mod Bonds
 pub mod Counting
 pub mod Building
+pub mod Taking
+pub mod Without
+pub mod Noted

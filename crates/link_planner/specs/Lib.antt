@@ -5,4 +5,5 @@ pub mod Shrinking
 pub mod Growing
 pub mod Depths
 pub mod Phases
+pub mod Deletions
 pub mod LinkPlans

@@ -1,7 +1,11 @@
 //! A plan in the making.
-ghost use Rattle.std.specs.Prelude.{◌≡◌, [], IfOk, IfSome, OnOk, MatchOption};
+ghost use Rattle.std.specs.Prelude.{◌≡◌, true, [], IfOk, IfSome, OnOk, MatchOption};
+ghost use Rattle.net_model.specs.Words.{is_among, rises};
+ghost use Rattle.net_model.specs.Order.{name_cmp};
 ghost use Rattle.net_model.specs.Hardware.{hardware};
-ghost use Rattle.link_planner.specs.Drafts.{Holds, IsSafe, draft_of, with_call, with_some};
+ghost use Rattle.net_model.specs.NetData.{IsNet};
+ghost use Rattle.net_model.specs.Edits.{without};
+ghost use Rattle.link_planner.specs.Drafts.{Holds, IsSafe, draft_of, with_call, with_deleted, with_some};
 ghost use Rattle.link_planner.specs.Kept.{is_kept};
 ghost use Rattle.link_planner.specs.Pairs.{AreUnpaired, ArePair};
 
@@ -30,6 +34,20 @@ impl<'a> Model for Draft<'a> {
     ghost view = { λ d. draft_of d.start.now d.target.now d.net d.calls.items };
 
     ghost invariant = { λ d. IsDraft (draft_of d.start.now d.target.now d.net d.calls.items) };
+}
+
+// Takes out the links of these names, which are sorted, and the routes over them.
+fn remove_links(net: &mut Net, goes: &[Name])
+    requires names { rises name_cmp goes.now ≡ true }
+    requires left { IsNet (without (is_among goes.now) net.old) }
+    ensures { net.new ≡ without (is_among goes.now) net.old }
+{
+    if goes.is_empty() {
+        return;
+    }
+    let mut parts = net.take();
+    parts.remove_links(goes);
+    *net = Net::from_parts(parts);
 }
 
 impl<'a> Draft<'a> {
@@ -121,6 +139,22 @@ impl<'a> Draft<'a> {
             Some(call) => self.add(call),
             None => Ok(()),
         }
+    }
+
+    // Takes out the links of these names, which are sorted, all at once, and adds the calls that delete them.
+    pub(crate) fn take_out(
+        &mut self,
+        goes: &[Name],
+        calls: &mut Vec<Call>,
+    ) -> Result<(), OutOfMemory>
+        requires names { rises name_cmp goes.now ≡ true }
+        requires holds { Holds (with_deleted goes.now calls.old.items self.old) }
+        ensures made { OnOk result (self.new ≡ with_deleted goes.now calls.old.items self.old) }
+        ensures moved { OnOk result (calls.new.items ≡ []) }
+    {
+        self.calls.append(calls)?;
+        remove_links(&mut self.net, goes);
+        Ok(())
     }
 
     /// The calls, and the network to which they have led.

@@ -1,6 +1,6 @@
-//! The phases of a plan for links, and the one loop over names that carries them out.
+//! The phases of a plan for links, and the loop over names that carries them out.
 ghost use Rattle.std.specs.Prelude.{OnOk};
-ghost use Rattle.link_planner.specs.Phases.{HasRun, IsDue, IsOrder, Serves, Stands, builds, rank};
+ghost use Rattle.link_planner.specs.Phases.{HasRun, IsDue, IsOrder, IsServed, Serves, Stands, builds, rank};
 
 use crate::create::create_link;
 use crate::delete::delete_link;
@@ -64,6 +64,16 @@ fn call_for(draft: &Draft, phase: Phase, name: &Name) -> Option<Call>
     }
 }
 
+/// Carries out a phase for a name.
+pub fn serve(draft: &mut Draft, phase: Phase, name: &Name) -> Result<(), OutOfMemory>
+    requires { IsDue phase draft.old name.now }
+    ensures { OnOk result (IsServed phase name.now draft.old draft.new) }
+{
+    let call = call_for(draft, phase, name);
+    draft.add_some(call)?;
+    Ok(())
+}
+
 /// Carries out a phase for the names, one after the other.
 pub fn run(draft: &mut Draft, phase: Phase, names: &[Name]) -> Result<(), OutOfMemory>
     requires stands { Stands (builds phase) (rank phase) draft.old }
@@ -71,8 +81,7 @@ pub fn run(draft: &mut Draft, phase: Phase, names: &[Name]) -> Result<(), OutOfM
     ensures { OnOk result (HasRun phase names.now draft.old draft.new) }
 {
     for name in names {
-        let call = call_for(draft, phase, name);
-        draft.add_some(call)?;
+        serve(draft, phase, name)?;
     }
     Ok(())
 }

@@ -6,6 +6,7 @@ ghost use Rattle.link_planner.specs.Growing.{IsToward};
 ghost use Rattle.link_planner.specs.LinkPlans.{MayPlanLinks, IsReady, ReachesLinks, IsLinkPlan};
 ghost use Rattle.link_planner.specs.Shrinking.{KeepsRulesAndDns};
 
+use crate::deletions::delete_links;
 use crate::draft::Draft;
 use crate::order::orders_of;
 use crate::phase::{Phase, run};
@@ -36,7 +37,7 @@ fn take_away(alloc: Global, draft: &mut Draft) -> Result<(), OutOfMemory>
     let orders = orders_of(alloc, draft.start())?;
     run(draft, Phase::DetachPorts, &orders.names)?;
     run(draft, Phase::TakeLinksDown, &orders.upward)?;
-    run(draft, Phase::DeleteLinks, &orders.downward)?;
+    delete_links(alloc, draft, &orders.downward)?;
     draft.laws();
     Ok(())
 }
