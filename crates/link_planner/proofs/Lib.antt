@@ -34,3 +34,5 @@ pub mod Building
 pub mod Taking
 pub mod Without
 pub mod Noted
+pub mod Joining
+pub mod Creating

@@ -1,5 +1,5 @@
--- Members of lists that pass two tests.
-use Rattle.std.proofs.Common.{◌≡◌, Bool, true, false, ◌||◌, cond, List, [], ◌∷◌, filter, refl, sym, ap, ◌∙◌}
+-- Lists: members that pass two tests, and none at all.
+use Rattle.std.proofs.Common.{◌≡◌, ◌==◌, suc, Bool, true, false, ◌||◌, cond, List, [], ◌∷◌, filter, length, refl, sym, ap, ◌∙◌, arith, eqb-true}
 use Rattle.std.specs.List.{list_any, list_all}
 use Rattle.net_model.proofs.lemmas.Truth.{and_left, and_right}
 use Rattle.net_model.proofs.lemmas.Parts.{none_filter}
@@ -37,3 +37,8 @@ any_was p keep xs some =
 pub filter_all : {X : Type 0} (p : X → Bool) (xs : List X) → list_all p xs ≡ true → filter p xs ≡ xs
 filter_all p [] each = refl
 filter_all p (x ∷ xs) each = rw (and_left (p x) (list_all p xs) each) (ap (λ (rest : List _). x ∷ rest) (filter_all p xs (and_right (p x) (list_all p xs) each)))
+
+-- a list of no length has no member
+pub none_long : {X : Type 0} (xs : List X) → (length xs == 0) ≡ true → xs ≡ []
+none_long [] h = refl
+none_long (x ∷ xs) h = let e : suc (length xs) ≡ 0 = eqb-true (suc (length xs)) 0 h in absurd (omega (arith, e))

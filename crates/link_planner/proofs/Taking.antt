@@ -36,11 +36,6 @@ primaries net is = by_name (has_primary_port net.links) net.links (names_differ-
         let p = primary_port net is l.name port l own e in
         among_ports net.links l.name port ∙ found_passing (is_port_of l.name) net.links port p.0 p.1 (ap (λ o. option_map_or (λ c. same_bytes c l.name) o false) p.2 ∙ itself l.name)
 
--- a list of no length has no name
-pub none_long : (names : List (List ℕ)) → (length names == 0) ≡ true → names ≡ []
-none_long [] h = refl
-none_long (n ∷ ns) h = let e : suc (length ns) ≡ 0 = eqb-true (suc (length ns)) 0 h in absurd (omega (arith, e))
-
 all_after : (k : List ℕ) (ks : List (List ℕ)) → AllByRecursion (λ m. name_cmp k m ≡ Less) ks → list_all (λ m. is_lt (name_cmp k m)) ks ≡ true
 all_after k [] h = refl
 all_after k (m ∷ ms) h = and_both (is_lt (name_cmp k m)) (list_all (λ q. is_lt (name_cmp k q)) ms) (ap is_lt h.0) (all_after k ms h.1)

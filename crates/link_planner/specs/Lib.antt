@@ -6,4 +6,5 @@ pub mod Growing
 pub mod Depths
 pub mod Phases
 pub mod Deletions
+pub mod Creations
 pub mod LinkPlans

@@ -1,19 +1,20 @@
 //! A plan in the making.
-ghost use Rattle.std.specs.Prelude.{◌≡◌, true, [], IfOk, IfSome, OnOk, MatchOption};
-ghost use Rattle.net_model.specs.Words.{is_among, rises};
-ghost use Rattle.net_model.specs.Order.{name_cmp};
+ghost use Rattle.std.specs.Prelude.{◌≡◌, ◌++◌, true, [], IfOk, IfSome, OnOk, OnErr, MatchOption, IsPermutation, IsSorted};
+ghost use Rattle.net_model.specs.Words.{is_among, rises, sorted};
+ghost use Rattle.net_model.specs.Order.{link_cmp, name_cmp};
+ghost use Rattle.net_model.specs.Valid.{names_differ};
 ghost use Rattle.net_model.specs.Hardware.{hardware};
 ghost use Rattle.net_model.specs.NetData.{IsNet};
 ghost use Rattle.net_model.specs.Edits.{without};
-ghost use Rattle.link_planner.specs.Drafts.{Holds, IsSafe, draft_of, with_call, with_deleted, with_some};
+ghost use Rattle.link_planner.specs.Drafts.{Holds, IsSafe, draft_of, with_call, with_created, with_deleted, with_links, with_some};
 ghost use Rattle.link_planner.specs.Kept.{is_kept};
 ghost use Rattle.link_planner.specs.Pairs.{AreUnpaired, ArePair};
 
 use crate::kept::is_kept;
 use kernel_step::{StepFault, step};
-use net_model::{Call, Link, Name, Net, OutOfMemory};
+use net_model::{Call, Link, Name, Net, OutOfMemory, Parts, Route, Rule};
 use plan_model::plan_laws;
-use std::alloc::Global;
+use std::alloc::{AllocError, Global};
 use std::marker::Model;
 
 /// A plan in the making: the two networks between which it is to lead, its calls so far, each accepted, and the network to
@@ -48,6 +49,69 @@ fn remove_links(net: &mut Net, goes: &[Name])
     let mut parts = net.take();
     parts.remove_links(goes);
     *net = Net::from_parts(parts);
+}
+
+fn copy_links(links: &Vec<Link>) -> Result<Vec<Link>, AllocError>
+    ensures { IfOk result (λ copy. copy.items ≡ links.now.items) }
+{
+    links.clone()
+}
+
+fn copy_routes(routes: &Vec<Route>) -> Result<Vec<Route>, AllocError>
+    ensures { IfOk result (λ copy. copy.items ≡ routes.now.items) }
+{
+    routes.clone()
+}
+
+fn copy_rules(rules: &Vec<Rule>) -> Result<Vec<Rule>, AllocError>
+    ensures { IfOk result (λ copy. copy.items ≡ rules.now.items) }
+{
+    rules.clone()
+}
+
+// Where two sorted lists follow one another, this is one merge.
+fn sort_links(links: &mut Vec<Link>) -> Result<(), AllocError>
+    ensures sorted { OnOk result (IsSorted link_cmp links.new.items) }
+    ensures moved { IsPermutation links.old.items links.new.items }
+{
+    links.sort_by_key(|link| link.name)
+}
+
+// The links, and others, in order.
+fn joined(links: &Vec<Link>, more: &mut Vec<Link>) -> Result<Vec<Link>, AllocError>
+    requires { names_differ (links.now.items ++ more.old.items) ≡ true }
+    ensures { IfOk result (λ all. all.items ≡ sorted link_cmp (links.now.items ++ more.old.items)) }
+{
+    let mut all = copy_links(links)?;
+    all.append(more)?;
+    sort_links(&mut all)?;
+    Ok(all)
+}
+
+// The lists of the network with these links too.
+fn parts_with(alloc: Global, net: &Net, more: &mut Vec<Link>) -> Result<Parts, OutOfMemory>
+    requires { names_differ (net.now.links ++ more.old.items) ≡ true }
+    ensures { IfOk result (λ parts. parts ≡ with_links more.old.items net.now) }
+{
+    let links = joined(net.links(), more)?;
+    let routes = copy_routes(net.routes())?;
+    let rules = copy_rules(net.rules())?;
+    Parts::of(alloc, links, routes, rules, net.dns().copy()?)
+}
+
+// Puts these links into the network. It is made anew from lists of its own, since it has to stand where memory runs out.
+fn put_links(alloc: Global, net: &mut Net, more: &mut Vec<Link>) -> Result<(), OutOfMemory>
+    requires { IsNet (with_links more.old.items net.old) }
+    ensures ok { OnOk result (net.new ≡ with_links more.old.items net.old) }
+    ensures err { OnErr result (net.new ≡ net.old) }
+{
+    net.laws();
+    if more.is_empty() {
+        return Ok(());
+    }
+    let parts = parts_with(alloc, net, more)?;
+    *net = Net::from_parts(parts);
+    Ok(())
 }
 
 impl<'a> Draft<'a> {
@@ -154,6 +218,22 @@ impl<'a> Draft<'a> {
     {
         self.calls.append(calls)?;
         remove_links(&mut self.net, goes);
+        Ok(())
+    }
+
+    // Puts these links in, all at once, and adds the calls that make them.
+    pub(crate) fn put_in(
+        &mut self,
+        alloc: Global,
+        links: &mut Vec<Link>,
+        calls: &mut Vec<Call>,
+    ) -> Result<(), OutOfMemory>
+        requires { Holds (with_created links.old.items calls.old.items self.old) }
+        ensures { OnOk result (self.new ≡ with_created links.old.items calls.old.items self.old) }
+    {
+        self.calls.reserve(calls.len())?;
+        put_links(alloc, &mut self.net, links)?;
+        self.calls.append(calls)?;
         Ok(())
     }
 

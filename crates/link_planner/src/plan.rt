@@ -6,6 +6,7 @@ ghost use Rattle.link_planner.specs.Growing.{IsToward};
 ghost use Rattle.link_planner.specs.LinkPlans.{MayPlanLinks, IsReady, ReachesLinks, IsLinkPlan};
 ghost use Rattle.link_planner.specs.Shrinking.{KeepsRulesAndDns};
 
+use crate::creations::create_links;
 use crate::deletions::delete_links;
 use crate::draft::Draft;
 use crate::order::orders_of;
@@ -49,7 +50,7 @@ fn build_up(alloc: Global, draft: &mut Draft) -> Result<(), OutOfMemory>
     ensures advances { OnOk result (Advances (9 * length draft.old.target.links) draft.old draft.new) }
 {
     let orders = orders_of(alloc, draft.target())?;
-    run(draft, Phase::CreateLinks, &orders.upward)?;
+    create_links(alloc, draft, &orders.upward)?;
     run(draft, Phase::RaiseMtus, &orders.upward)?;
     run(draft, Phase::LowerMtus, &orders.downward)?;
     run(draft, Phase::SetMacs, &orders.names)?;

@@ -5,7 +5,8 @@ use Rattle.net_model.specs.Order.{link_cmp}
 use Rattle.net_model.specs.Valid.{vlans_differ}
 use Rattle.net_model.specs.Edits.{has_primary_port, without}
 use Rattle.net_model.specs.NetData.{NetData, IsNet}
-use Rattle.link_planner.proofs.Taking.{twins, primaries, none_long}
+use Rattle.link_planner.proofs.Lists.{none_long}
+use Rattle.link_planner.proofs.Taking.{twins, primaries}
 use Rattle.link_planner.proofs.Without.{without_none}
 use Rattle.link_planner.proofs.draft.remove_links.Goals as goal
 
