@@ -2,9 +2,9 @@
 ghost use Rattle.std.specs.Prelude.{◌≡◌, ℕ, true};
 ghost use Rattle.document_model.specs.Entries.{is_document};
 ghost use Rattle.top_model.specs.Orders.{generating};
-ghost use Rattle.nmstate_top.specs.Carried.{Carried};
-ghost use Rattle.nmstate_top.specs.First.{is_hardware};
-ghost use Rattle.nmstate_top.specs.Worked.{work_cause, Works};
+ghost use Rattle.command_laws.specs.Carried.{Carried};
+ghost use Rattle.command_laws.specs.First.{is_hardware};
+ghost use Rattle.command_laws.specs.Worked.{work_cause, Works};
 
 use answer_text::{summary_lines, tell_done, tell_refused};
 use base_model::Items;

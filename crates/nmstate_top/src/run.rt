@@ -7,28 +7,21 @@ ghost use Rattle.top_model.specs.Commands.{Promised, Commanded};
 ghost use Rattle.top_model.specs.Promises.{StandsApart};
 ghost use Rattle.top_model.specs.Runs.{run_of};
 ghost use Rattle.top_model.specs.Scripts.{file_of};
-ghost use Rattle.nmstate_top.specs.Carried.{Carried};
-ghost use Rattle.nmstate_top.specs.First.{has_hardware};
-ghost use Rattle.nmstate_top.specs.Words.{RanWords};
-ghost use Rattle.nmstate_top.specs.Worked.{works_apart};
+ghost use Rattle.command_laws.specs.Carried.{Carried};
+ghost use Rattle.command_laws.specs.First.{has_hardware};
+ghost use Rattle.command_laws.specs.Words.{RanWords};
+ghost use Rattle.command_laws.specs.Worked.{works_apart};
 
-use crate::apply::apply_run;
-use crate::check::check_run;
-use crate::commit::commit_run;
 use crate::generate::generate_run;
-use crate::init::init_run;
-use crate::plan::plan_run;
-use crate::policy::{plan_policy_run, policy_run};
-use crate::policy_apply::apply_policy_run;
-use crate::recover::recover_run;
-use crate::rollback::rollback_run;
 use crate::script::run_file;
-use crate::show::show_run;
-use crate::simulate::simulate_run;
 use answer_text::tell_refused;
 use base_model::{OutOfMemory, Str};
+use engine_commands::{
+    apply_policy_run, apply_run, check_run, commit_run, recover_run, rollback_run,
+};
 use host_core::{Clock, Host, Sink, Source};
 use order_reading::{Order, read_order, script_file};
+use plain_commands::{init_run, plan_policy_run, plan_run, policy_run, show_run, simulate_run};
 use std::alloc::Global;
 use top_model::{Cause, Report};
 

@@ -13,9 +13,9 @@ use crate::telling::{finished, tell_applied, tell_stop, tell_unlisted};
 use answer_text::note_text;
 use boot_service::{ServeFault, serve_one};
 use document_model::Doc;
+use engine_commands::apply_cause;
 use host_core::{Clock, Folder, Host, NamesFault, Sink};
 use net_model::Domain;
-use nmstate_top::apply_cause;
 use std::alloc::Global;
 use top_model::{Cause, Report};
 

@@ -2,9 +2,9 @@ use Rattle.std.proofs.Common.{◌≡◌, true, sym, subst, List}
 use Rattle.std.specs.Prelude.{Ok, Err}
 use Rattle.net_model.specs.declared.Link.{Link}
 use Rattle.host_memory.specs.HostMemory.{told_of}
-use Rattle.nmstate_top.specs.First.{is_hardware}
-use Rattle.nmstate_top.specs.Worked.{Works, work_cause}
-use Rattle.nmstate_top.proofs.Generates.{worked_counts, worked_fault}
+use Rattle.command_laws.specs.First.{is_hardware}
+use Rattle.command_laws.specs.Worked.{Works, work_cause}
+use Rattle.command_laws.proofs.lemmas.Generates.{worked_counts, worked_fault}
 use Rattle.nmstate_top.proofs.generate.worked_on.Goals as goal
 
 pub work-requires-clause-hardware : goal.work-requires-clause-hardware

@@ -10,10 +10,10 @@ use Rattle.top_model.specs.Taking.{file_read}
 use Rattle.top_model.specs.Runs.{run_of}
 use Rattle.top_model.specs.Answered.{Answered}
 use Rattle.top_model.specs.declared.report.Cause.{Cause}
-use Rattle.nmstate_top.proofs.Hardware.{hardware_right}
-use Rattle.nmstate_top.proofs.Named.{generate_named, generate_reads_none}
-use Rattle.nmstate_top.proofs.Refusals.{refusing}
-use Rattle.nmstate_top.proofs.Takes.{takes_asked, takes_refused, told_of}
+use Rattle.command_laws.proofs.lemmas.Hardware.{hardware_right}
+use Rattle.command_laws.proofs.lemmas.Named.{generate_named, generate_reads_none}
+use Rattle.command_laws.proofs.lemmas.Refusals.{refusing}
+use Rattle.command_laws.proofs.lemmas.Takes.{takes_asked, takes_refused, told_of}
 use Rattle.nmstate_top.proofs.run.run_one.Goals as goal
 
 abbrev taken : Order → Result Order Cause

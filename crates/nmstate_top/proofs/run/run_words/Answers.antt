@@ -8,9 +8,9 @@ use Rattle.top_model.specs.declared.report.Cause.TheVariants.{OutOfMemory}
 use Rattle.top_model.proofs.lemmas.Scripted.{ran_out as script_ran_out}
 use Rattle.top_model.proofs.lemmas.Wanting.{may_want_words}
 use Rattle.answer_text.proofs.lemmas.Told.{told_refused}
-use Rattle.nmstate_top.proofs.Files.{refused}
-use Rattle.nmstate_top.proofs.Refusals.{ran_out}
-use Rattle.nmstate_top.proofs.Takes.{nothing_taken, told_of}
+use Rattle.command_laws.proofs.lemmas.Files.{refused}
+use Rattle.command_laws.proofs.lemmas.Refusals.{ran_out}
+use Rattle.command_laws.proofs.lemmas.Takes.{nothing_taken, told_of}
 use Rattle.nmstate_top.proofs.run.run_words.Goals as goal
 
 pub run_named-requires : goal.run_named-requires

@@ -5,7 +5,7 @@ use Rattle.top_model.specs.Runs.{run_of}
 use Rattle.top_model.specs.StepsRun.{world}
 use Rattle.top_model.specs.ScriptRuns.{RanFrom}
 use Rattle.top_model.proofs.lemmas.Scripted.{folded_read}
-use Rattle.nmstate_top.proofs.Files.{run, refused}
+use Rattle.command_laws.proofs.lemmas.Files.{run, refused}
 use Rattle.nmstate_top.proofs.script.run_file.Goals as goal
 
 pub returns-in-Ok : goal.returns-in-Ok

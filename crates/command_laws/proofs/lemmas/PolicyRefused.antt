@@ -1,0 +1,77 @@
+-- An apply of a policy that ends before the change: how it is told, and where the policy is no document on the network that was dumped.
+use Rattle.std.proofs.Common.{[], ◌≡◌, inl, refl, subst, ℕ, ◌++◌}
+use Rattle.std.specs.Prelude.{Result, Ok, Err}
+use Rattle.net_model.specs.NetData.{NetData}
+use Rattle.document_model.specs.declared.Doc.{Doc}
+use Rattle.policy_model.specs.Values.{PolicyData}
+use Rattle.host_core.specs.HostView.{HostView}
+use Rattle.engine_model.specs.declared.Recovered.{Recovered}
+use Rattle.engine_model.specs.declared.BackFault.{BackFault}
+use Rattle.engine_model.specs.declared.BackFault.TheVariants as ba
+use Rattle.host_core.specs.declared.DumpFault.{DumpFault}
+use Rattle.host_core.specs.declared.DumpFault.TheVariants as du
+use Rattle.engine_model.specs.declared.ApplyFault.TheVariants.{HostFault, KernelRefused, Damaged, HardwareDiffers, OutOfMemory}
+use Rattle.engine_model.specs.declared.ApplyOpts.{ApplyOpts}
+use Rattle.top_model.specs.Orders.{Inputs, Order, document_on, applying_policy, order_of}
+use Rattle.top_model.specs.Texts.{error_line}
+use Rattle.top_model.specs.Runs.{Run, MayRead}
+use Rattle.top_model.specs.Grounds.{Grounds}
+use Rattle.top_model.specs.Told.{ErrTextOn, Told}
+use Rattle.top_model.specs.Answered.{GoesOn, Answered}
+use Rattle.top_model.specs.declared.report.DocFault.{DocFault}
+use Rattle.top_model.specs.declared.report.Cause.{Cause}
+use Rattle.top_model.specs.declared.report.Cause.TheVariants as cause
+use Rattle.top_model.proofs.lemmas.Deriving.{late}
+use Rattle.answer_text.specs.Speaking.{Spoken}
+use Rattle.answer_text.proofs.lemmas.Told.{starved_line, told_refused}
+use Rattle.order_reading.specs.Reading.{Answers, itself}
+use Rattle.command_laws.specs.Begun.{look_cause, Seen}
+use Rattle.command_laws.proofs.lemmas.EndsEarly.{recovery_cause, refused_late, ran_out}
+use Rattle.command_laws.proofs.lemmas.Evaluates.{document_refused}
+
+-- a refusal was told, with the cause that was made of a fault
+pub told_plain : (r : Run) (order : Result Order Cause) (c named : Cause) → c ≡ named → ErrTextOn (Grounds r order) order named (error_line named)
+    → Spoken r.sinks_tell c [] ([] ++ error_line c) r.out r.out_after r.err r.err_after r.report → Told r order (Err named)
+told_plain r order c named is plain spoken = told_refused r order named [] plain (subst (λ (x : Cause). Spoken r.sinks_tell x [] ([] ++ error_line x) r.out r.out_after r.err r.err_after r.report) is spoken)
+
+module _ (on : NetData → Type 0) (p : PolicyData) (opts : ApplyOpts) where
+  pub recovery_err : (fault : BackFault) → ErrTextOn on (Ok (applying_policy p opts)) (recovery_cause fault) (error_line (recovery_cause fault))
+  recovery_err ba.NoCheckpoint = inl refl
+  recovery_err (ba.HostFault left) = inl refl
+  recovery_err (ba.KernelRefused k n left) = inl refl
+  recovery_err (ba.Damaged area) = inl refl
+  recovery_err (ba.HardwareDiffers names) = inl refl
+  recovery_err ba.OutOfMemory = inl refl
+
+  pub look_err : (done : Recovered) (fault : DumpFault) → ErrTextOn on (Ok (applying_policy p opts)) (look_cause done fault) (error_line (look_cause done fault))
+  look_err done du.Failed = inl refl
+  look_err done du.Damaged = inl refl
+  look_err done du.OutOfMemory = inl refl
+
+-- ---- the policy is no document on the network that was dumped
+
+line_fault : (n : ℕ) (fault : DocFault) → cause.BadLine n ≡ cause.DocRefused fault → ⊥
+line_fault n fault e = cc
+
+batch_fault : (n : ℕ) (fault : DocFault) → cause.BatchLine n ≡ cause.DocRefused fault → ⊥
+batch_fault n fault e = cc
+
+large_fault : (fault : DocFault) → cause.BatchLarge ≡ cause.DocRefused fault → ⊥
+large_fault fault e = cc
+
+module _ (r : Run) (p : PolicyData) (opts : ApplyOpts) (inputs : Inputs) (may_read : MayRead r inputs) (is : order_of r.in_script inputs r.words ≡ Ok (applying_policy p opts))
+    (done : Recovered) (mid : HostView) (net : NetData) (seen : Seen r.host_tells r.honest r.now done r.host mid r.host_after net) (goes_on : GoesOn r) where
+  abbrev refused_as : Cause → Result Doc Cause
+  refused_as c = Err c
+
+  pub no_document : (c : Cause) → Answers itself (document_on p net) (refused_as c) → Spoken r.sinks_tell c [] ([] ++ error_line c) r.out r.out_after r.err r.err_after r.report → Answered r
+  no_document (cause.DocRefused fault) refused spoken =
+      refused_late r p opts inputs may_read is done seen.begun.clear mid seen.begun.recovers net seen.looks fault refused (document_refused fault p net refused) goes_on
+      (told_refused r (Ok (applying_policy p opts)) (cause.DocRefused fault) [] refl spoken)
+  no_document (cause.BadLine n) refused spoken = let is_refusal = late p net (cause.BadLine n) refused in absurd (line_fault n is_refusal.0 is_refusal.1)
+  no_document (cause.BatchLine n) refused spoken = let is_refusal = late p net (cause.BatchLine n) refused in absurd (batch_fault n is_refusal.0 is_refusal.1)
+  no_document cause.BatchLarge refused spoken = let is_refusal = late p net cause.BatchLarge refused in absurd (large_fault is_refusal.0 is_refusal.1)
+  no_document cause.OutOfMemory refused spoken =
+      ran_out r p opts inputs may_read is done seen.begun.clear mid seen.begun.recovers net seen.looks goes_on
+      (told_refused r (Ok (applying_policy p opts)) cause.OutOfMemory [] (starved_line (Grounds r (Ok (applying_policy p opts))) (Ok (applying_policy p opts))) spoken)
+  no_document c refused spoken = absurd refused

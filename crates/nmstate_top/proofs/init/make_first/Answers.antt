@@ -1,7 +1,0 @@
-use Rattle.std.proofs.Common.{sym, subst}
-use Rattle.host_core.specs.HostView.{IsFirst}
-use Rattle.nmstate_top.proofs.Makes.{first_is}
-use Rattle.nmstate_top.proofs.init.make_first.Goals as goal
-
-pub make-requires : goal.make-requires
-make-requires g c = subst IsFirst (sym c.in-Ok.ensures) (first_is c.args.links c.requires)
