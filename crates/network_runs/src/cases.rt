@@ -12,10 +12,11 @@
 //! In lists and documents a bar stands for a line's end. A call that is refused changes nothing.
 
 use crate::calls::call;
-use crate::networks::{copied, first, is_same, merged, try_call};
+use crate::networks::{copied, first, merged, try_call};
 use crate::printing::is_printed;
 use crate::reading::{number, text_of};
 use anyhow::{Result, anyhow};
+use net_equal::same_net;
 use net_model::Net;
 use std::alloc::Global;
 
@@ -94,7 +95,7 @@ fn differs(
     let mut said = String::new(alloc);
     match answer {
         Some(number) => {
-            if !is_same(before, net) {
+            if !same_net(before, net) {
                 said.push_str("a refused call changes the network")?;
             }
             let found = format!(in alloc; "{number}")?;
@@ -108,7 +109,7 @@ fn differs(
                 return Ok(said);
             }
             match find(networks, wanted) {
-                Ok(named) if is_same(&named.net, net) => {}
+                Ok(named) if same_net(&named.net, net) => {}
                 _ => said.push_str("done")?,
             }
         }

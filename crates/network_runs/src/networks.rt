@@ -87,9 +87,3 @@ pub fn try_call(net: &mut Net, call: &Call) -> Result<Option<u8>> {
         Err(StepFault::OutOfMemory) => Err(anyhow!("out of memory")),
     }
 }
-
-/// Whether the networks are equal in all their parts.
-pub fn is_same(one: &Net, other: &Net) -> bool {
-    let is_same_inside = one.links() == other.links() && one.routes() == other.routes();
-    is_same_inside && one.rules() == other.rules() && one.dns() == other.dns()
-}

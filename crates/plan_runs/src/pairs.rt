@@ -5,6 +5,7 @@ use crate::draws::{Draws, name_at};
 use crate::seen::{count, kind_of_call, shapes};
 use anyhow::{Result, anyhow};
 use kernel_step::{StepFault, step};
+use net_equal::same_net;
 use net_model::{
     BondOpts, BridgeOpts, Call, DEFAULT_MTU, Dns, Items, Kind, Link, Mac, Net, OutOfMemory,
     PortOpts,
@@ -65,11 +66,6 @@ fn is_refused(net: &mut Net, call: &Call) -> Result<bool> {
     }
 }
 
-fn is_same(one: &Net, other: &Net) -> bool {
-    let is_same_inside = one.links() == other.links() && one.routes() == other.routes();
-    is_same_inside && one.rules() == other.rules() && one.dns() == other.dns()
-}
-
 fn calls_between(alloc: Global, from: &Net, to: &Net) -> Result<Vec<Call>> {
     if !from.same_hardware(to) {
         return Err(anyhow!("other hardware"));
@@ -126,7 +122,7 @@ impl Pairs {
                 self.refused = self.refused.wrapping_add(1);
             }
         }
-        if !is_same(&work, to) {
+        if !same_net(&work, to) {
             self.differ = self.differ.wrapping_add(1);
         }
         self.calls = self.calls.wrapping_add(calls.len() as u64);

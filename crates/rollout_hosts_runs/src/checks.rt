@@ -3,12 +3,13 @@
 ghost use Rattle.std.specs.Prelude.{◌≡◌, true};
 ghost use Rattle.document_model.specs.Entries.{is_document};
 
-use crate::documents::{document, is_same, merged};
+use crate::documents::{document, merged};
 use crate::nodes::Node;
 use crate::rollouts::{head_of, moments, nodes, roll};
 use base_model::push_decimal;
 use document_model::Doc;
 use engine_core::recover;
+use net_equal::same_net;
 use net_model::Net;
 use rollout_core::{Core, Event, MAX_NODES, NodeState};
 use std::alloc::Global;
@@ -48,7 +49,7 @@ pub fn entries(alloc: Global, nodes: &[Node], doc: &Doc) -> Option<Vec<Entry>>
 
 fn is_net(net: Option<&Net>, wanted: &Option<Net>) -> bool {
     match (net, wanted) {
-        (Some(net), Some(wanted)) => is_same(net, wanted),
+        (Some(net), Some(wanted)) => same_net(net, wanted),
         (None, None) => true,
         _ => false,
     }
@@ -210,7 +211,7 @@ fn is_as_told(
 }
 
 /// Which stops are looked at: one at each moment, or none.
-#[derive(Clone, Copy, PartialEq, Eq)]
+#[derive(Clone, Copy)]
 pub enum Stops {
     Each,
     None,

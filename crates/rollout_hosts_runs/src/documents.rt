@@ -67,9 +67,3 @@ pub fn merged(alloc: Global, net: &Net, doc: &Doc) -> Option<Net>
 {
     merge(alloc, net, doc).ok()
 }
-
-/// Whether the networks are equal in all their parts.
-pub fn is_same(one: &Net, other: &Net) -> bool {
-    let is_same_inside = one.links() == other.links() && one.routes() == other.routes();
-    is_same_inside && one.rules() == other.rules() && one.dns() == other.dns()
-}

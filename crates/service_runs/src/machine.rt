@@ -182,9 +182,3 @@ impl Machine {
         Some(machine)
     }
 }
-
-/// Whether the networks are equal in all their parts.
-pub fn is_same(one: &Net, other: &Net) -> bool {
-    let is_same_inside = one.links() == other.links() && one.routes() == other.routes();
-    is_same_inside && one.rules() == other.rules() && one.dns() == other.dns()
-}

@@ -1,10 +1,11 @@
 //! Services one after another, and what they tell and leave.
 
 use crate::files::{copied, find, folder, read_files};
-use crate::machine::{Kind, Machine, is_same};
+use crate::machine::{Kind, Machine};
 use crate::program::Seen;
 use base_model::push_decimal;
 use boot_service::{FolderFile, FolderFuse};
+use net_equal::same_net;
 use std::alloc::Global;
 
 /// What stands after a service, with the files of its folder, and what it told.
@@ -113,7 +114,7 @@ fn apply_each(
 
 fn is_same_state(alloc: Global, one: &Machine, other: &Machine) -> bool {
     match (one.net(alloc), other.net(alloc)) {
-        (Some(one), Some(other)) => is_same(&one, &other),
+        (Some(one), Some(other)) => same_net(&one, &other),
         _ => false,
     }
 }

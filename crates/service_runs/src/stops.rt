@@ -1,10 +1,11 @@
 //! Stops of a service at each call, and what a recovery and another service make of them.
 
 use crate::files::{copied, first_marked, first_of, read_files, with_marks};
-use crate::machine::{Kind, Machine, Ran, is_same};
+use crate::machine::{Kind, Machine, Ran};
 use crate::services::{Served, fuse, serve};
 use base_model::push_decimal;
 use boot_service::FolderFile;
+use net_equal::same_net;
 use net_model::Net;
 use std::alloc::Global;
 
@@ -102,7 +103,7 @@ impl Course {
     // Whether the network that stands there is that of the first so many documents.
     fn is_net(&self, alloc: Global, machine: &Machine, count: u64) -> bool {
         match (machine.net(alloc), self.nets.get(count as usize)) {
-            (Some(net), Some(wanted)) => is_same(&net, wanted),
+            (Some(net), Some(wanted)) => same_net(&net, wanted),
             _ => false,
         }
     }

@@ -7,11 +7,12 @@ use base_model::OutOfMemory;
 use disk_host::DiskHost;
 use host_core::{Area, DumpFault, Host};
 use host_memory::{Fuse, LyingHost, MemoryDisk, MemoryHost, RefusingHost};
+use net_equal::same_net;
 use net_model::Net;
 use std::alloc::Global;
 
 /// The host of all commands: in memory, or over a disk.
-#[derive(Clone, Copy, Debug, PartialEq, Eq)]
+#[derive(Clone, Copy, PartialEq, Eq)]
 pub enum Kind {
     Memory,
     Disk,
@@ -52,15 +53,10 @@ fn dumped<H: Host>(alloc: Global, host: &mut H) -> Result<Option<Net>> {
 /// Whether the networks are equal in all their parts, or both are none.
 pub fn is_same(one: &Option<Net>, other: &Option<Net>) -> bool {
     match (one, other) {
-        (Some(one), Some(other)) => is_same_net(one, other),
+        (Some(one), Some(other)) => same_net(one, other),
         (None, None) => true,
         _ => false,
     }
-}
-
-fn is_same_net(one: &Net, other: &Net) -> bool {
-    let is_same_inside = one.links() == other.links() && one.routes() == other.routes();
-    is_same_inside && one.rules() == other.rules() && one.dns() == other.dns()
 }
 
 fn memory(alloc: Global, host: &MemoryHost, fuses: Vec<Fuse>) -> Result<MemoryHost> {
