@@ -8,7 +8,7 @@ use crate::dotted::read_dotted;
 use crate::find::{behind, find_gap, find_sign};
 
 // What the last part of a run may be.
-#[derive(Clone, Copy, PartialEq, Eq)]
+#[derive(Clone, Copy)]
 pub(crate) enum Last {
     Field,
     FieldOrDotted,

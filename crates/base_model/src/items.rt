@@ -1,14 +1,12 @@
 //! Lists that a struct owns.
 ghost use Rattle.std.specs.Prelude.{◌≡◌, ◌<◌, ◌≤◌, ◌++◌, ◌∷◌, [], length, slice_index_or, insert, remove, OnOk, OnErr};
-ghost use Rattle.std.specs.Cmp.Lexicographic.{pointwise, slice_cmp, slice_partial_cmp, lists_equiv, lists_agrees, lists_total, lists_ties, lists_per, lists_po};
 
 use crate::OutOfMemory;
-use std::cmp::Ordering;
 use std::marker::Model;
 
 /// An owned list. Contracts see the list of its items, so that two of them with the same items are equal values; a type
 /// that contracts compare has this in place of a vector.
-#[derive(Clone, Debug, Drop)]
+#[derive(Clone, Drop)]
 pub struct Items<T> {
     items: Vec<T>,
 }
@@ -81,44 +79,6 @@ impl<T> Items<T> {
         ensures { self.new ≡ [] }
     {
         self.items.clear();
-    }
-}
-
-impl<T: PartialEq> PartialEq for Items<T> {
-    ghost eq = { pointwise T.eq };
-
-    ghost laws = { lists_per T.laws };
-
-    fn eq(&self, other: &Items<T>) -> bool {
-        self.items == other.items
-    }
-}
-
-impl<T: Eq> Eq for Items<T> {
-    ghost laws = { lists_equiv T.Eq.laws };
-}
-
-impl<T: PartialOrd> PartialOrd for Items<T> {
-    ghost partial_cmp = { slice_partial_cmp T.partial_cmp };
-
-    ghost laws = { lists_po T.PartialOrd.laws };
-
-    fn partial_cmp(&self, other: &Items<T>) -> Option<Ordering> {
-        self.items.partial_cmp(&other.items)
-    }
-}
-
-impl<T: Ord> Ord for Items<T> {
-    ghost cmp = { slice_cmp T.cmp };
-
-    ghost total = { lists_total T.total };
-
-    ghost matches_partial_cmp = { lists_agrees T.matches_partial_cmp };
-
-    ghost matches_eq = { lists_ties T.cmp T.matches_eq };
-
-    fn cmp(&self, other: &Items<T>) -> Ordering {
-        self.items.cmp(&other.items)
     }
 }
 

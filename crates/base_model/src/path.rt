@@ -6,7 +6,6 @@ use crate::{Items, OutOfMemory, Str, push_decimal};
 use std::alloc::Global;
 
 /// One step down into a document.
-#[derive(Debug, PartialEq, Eq)]
 pub enum PathStep {
     /// To the value of a key of a map.
     Key(Str),
@@ -24,7 +23,7 @@ impl Drop for PathStep {
 }
 
 /// A place in a document: the steps that lead to it from the top.
-#[derive(Debug, PartialEq, Eq, Drop)]
+#[derive(Drop)]
 pub struct Path {
     pub steps: Items<PathStep>,
 }

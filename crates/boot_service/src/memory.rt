@@ -23,7 +23,7 @@ pub struct FolderFile {
 }
 
 /// A call that fails: its number, from 1, among all calls on the folder. `done` says of a mark that it is made all the same.
-#[derive(Clone, Copy, Debug, PartialEq, Eq)]
+#[derive(Clone, Copy)]
 pub struct FolderFuse {
     pub call: u64,
     pub done: bool,

@@ -4,7 +4,7 @@ use kernel_model::StepFault;
 use net_image::FieldFault;
 
 /// Why no call was read.
-#[derive(Clone, Copy, PartialEq, Eq)]
+#[derive(Clone, Copy)]
 pub enum RecordFault {
     /// The bytes are those of no call.
     Bad,
@@ -26,7 +26,7 @@ impl From<FieldFault> for RecordFault {
 }
 
 /// Why a journal wasn't replayed to its end.
-#[derive(Clone, Copy, PartialEq, Eq)]
+#[derive(Clone, Copy)]
 pub enum ReplayFault {
     /// An open gate isn't followed by a whole record of a call that is accepted there.
     Bad,

@@ -14,7 +14,7 @@ use net_image::{ImageFault, decode};
 use net_model::Net;
 use std::alloc::Global;
 
-#[derive(PartialEq, Eq, Drop)]
+#[derive(Drop)]
 pub enum CellFault {
     Failed,
     Damaged,

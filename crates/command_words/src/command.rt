@@ -18,7 +18,7 @@ pub const MIN_NODES: u32 = 1;
 pub const MAX_NODES: u32 = 64;
 
 /// A command with its arguments. A FILE that is missing is standard input.
-#[derive(PartialEq, Eq, Drop)]
+#[derive(Drop)]
 pub enum Command {
     Show {
         only: Option<Str>,

@@ -14,7 +14,7 @@ use serde_json::{Category, Map, Number, Value};
 use std::alloc::{AllocError, AllocFailed, Global};
 
 /// Why a text gives no tree. Of several causes the one that stands first here is answered.
-#[derive(PartialEq, Eq, Drop)]
+#[derive(Drop)]
 pub enum JsonFault {
     /// The text has more than [`MAX_BYTES`] bytes.
     TooLarge,

@@ -15,7 +15,7 @@ use serde_json::{Map, Value};
 use std::alloc::{AllocError, AllocFailed, Global};
 
 /// Why a tree has no JSON text.
-#[derive(Clone, Copy, PartialEq, Eq)]
+#[derive(Clone, Copy)]
 pub enum TextFault {
     /// An integer fits neither i64 nor u64.
     WideInt,

@@ -6,7 +6,7 @@ use document_model::Refused;
 use net_model::{Name, Net};
 
 /// What a command that met a fault leaves.
-#[derive(Clone, Copy, PartialEq, Eq)]
+#[derive(Clone, Copy)]
 pub enum Left {
     /// No kernel call was made and nothing was written to the checkpoint area.
     NotBegun,
@@ -17,7 +17,7 @@ pub enum Left {
 }
 
 /// How a change is made.
-#[derive(Clone, Copy, PartialEq, Eq)]
+#[derive(Clone, Copy)]
 pub struct ApplyOpts {
     pub no_commit: bool,
     pub no_verify: bool,
@@ -25,13 +25,13 @@ pub struct ApplyOpts {
     pub timeout: u32,
 }
 
-#[derive(Clone, Copy, PartialEq, Eq)]
+#[derive(Clone, Copy)]
 pub struct Applied {
     /// When a change that waits is taken back, in seconds.
     pub deadline: Option<u64>,
 }
 
-#[derive(Clone, Copy, PartialEq, Eq)]
+#[derive(Clone, Copy)]
 pub enum Recovered {
     Nothing,
     Waiting { deadline: u64 },
@@ -51,7 +51,7 @@ pub enum ApplyFault {
     OutOfMemory,
 }
 
-#[derive(Clone, Copy, PartialEq, Eq)]
+#[derive(Clone, Copy)]
 pub enum CommitFault {
     NoCheckpoint,
     Unfinished(u64, u64),
@@ -60,7 +60,7 @@ pub enum CommitFault {
     InDoubt,
 }
 
-#[derive(PartialEq, Eq, Drop)]
+#[derive(Drop)]
 pub enum BackFault {
     NoCheckpoint,
     HostFault(Left),
@@ -71,14 +71,14 @@ pub enum BackFault {
 }
 
 /// What stands: the number of links of the network, and the checkpoint.
-#[derive(Clone, Copy, PartialEq, Eq)]
+#[derive(Clone, Copy)]
 pub struct Checked {
     pub links: u32,
     pub cell: Seen,
 }
 
 /// Why what is stored can't be worked with, or wasn't seen.
-#[derive(PartialEq, Eq, Drop)]
+#[derive(Drop)]
 pub enum CheckFault {
     HostFault,
     Damaged(u8),

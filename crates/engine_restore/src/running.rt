@@ -13,7 +13,7 @@ use kernel_laws::step_laws;
 use net_model::Call;
 use std::alloc::Global;
 
-#[derive(PartialEq, Eq, Drop)]
+#[derive(Drop)]
 pub enum RunFault {
     Refused(u8, u64),
     Failed,

@@ -9,7 +9,7 @@ use net_model::Domain;
 use std::alloc::Global;
 
 /// Why a folder didn't give the names of its files.
-#[derive(Clone, Copy, Debug, PartialEq, Eq)]
+#[derive(Clone, Copy)]
 pub enum NamesFault {
     /// A call of the folder failed.
     Failed,

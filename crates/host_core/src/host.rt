@@ -10,7 +10,7 @@ use net_model::{Call, Net};
 use std::alloc::Global;
 
 /// Why a first network wasn't made.
-#[derive(Clone, Copy, Debug, PartialEq, Eq)]
+#[derive(Clone, Copy)]
 pub enum MakeFault {
     /// There is a network. Nothing changed.
     Exists,
@@ -21,7 +21,7 @@ pub enum MakeFault {
 }
 
 /// Why a host didn't give its network.
-#[derive(Clone, Copy, Debug, PartialEq, Eq)]
+#[derive(Clone, Copy)]
 pub enum DumpFault {
     Failed,
     /// There is no network.
@@ -30,7 +30,7 @@ pub enum DumpFault {
 }
 
 /// Why a call on the kernel wasn't answered Ok.
-#[derive(Clone, Copy, Debug, PartialEq, Eq)]
+#[derive(Clone, Copy)]
 pub enum CallFault {
     /// The kernel refuses the call, with the number of the refusal. Nothing changed.
     Refused(u8),

@@ -7,7 +7,7 @@ use host_core::{Failed, raised};
 
 /// A call that fails: its number, from 1, among all calls on the instance that can fail, and whether it is done all the
 /// same.
-#[derive(Clone, Copy, Debug, PartialEq, Eq)]
+#[derive(Clone, Copy, Debug)]
 pub struct Fuse {
     pub call: u64,
     pub done: bool,

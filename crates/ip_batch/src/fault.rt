@@ -7,7 +7,7 @@ use std::alloc::{AllocError, AllocFailed};
 pub const MAX_BATCH_BYTES: usize = 4_194_304;
 
 /// Why a text isn't read.
-#[derive(Clone, Copy, PartialEq, Eq)]
+#[derive(Clone, Copy)]
 pub enum BatchFault {
     /// The line of this number, from 1, is no spelling of a call, and isn't skipped. It is the first such line.
     Line(u64),

@@ -4,7 +4,7 @@ use net_model::OutOfMemory;
 use std::alloc::AllocError;
 
 /// Why a call wasn't carried out. The network is then as it was.
-#[derive(Clone, Copy, PartialEq, Eq)]
+#[derive(Clone, Copy)]
 pub enum StepFault {
     /// The kernel refuses the call, with the number of the refusal.
     Refused(u8),

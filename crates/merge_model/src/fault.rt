@@ -4,7 +4,7 @@ use document_model::Refused;
 use std::alloc::AllocError;
 
 /// Why a document can't be merged into a network.
-#[derive(Clone, Copy, PartialEq, Eq)]
+#[derive(Clone, Copy)]
 pub enum MergeFault {
     /// The first rule of the merge that the document breaks, and the first place where it breaks it.
     Refused(Refused),

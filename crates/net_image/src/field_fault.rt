@@ -3,7 +3,7 @@
 use crate::fault::ImageFault;
 
 /// Why no field was read.
-#[derive(Clone, Copy, PartialEq, Eq)]
+#[derive(Clone, Copy)]
 pub enum FieldFault {
     /// No such field begins there.
     Bad,

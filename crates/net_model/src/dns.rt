@@ -7,7 +7,7 @@ use base_model::Items;
 use std::alloc::AllocError;
 
 /// The servers that are asked and the names that are searched under, each in the order of asking.
-#[derive(Clone, PartialEq, Eq)]
+#[derive(Clone)]
 pub struct Dns {
     pub servers: Items<Addr>,
     pub search: Items<Domain>,

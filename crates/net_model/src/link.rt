@@ -37,7 +37,7 @@ pub enum Kind {
 }
 
 /// A link with all its settings; those that its kind or controller doesn't use have their defaults in a valid network.
-#[derive(Clone, PartialEq, Eq, Drop)]
+#[derive(Clone, Drop)]
 pub struct Link {
     pub name: Name,
     pub kind: Kind,

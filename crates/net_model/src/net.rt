@@ -33,7 +33,7 @@ use std::marker::Model;
 use std::mem;
 
 /// Why lists make no network.
-#[derive(Clone, Copy, PartialEq, Eq)]
+#[derive(Clone, Copy)]
 pub enum NetFault {
     /// The least part of validity that the lists break, from 1 to 13.
     Broken(u8),

@@ -14,7 +14,7 @@ use crate::valid_routes::order_routes;
 use std::cmp::Ordering;
 
 /// Where something stands in a strictly sorted list, or where it belongs.
-#[derive(Clone, Copy, PartialEq, Eq)]
+#[derive(Clone, Copy)]
 pub enum Position {
     /// It stands at this index.
     At(usize),

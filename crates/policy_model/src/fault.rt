@@ -5,7 +5,7 @@ use std::alloc::{AllocError, AllocFailed};
 
 /// Why a tree is no policy, or a policy has no value. Of several causes the one that stands first here is answered, at its
 /// first place: captures in the order of the tree, then the strings under `desired` in order.
-#[derive(PartialEq, Eq, Drop)]
+#[derive(Drop)]
 pub enum PolicyFault {
     /// At the top another key than `capture` and `desired`, or no `desired`; `capture` is no map of strings, or has more
     /// than [`MAX_CAPTURES`](crate::MAX_CAPTURES).

@@ -3,7 +3,7 @@
 use rollout_model::Event;
 
 /// The events of a step, in order. A start gives two, each other step one, and the finish none.
-#[derive(Clone, Copy, PartialEq, Eq)]
+#[derive(Clone, Copy)]
 pub struct Told {
     pub first: Option<Event>,
     pub second: Option<Event>,

@@ -10,7 +10,7 @@ use host_core::{Failed, Sink};
 use rollout_core::{Core, Event, Told};
 
 /// How much of what there was to print so far was printed.
-#[derive(Clone, Copy, Debug, PartialEq, Eq)]
+#[derive(Clone, Copy)]
 pub enum Printed {
     /// All of it.
     Whole,

@@ -13,7 +13,7 @@ use rollout_core::{Core, Event, Told, holding_laws, rollout_laws, rollout_step};
 use std::alloc::Global;
 
 /// How a rollout ended.
-#[derive(Clone, Copy, PartialEq, Eq)]
+#[derive(Clone, Copy)]
 pub struct Ended {
     /// The first event that halted it, where one did.
     pub halted_by: Option<Event>,

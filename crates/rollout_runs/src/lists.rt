@@ -8,7 +8,7 @@ use std::alloc::Global;
 
 // Which lists are made longer: all of them, or those whose events are accepted. An event that isn't accepted changes nothing,
 // which is compared, so that what follows it is compared where it isn't there.
-#[derive(Clone, Copy, PartialEq, Eq)]
+#[derive(Clone, Copy)]
 enum Longer {
     All,
     Accepted,

@@ -20,7 +20,7 @@ pub const RULE_TABLE: u32 = 100;
 pub const RAISED_MTU: u32 = 9000;
 
 /// A device, with the numbers that were drawn for it.
-#[derive(Clone, Copy, PartialEq, Eq)]
+#[derive(Clone, Copy)]
 pub struct Device {
     /// From 1.
     pub number: u8,
@@ -30,7 +30,6 @@ pub struct Device {
 }
 
 /// The trees of a workload.
-#[derive(PartialEq, Eq)]
 pub struct Inputs {
     /// A hardware list.
     pub hardware: Tree,

@@ -12,7 +12,7 @@ pub const FIRST_AT: u64 = 100;
 pub const SECOND_AT: u64 = 200;
 
 /// What is counted of a run.
-#[derive(Clone, Copy, PartialEq, Eq)]
+#[derive(Clone, Copy)]
 pub struct Summary {
     /// The links of the last network.
     pub links: u32,

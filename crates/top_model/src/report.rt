@@ -13,7 +13,6 @@ use yaml_read::YamlFault;
 
 /// Why an input is no document, no policy or no hardware list, or why a policy has no value that is a document. Out of memory
 /// is a cause of its own.
-#[derive(PartialEq, Eq)]
 pub enum DocFault {
     Json(JsonFault),
     Yaml(YamlFault),

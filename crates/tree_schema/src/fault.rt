@@ -6,7 +6,7 @@ use crate::{Reader, Stop};
 use base_model::Path;
 
 /// Why a tree is refused at a place.
-#[derive(Clone, Copy, PartialEq, Eq)]
+#[derive(Clone, Copy)]
 pub enum Reason {
     /// A map has a key that isn't known there.
     UnknownKey,
@@ -21,7 +21,7 @@ pub enum Reason {
 }
 
 /// Why a tree is refused, with the place; the place of a missing key is the one that it would have.
-#[derive(PartialEq, Eq, Drop)]
+#[derive(Drop)]
 pub enum SchemaFault {
     UnknownKey(Path),
     WrongType(Path),

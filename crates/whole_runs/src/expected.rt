@@ -6,14 +6,14 @@ use anyhow::Result;
 use std::alloc::Global;
 
 /// How many lines of the output begin with a text.
-#[derive(Debug, Drop)]
+#[derive(Drop)]
 struct Counted {
     times: u64,
     start: String,
 }
 
 /// The status, what is written, and where the output is long how many lines of it begin in which way.
-#[derive(Debug, Drop)]
+#[derive(Drop)]
 pub struct Expected {
     status: u64,
     out: Vec<u8>,

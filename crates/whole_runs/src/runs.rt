@@ -10,7 +10,7 @@ use nmstate_top::{Cause, Report, Step, run_at, run_command, run_script};
 use std::alloc::Global;
 
 /// Which public call is made.
-#[derive(Clone, Copy, Debug)]
+#[derive(Clone, Copy)]
 pub enum EntryPoint {
     Command,
     At,

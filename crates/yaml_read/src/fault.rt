@@ -6,7 +6,7 @@ ghost use Rattle.yaml_read.specs.declared.fault.YamlFault.TheVariants.{OutOfMemo
 use std::alloc::{AllocError, AllocFailed};
 
 /// The first fault of a text.
-#[derive(Clone, Copy, PartialEq, Eq)]
+#[derive(Clone, Copy)]
 pub enum YamlFault {
     /// The bytes aren't UTF-8. The number is the place, from 0, at which the first ill-formed sequence begins.
     NotUtf8(u64),
