@@ -1,5 +1,5 @@
 //! Indexes of lists as they stand, in whatever order.
-ghost use Rattle.std.specs.Prelude.{◌≡◌, ℕ, List, [], ◌∷◌, ◌++◌, IfOk, OnOk};
+ghost use Rattle.std.specs.Prelude.{◌≡◌, ℕ, List, [], ◌∷◌, ◌++◌, OnOk};
 ghost use Rattle.net_model.specs.Links.{ports_of};
 ghost use Rattle.net_model.specs.Listed.{listed};
 ghost use Rattle.net_model.specs.Indexed.{over, routes_of};
@@ -10,7 +10,6 @@ use crate::name::Name;
 use crate::route::Route;
 use crate::route_key::RouteKey;
 use base_model::OutOfMemory;
-use std::alloc::Global;
 
 fn add_base(index: &mut Index<Name>, link: &Link) -> Result<(), OutOfMemory>
     ensures { OnOk result ((k : List ℕ) → listed index.new k ≡ listed index.old k ++ over (link.now ∷ []) k) }
@@ -21,15 +20,15 @@ fn add_base(index: &mut Index<Name>, link: &Link) -> Result<(), OutOfMemory>
     }
 }
 
-/// The VLANs over each base.
-pub(crate) fn over_index(alloc: Global, links: &[Link]) -> Result<Index<Name>, OutOfMemory>
-    ensures { IfOk result (λ index. (k : List ℕ) → listed index k ≡ over links.now k) }
+/// Fills an empty index with the VLANs over each base.
+pub(crate) fn add_bases(index: &mut Index<Name>, links: &[Link]) -> Result<(), OutOfMemory>
+    requires { (k : List ℕ) → listed index.old k ≡ [] }
+    ensures { OnOk result ((k : List ℕ) → listed index.new k ≡ over links.now k) }
 {
-    let mut index = Index::new(alloc);
     for at in 0..links.len() {
-        add_base(&mut index, &links[at])?;
+        add_base(index, &links[at])?;
     }
-    Ok(index)
+    Ok(())
 }
 
 fn add_port(index: &mut Index<Name>, link: &Link) -> Result<(), OutOfMemory>
@@ -41,15 +40,15 @@ fn add_port(index: &mut Index<Name>, link: &Link) -> Result<(), OutOfMemory>
     }
 }
 
-/// The ports of each controller.
-pub(crate) fn ports_index(alloc: Global, links: &[Link]) -> Result<Index<Name>, OutOfMemory>
-    ensures { IfOk result (λ index. (k : List ℕ) → listed index k ≡ ports_of links.now k) }
+/// Fills an empty index with the ports of each controller.
+pub(crate) fn add_ports(index: &mut Index<Name>, links: &[Link]) -> Result<(), OutOfMemory>
+    requires { (k : List ℕ) → listed index.old k ≡ [] }
+    ensures { OnOk result ((k : List ℕ) → listed index.new k ≡ ports_of links.now k) }
 {
-    let mut index = Index::new(alloc);
     for at in 0..links.len() {
-        add_port(&mut index, &links[at])?;
+        add_port(index, &links[at])?;
     }
-    Ok(index)
+    Ok(())
 }
 
 fn add_key(index: &mut Index<RouteKey>, route: &Route) -> Result<(), OutOfMemory>
@@ -58,13 +57,13 @@ fn add_key(index: &mut Index<RouteKey>, route: &Route) -> Result<(), OutOfMemory
     index.push(&route.dev, RouteKey::of(route))
 }
 
-/// The routes of each device.
-pub(crate) fn routes_index(alloc: Global, routes: &[Route]) -> Result<Index<RouteKey>, OutOfMemory>
-    ensures { IfOk result (λ index. (k : List ℕ) → listed index k ≡ routes_of routes.now k) }
+/// Fills an empty index with the routes of each device.
+pub(crate) fn add_keys(index: &mut Index<RouteKey>, routes: &[Route]) -> Result<(), OutOfMemory>
+    requires { (k : List ℕ) → listed index.old k ≡ [] }
+    ensures { OnOk result ((k : List ℕ) → listed index.new k ≡ routes_of routes.now k) }
 {
-    let mut index = Index::new(alloc);
     for at in 0..routes.len() {
-        add_key(&mut index, &routes[at])?;
+        add_key(index, &routes[at])?;
     }
-    Ok(index)
+    Ok(())
 }

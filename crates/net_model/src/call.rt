@@ -10,7 +10,6 @@ use crate::route::Route;
 use crate::rule::Rule;
 
 /// What the kernel is asked to change.
-#[derive(Clone)]
 pub enum Call {
     AddLink { name: Name, kind: Kind },
     DelLink { name: Name },

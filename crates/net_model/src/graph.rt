@@ -77,6 +77,19 @@ fn no_arrows(alloc: Global, len: usize) -> Result<Vec<Items<usize>>, AllocError>
     Ok(arrows)
 }
 
+// Adds the arrows of all links.
+fn add_arrows(arrows: &mut [Items<usize>], links: &[Link]) -> Result<(), OutOfMemory>
+    requires in_order { rises link_cmp links.now ≡ true }
+    requires none { arrows.old ≡ replicate (length links.now) [] }
+    ensures { OnOk result (Draws links.now (length links.now) (length links.now) arrows.new) }
+{
+    for at in 0..links.len() {
+        add_base(arrows, links, at)?;
+        add_port(arrows, links, at)?;
+    }
+    Ok(())
+}
+
 /// For each link, the places of those that it depends on, each found by binary search: of a VLAN's base, and of a
 /// controller's ports. The links are sorted by name.
 pub fn arrows(alloc: Global, links: &[Link]) -> Result<Vec<Items<usize>>, OutOfMemory>
@@ -84,9 +97,6 @@ pub fn arrows(alloc: Global, links: &[Link]) -> Result<Vec<Items<usize>>, OutOfM
     ensures { IfOk result (λ arrows. Draws links.now (length links.now) (length links.now) arrows.items) }
 {
     let mut arrows = no_arrows(alloc, links.len())?;
-    for at in 0..links.len() {
-        add_base(&mut arrows, links, at)?;
-        add_port(&mut arrows, links, at)?;
-    }
+    add_arrows(&mut arrows, links)?;
     Ok(arrows)
 }

@@ -14,7 +14,7 @@ ghost use Rattle.net_model.specs.Indexed.{AreIndexes, over, key_of};
 ghost use Rattle.net_model.specs.Twins.{has_key, HasVlans, Loses};
 ghost use Rattle.net_model.specs.declared.link.Link.{Link};
 
-use crate::build::{over_index, ports_index, routes_index};
+use crate::build::{add_bases, add_keys, add_ports};
 use crate::id::VlanId;
 use crate::index::Index;
 use crate::link::{Kind, Link};
@@ -22,7 +22,7 @@ use crate::name::Name;
 use crate::position::{Position, link_position};
 use crate::route::Route;
 use crate::route_key::RouteKey;
-use crate::twins::{is_first_vlan, leave_out_seen, vlan_keys};
+use crate::twins::{add_vlan_keys, is_first_vlan, leave_out_seen};
 use base_model::OutOfMemory;
 use std::alloc::Global;
 use std::collections::BTreeSet;
@@ -64,12 +64,21 @@ impl Indexes {
     pub fn of(alloc: Global, links: &[Link], routes: &[Route]) -> Result<Indexes, OutOfMemory>
         ensures { IfOk result (AreIndexes links.now routes.now) }
     {
-        Ok(Indexes {
-            over: over_index(alloc, links)?,
-            ports: ports_index(alloc, links)?,
-            routes: routes_index(alloc, routes)?,
-            vlans: vlan_keys(alloc, links)?,
-        })
+        let mut indexes = Indexes::new(alloc);
+        indexes.fill(links, routes)?;
+        Ok(indexes)
+    }
+
+    // Fills the indexes of a network without links with these lists.
+    fn fill(&mut self, links: &[Link], routes: &[Route]) -> Result<(), OutOfMemory>
+        requires { AreIndexes [] [] self.old }
+        ensures { OnOk result (AreIndexes links.now routes.now self.new) }
+    {
+        add_bases(&mut self.over, links)?;
+        add_ports(&mut self.ports, links)?;
+        add_keys(&mut self.routes, routes)?;
+        add_vlan_keys(&mut self.vlans, links)?;
+        Ok(())
     }
 }
 

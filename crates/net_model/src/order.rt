@@ -1,20 +1,36 @@
 //! Whether lists are strictly sorted, as those of a network are.
 ghost use Rattle.std.specs.Prelude.{◌≡◌};
 ghost use Rattle.std.specs.List.{list_all};
-ghost use Rattle.net_model.specs.Words.{rises, is_before_head, steps_up};
+ghost use Rattle.net_model.specs.Words.{rises, is_before_head};
 ghost use Rattle.net_model.specs.Order.{block_cmp, link_cmp, route_cmp, rule_cmp};
 
 use crate::address::Prefix;
 use crate::link::Link;
 use crate::route::Route;
 use crate::rule::Rule;
-use crate::valid_links::names_step_up;
-use crate::valid_routes::{routes_step_up, rules_step_up};
+use crate::valid_routes::order_routes;
 
+fn is_link_before(link: &Link, rest: &[Link]) -> bool
+    ensures { result ≡ is_before_head link_cmp link.now rest.now }
+{
+    match rest.first() {
+        Some(next) => link.name < next.name,
+        None => true,
+    }
+}
+
+// Whether links are strictly sorted by name.
 pub(crate) fn links_in_order(links: &[Link]) -> bool
     ensures { result ≡ rises link_cmp links.now }
 {
-    names_step_up(links)
+    let mut left = links;
+    while let Some((link, rest)) = left.split_first() {
+        if !is_link_before(link, rest) {
+            return false;
+        }
+        left = rest;
+    }
+    true
 }
 
 fn is_prefix_before(prefix: &Prefix, rest: &[Prefix]) -> bool
@@ -26,8 +42,9 @@ fn is_prefix_before(prefix: &Prefix, rest: &[Prefix]) -> bool
     }
 }
 
-fn addresses_step_up(addrs: &[Prefix]) -> bool
-    ensures { result ≡ steps_up block_cmp addrs.now }
+// Whether addresses are strictly sorted.
+fn addresses_in_order(addrs: &[Prefix]) -> bool
+    ensures { result ≡ rises block_cmp addrs.now }
 {
     let mut left = addrs;
     while let Some((prefix, rest)) = left.split_first() {
@@ -39,12 +56,7 @@ fn addresses_step_up(addrs: &[Prefix]) -> bool
     true
 }
 
-fn addresses_in_order(addrs: &[Prefix]) -> bool
-    ensures { result ≡ rises block_cmp addrs.now }
-{
-    addresses_step_up(addrs)
-}
-
+// Whether the addresses of each link are strictly sorted.
 pub(crate) fn each_in_order(links: &[Link]) -> bool
     ensures { result ≡ list_all (λ l. rises block_cmp l.addrs) links.now }
 {
@@ -53,14 +65,48 @@ pub(crate) fn each_in_order(links: &[Link]) -> bool
         .all(|link| addresses_in_order(link.addrs.items()))
 }
 
+fn is_route_before(route: &Route, rest: &[Route]) -> bool
+    ensures { result ≡ is_before_head route_cmp route.now rest.now }
+{
+    match rest.first() {
+        Some(next) => order_routes(route, next).is_lt(),
+        None => true,
+    }
+}
+
+// Whether routes are strictly sorted, by destination, table and metric.
 pub(crate) fn routes_in_order(routes: &[Route]) -> bool
     ensures { result ≡ rises route_cmp routes.now }
 {
-    routes_step_up(routes)
+    let mut left = routes;
+    while let Some((route, rest)) = left.split_first() {
+        if !is_route_before(route, rest) {
+            return false;
+        }
+        left = rest;
+    }
+    true
 }
 
+fn is_rule_before(rule: &Rule, rest: &[Rule]) -> bool
+    ensures { result ≡ is_before_head rule_cmp rule.now rest.now }
+{
+    match rest.first() {
+        Some(next) => rule.cmp(next).is_lt(),
+        None => true,
+    }
+}
+
+// Whether rules are strictly sorted, by all their fields.
 pub(crate) fn rules_in_order(rules: &[Rule]) -> bool
     ensures { result ≡ rises rule_cmp rules.now }
 {
-    rules_step_up(rules)
+    let mut left = rules;
+    while let Some((rule, rest)) = left.split_first() {
+        if !is_rule_before(rule, rest) {
+            return false;
+        }
+        left = rest;
+    }
+    true
 }

@@ -70,18 +70,18 @@ pub(crate) fn leave_out_seen(seen: &mut BTreeSet<(Name, VlanId, bool)>, link: &L
     }
 }
 
-// The keys of the VLANs among the links.
-pub(crate) fn vlan_keys(
-    alloc: Global,
+// Fills an empty set with the keys of the VLANs among the links.
+pub(crate) fn add_vlan_keys(
+    seen: &mut BTreeSet<(Name, VlanId, bool)>,
     links: &[Link],
-) -> Result<BTreeSet<(Name, VlanId, bool)>, AllocError>
-    ensures { IfOk result (λ seen. HasVlans seen links.now) }
+) -> Result<(), AllocError>
+    requires { HasVlans seen.old [] }
+    ensures { OnOk result (HasVlans seen.new links.now) }
 {
-    let mut seen = BTreeSet::new(alloc);
     for at in 0..links.len() {
-        is_first_vlan(&mut seen, &links[at])?;
+        is_first_vlan(seen, &links[at])?;
     }
-    Ok(seen)
+    Ok(())
 }
 
 // Whether no two of the links are VLANs over one base with one protocol and number.

@@ -4,14 +4,13 @@ ghost use Rattle.std.specs.List.{list_all};
 ghost use Rattle.net_model.specs.declared.limits.TheConstants.{MAX_ADDRESSES, MAX_LINK_ADDRESSES};
 ghost use Rattle.net_model.specs.Words.{rises};
 ghost use Rattle.net_model.specs.Order.{link_cmp};
-ghost use Rattle.net_model.specs.Links.{named_passes, is_bond, is_bridge};
+ghost use Rattle.net_model.specs.Links.{is_bond, is_bridge};
 ghost use Rattle.net_model.specs.Options.{default_bond, default_bridge, default_port, is_layer2, is_default_bond, is_default_bridge, is_default_port};
 ghost use Rattle.net_model.specs.Valid.{address_count, links_fit, is_bridge_port, unused_default};
 
 use crate::limits::{MAX_ADDRESSES, MAX_LINK_ADDRESSES, MAX_LINKS};
 use crate::link::Link;
 use crate::lookup::{find_link, is_bond, is_bridge};
-use crate::name::Name;
 use crate::options::{BondOpts, BridgeOpts, HashPolicy, PortOpts};
 use crate::valid_options::is_fast;
 
@@ -91,19 +90,15 @@ pub fn is_default_port(opts: &PortOpts) -> bool
 }
 
 #[tactic(auto, using(crate::proofs::lemmas::Found::named_passes_found))]
-fn is_named_bridge(links: &[Link], name: &Name) -> bool
-    requires { rises link_cmp links.now ≡ true }
-    ensures { result ≡ named_passes (λ c. is_bridge c.kind) links.now name.now }
-{
-    find_link(links, name).is_some_and(|link| is_bridge(&link.kind))
-}
-
 fn is_bridge_port(links: &[Link], link: &Link) -> bool
     requires { rises link_cmp links.now ≡ true }
     ensures { result ≡ is_bridge_port links.now link.now }
 {
     match &link.controller {
-        Some(controller) => is_named_bridge(links, controller),
+        Some(controller) => match find_link(links, controller) {
+            Some(found) => is_bridge(&found.kind),
+            None => false,
+        },
         None => false,
     }
 }

@@ -1,40 +1,18 @@
 //! The parts of validity that look at links: names, bases, controllers, MTUs and addresses.
 ghost use Rattle.std.specs.Prelude.{◌≡◌, ◌&&◌, ◌||◌, true, nat_le, IfOk, IsSorted};
 ghost use Rattle.std.specs.List.{list_any};
-ghost use Rattle.net_model.specs.Words.{rises, is_before_head, steps_up, is_empty};
+ghost use Rattle.net_model.specs.Words.{rises, is_empty};
 ghost use Rattle.net_model.specs.Order.{link_cmp};
-ghost use Rattle.net_model.specs.Links.{named_passes, can_be_base, takes, base_passes, controller_passes, is_bond_or_bridge};
+ghost use Rattle.net_model.specs.Links.{can_be_base, takes, base_passes, controller_passes, is_bond_or_bridge};
 ghost use Rattle.net_model.specs.Valid.{names_differ, each_base_stands, bases_stand, controllers_take, bases_up, mtu_in_range, mtus_fit, is_bond_or_bridge_port, ports_without_addresses, all_v4, same_address, addresses_differ, addresses_fit};
 
 use crate::address::Prefix;
 use crate::limits::{MAX_MTU, MIN_MTU};
 use crate::link::{Kind, Link};
 use crate::lookup::{can_be_base, find_link, is_bond_or_bridge, takes};
-use crate::name::Name;
+use crate::order::links_in_order;
 use crate::twins::vlans_differ;
 use std::alloc::{AllocError, Global};
-
-fn is_before_head(link: &Link, rest: &[Link]) -> bool
-    ensures { result ≡ is_before_head link_cmp link.now rest.now }
-{
-    match rest.first() {
-        Some(next) => link.name < next.name,
-        None => true,
-    }
-}
-
-pub(crate) fn names_step_up(links: &[Link]) -> bool
-    ensures { result ≡ steps_up link_cmp links.now }
-{
-    let mut left = links;
-    while let Some((link, rest)) = left.split_first() {
-        if !is_before_head(link, rest) {
-            return false;
-        }
-        left = rest;
-    }
-    true
-}
 
 // Part 1, on links that are sorted by name: whether names differ. Where they do, the list rises.
 pub(crate) fn names_differ(links: &[Link]) -> bool
@@ -42,24 +20,20 @@ pub(crate) fn names_differ(links: &[Link]) -> bool
     ensures differ { result ≡ names_differ links.now }
     ensures rise { result ≡ rises link_cmp links.now }
 {
-    names_step_up(links)
-}
-
-#[tactic(auto, using(crate::proofs::lemmas::Found::named_passes_found))]
-fn has_base(links: &[Link], base: &Name) -> bool
-    requires { rises link_cmp links.now ≡ true }
-    ensures { result ≡ named_passes (λ b. can_be_base b.kind) links.now base.now }
-{
-    find_link(links, base).is_some_and(|link| can_be_base(&link.kind))
+    links_in_order(links)
 }
 
 /// Whether the base of a VLAN is there and may be one. A kind that is no VLAN passes. The links are sorted by name.
+#[tactic(auto, using(crate::proofs::lemmas::Found::named_passes_found))]
 pub fn base_stands(links: &[Link], kind: &Kind) -> bool
     requires { rises link_cmp links.now ≡ true }
     ensures { result ≡ base_passes (λ b. can_be_base b.kind) links.now kind.now }
 {
     match kind {
-        Kind::Vlan { base, .. } => has_base(links, base),
+        Kind::Vlan { base, .. } => match find_link(links, base) {
+            Some(link) => can_be_base(&link.kind),
+            None => false,
+        },
         _ => true,
     }
 }
@@ -83,19 +57,15 @@ pub(crate) fn bases_stand(alloc: Global, links: &[Link]) -> Result<bool, AllocEr
 }
 
 #[tactic(auto, using(crate::proofs::lemmas::Found::named_passes_found))]
-fn takes_port(links: &[Link], controller: &Name, port: &Kind) -> bool
-    requires { rises link_cmp links.now ≡ true }
-    ensures { result ≡ named_passes (λ c. takes c.kind port.now) links.now controller.now }
-{
-    find_link(links, controller).is_some_and(|link| takes(&link.kind, port))
-}
-
 fn controller_takes(links: &[Link], link: &Link) -> bool
     requires { rises link_cmp links.now ≡ true }
     ensures { result ≡ controller_passes (λ c. takes c.kind link.now.kind) links.now link.now }
 {
     match &link.controller {
-        Some(controller) => takes_port(links, controller, &link.kind),
+        Some(controller) => match find_link(links, controller) {
+            Some(found) => takes(&found.kind, &link.kind),
+            None => false,
+        },
         None => true,
     }
 }
@@ -109,19 +79,15 @@ pub(crate) fn controllers_take(links: &[Link]) -> bool
 }
 
 #[tactic(auto, using(crate::proofs::lemmas::Found::named_passes_found))]
-fn is_named_up(links: &[Link], name: &Name) -> bool
-    requires { rises link_cmp links.now ≡ true }
-    ensures { result ≡ named_passes (λ b. b.up) links.now name.now }
-{
-    find_link(links, name).is_some_and(|link| link.up)
-}
-
 fn base_is_up(links: &[Link], kind: &Kind) -> bool
     requires { rises link_cmp links.now ≡ true }
     ensures { result ≡ base_passes (λ b. b.up) links.now kind.now }
 {
     match kind {
-        Kind::Vlan { base, .. } => is_named_up(links, base),
+        Kind::Vlan { base, .. } => match find_link(links, base) {
+            Some(link) => link.up,
+            None => false,
+        },
         _ => true,
     }
 }
@@ -137,19 +103,15 @@ pub(crate) fn bases_up(links: &[Link]) -> bool
 }
 
 #[tactic(auto, using(crate::proofs::lemmas::Found::named_passes_found))]
-fn allows(links: &[Link], name: &Name, mtu: u32) -> bool
-    requires { rises link_cmp links.now ≡ true }
-    ensures { result ≡ named_passes (λ b. nat_le mtu b.mtu) links.now name.now }
-{
-    find_link(links, name).is_some_and(|link| mtu <= link.mtu)
-}
-
 fn base_allows(links: &[Link], kind: &Kind, mtu: u32) -> bool
     requires { rises link_cmp links.now ≡ true }
     ensures { result ≡ base_passes (λ b. nat_le mtu b.mtu) links.now kind.now }
 {
     match kind {
-        Kind::Vlan { base, .. } => allows(links, base, mtu),
+        Kind::Vlan { base, .. } => match find_link(links, base) {
+            Some(link) => mtu <= link.mtu,
+            None => false,
+        },
         _ => true,
     }
 }
@@ -170,19 +132,15 @@ pub(crate) fn mtus_fit(links: &[Link]) -> bool
 }
 
 #[tactic(auto, using(crate::proofs::lemmas::Found::named_passes_found))]
-fn is_named_bond_or_bridge(links: &[Link], name: &Name) -> bool
-    requires { rises link_cmp links.now ≡ true }
-    ensures { result ≡ named_passes (λ c. is_bond_or_bridge c.kind) links.now name.now }
-{
-    find_link(links, name).is_some_and(|link| is_bond_or_bridge(&link.kind))
-}
-
 fn is_bond_or_bridge_port(links: &[Link], link: &Link) -> bool
     requires { rises link_cmp links.now ≡ true }
     ensures { result ≡ is_bond_or_bridge_port links.now link.now }
 {
     match &link.controller {
-        Some(controller) => is_named_bond_or_bridge(links, controller),
+        Some(controller) => match find_link(links, controller) {
+            Some(found) => is_bond_or_bridge(&found.kind),
+            None => false,
+        },
         None => false,
     }
 }

@@ -1,7 +1,7 @@
 //! The parts of validity that look at routes and rules.
 ghost use Rattle.std.specs.Prelude.{◌≡◌, ◌&&◌, true, IsSorted};
 ghost use Rattle.std.specs.List.{list_any, list_all};
-ghost use Rattle.net_model.specs.Words.{rises, is_before_head, steps_up};
+ghost use Rattle.net_model.specs.Words.{rises};
 ghost use Rattle.net_model.specs.Order.{link_cmp, route_cmp, rule_cmp};
 ghost use Rattle.net_model.specs.Links.{named_passes};
 ghost use Rattle.net_model.specs.OnLink.{holds, is_on_link};
@@ -10,6 +10,7 @@ ghost use Rattle.net_model.specs.Valid.{route_on_link, route_stands, routes_stan
 use crate::address::{Addr, Prefix};
 use crate::link::Link;
 use crate::lookup::find_link;
+use crate::order::{routes_in_order, rules_in_order};
 use crate::route::Route;
 use crate::rule::Rule;
 use std::cmp::Ordering;
@@ -62,33 +63,11 @@ pub(crate) fn order_routes(a: &Route, b: &Route) -> Ordering
         .then(a.metric.cmp(&b.metric))
 }
 
-fn is_route_before(route: &Route, rest: &[Route]) -> bool
-    ensures { result ≡ is_before_head route_cmp route.now rest.now }
-{
-    match rest.first() {
-        Some(next) => order_routes(route, next).is_lt(),
-        None => true,
-    }
-}
-
-pub(crate) fn routes_step_up(routes: &[Route]) -> bool
-    ensures { result ≡ steps_up route_cmp routes.now }
-{
-    let mut left = routes;
-    while let Some((route, rest)) = left.split_first() {
-        if !is_route_before(route, rest) {
-            return false;
-        }
-        left = rest;
-    }
-    true
-}
-
 fn keys_differ(routes: &[Route]) -> bool
     requires { IsSorted route_cmp routes.now }
     ensures { result ≡ keys_differ routes.now }
 {
-    routes_step_up(routes)
+    routes_in_order(routes)
 }
 
 // Part 9, on sorted routes: whether each device is up and each gateway on-link, and keys differ.
@@ -100,32 +79,10 @@ pub(crate) fn routes_stand(links: &[Link], routes: &[Route]) -> bool
     each_route_stands(links, routes) && keys_differ(routes)
 }
 
-fn is_rule_before(rule: &Rule, rest: &[Rule]) -> bool
-    ensures { result ≡ is_before_head rule_cmp rule.now rest.now }
-{
-    match rest.first() {
-        Some(next) => rule.cmp(next).is_lt(),
-        None => true,
-    }
-}
-
-pub(crate) fn rules_step_up(rules: &[Rule]) -> bool
-    ensures { result ≡ steps_up rule_cmp rules.now }
-{
-    let mut left = rules;
-    while let Some((rule, rest)) = left.split_first() {
-        if !is_rule_before(rule, rest) {
-            return false;
-        }
-        left = rest;
-    }
-    true
-}
-
 // Part 10, on sorted rules: whether rules differ.
 pub(crate) fn rules_differ(rules: &[Rule]) -> bool
     requires { IsSorted rule_cmp rules.now }
     ensures { result ≡ rules_differ rules.now }
 {
-    rules_step_up(rules)
+    rules_in_order(rules)
 }

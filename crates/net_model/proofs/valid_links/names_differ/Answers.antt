@@ -7,7 +7,4 @@ use Rattle.net_model.proofs.lemmas.Found.{names_tie}
 use Rattle.net_model.proofs.valid_links.names_differ.Goals as goal
 
 pub returns-clause-differ : goal.returns-clause-differ
-returns-clause-differ c = c.names_step_up.ensures ∙ sym (apart-steps same_name link_cmp link_cmp_total names_tie c.args.links.now c.requires)
-
-pub returns-clause-rise : goal.returns-clause-rise
-returns-clause-rise c = c.names_step_up.ensures ∙ rises-steps link_cmp link_cmp_total c.args.links.now
+returns-clause-differ c = c.links_in_order.ensures ∙ sym (rises-steps link_cmp link_cmp_total c.args.links.now) ∙ sym (apart-steps same_name link_cmp link_cmp_total names_tie c.args.links.now c.requires)

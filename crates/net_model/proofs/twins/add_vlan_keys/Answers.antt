@@ -1,6 +1,6 @@
 use Rattle.std.proofs.Common.{arith, ◌<◌, length}
 use Rattle.net_model.proofs.lemmas.Vlans.{vlans_more}
-use Rattle.net_model.proofs.twins.vlan_keys.Goals as goal
+use Rattle.net_model.proofs.twins.add_vlan_keys.Goals as goal
 
 pub loop-at-preserved : goal.loop-at-preserved
 loop-at-preserved c =

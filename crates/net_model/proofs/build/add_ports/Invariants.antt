@@ -1,7 +1,7 @@
 use Rattle.std.proofs.Common.{◌≡◌, ℕ, List, take}
 use Rattle.net_model.specs.Listed.{listed}
 use Rattle.net_model.specs.Links.{ports_of}
-use Rattle.net_model.proofs.build.ports_index.Given as goal
+use Rattle.net_model.proofs.build.add_ports.Given as goal
 
 -- the lists of those so far
 abbrev pub invariant-loop-at : goal.invariant-loop-at

@@ -3,7 +3,7 @@ use Rattle.net_model.specs.declared.link.Link.{Link}
 use Rattle.net_model.specs.Dependence.{has_base}
 use Rattle.net_model.specs.Indexed.{over}
 use Rattle.net_model.proofs.lemmas.Listing.{keys_more}
-use Rattle.net_model.proofs.build.over_index.Goals as goal
+use Rattle.net_model.proofs.build.add_bases.Goals as goal
 
 pub loop-at-preserved : goal.loop-at-preserved
 loop-at-preserved c = λ k.

@@ -2,7 +2,7 @@ use Rattle.std.proofs.Common.{arith, ◌∙◌, ◌<◌, ◌++◌, ◌∷◌, []
 use Rattle.net_model.specs.declared.link.Link.{Link}
 use Rattle.net_model.specs.Links.{is_port_of, ports_of}
 use Rattle.net_model.proofs.lemmas.Listing.{keys_more}
-use Rattle.net_model.proofs.build.ports_index.Goals as goal
+use Rattle.net_model.proofs.build.add_ports.Goals as goal
 
 pub loop-at-preserved : goal.loop-at-preserved
 loop-at-preserved c = λ k.

@@ -4,7 +4,7 @@ use Rattle.net_model.specs.Name.{same_bytes}
 use Rattle.net_model.specs.Indexed.{key_of, routes_of}
 use Rattle.net_model.specs.declared.route_key.RouteKey.{RouteKey}
 use Rattle.net_model.proofs.lemmas.Listing.{keys_more}
-use Rattle.net_model.proofs.build.routes_index.Goals as goal
+use Rattle.net_model.proofs.build.add_keys.Goals as goal
 
 pub loop-at-preserved : goal.loop-at-preserved
 loop-at-preserved c = λ k.
