@@ -1,3 +1,4 @@
 pub mod Writable
 pub mod LinkTrees
 pub mod NetTrees
+pub mod Turns

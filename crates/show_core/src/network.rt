@@ -1,49 +1,31 @@
 //! The tree of a network.
-ghost use Rattle.std.specs.Prelude.{◌≡◌, ◌≤◌, true, ◌++◌, ◌&&◌, ◌==◌, not, codes, IfOk, OnOk, option_map, map, filter};
-ghost use Rattle.doc_tree.specs.Shape.{shape, text, list, shapes_of, is_distinct, has_short_lists, levels};
+ghost use Rattle.std.specs.Prelude.{◌≡◌, ◌≤◌, true, not, ◌&&◌, ◌==◌, ◌++◌, codes, IfOk, option_map, filter};
+ghost use Rattle.doc_tree.specs.Shape.{Shape, shape, is_distinct, has_short_lists, levels};
 ghost use Rattle.doc_tree.specs.declared.limits.TheConstants.{MAX_LEVELS};
 ghost use Rattle.net_model.specs.Links.{is_named};
-ghost use Rattle.show_core.specs.Fields.{fields, field, field_of, address, prefix, each};
-ghost use Rattle.show_core.specs.Pairs.{held};
+ghost use Rattle.show_core.specs.Fields.{Fields, fields, field, each};
+ghost use Rattle.show_core.specs.Pairs.{Holds, IsTree};
 ghost use Rattle.show_core.specs.Links.{link_tree};
-ghost use Rattle.show_core.specs.Network.{route_tree, target_fields, mark_fields, rule_tree, dns_tree, running, whole_tree, named_tree, network_tree};
+ghost use Rattle.show_core.specs.Network.{route_tree, target_fields, marked, rule_tree, dns_tree, running, whole_tree, named_tree, network_tree};
 
 use crate::links::link_tree;
 use crate::pairs::Pairs;
-use crate::values::{Shown, address_tree, each, subnet_tree};
+use crate::values::{Shown, each, subnet_tree};
 use doc_tree::Tree;
-use net_model::{Addr, Dns, Link, Net, OutOfMemory, Route, Rule, Subnet, Target};
+use net_model::{Dns, Link, Net, OutOfMemory, Route, Rule, Target};
 use net_text::family_word;
 use std::alloc::Global;
-
-fn put_some_address(
-    alloc: Global,
-    key: &str,
-    addr: Option<Addr>,
-    pairs: &mut Pairs,
-) -> Result<(), OutOfMemory>
-    ensures { OnOk result (held pairs.new ≡ held pairs.old ++ field_of key.now address addr) }
-{
-    match addr {
-        None => Ok(()),
-        Some(addr) => {
-            let tree = address_tree(alloc, addr)?;
-            pairs.put(key, tree)
-        }
-    }
-}
 
 fn route_tree(alloc: Global, route: &Route) -> Result<Tree, OutOfMemory>
     ensures { IfOk result (λ tree. shape tree ≡ route_tree route.now) }
 {
-    let mut pairs = Pairs::new(alloc);
-    let dest = subnet_tree(alloc, route.dest)?;
-    pairs.put("destination", dest)?;
-    pairs.put_name("next-hop-interface", &route.dev)?;
-    put_some_address(alloc, "next-hop-address", route.gateway, &mut pairs)?;
-    pairs.put_number("metric", route.metric)?;
-    pairs.put_number("table-id", route.table.id())?;
-    Ok(pairs.into_tree())
+    Pairs::new(alloc)
+        .put("destination", subnet_tree(alloc, route.dest))
+        .put_name("next-hop-interface", &route.dev)
+        .put_some_address("next-hop-address", route.gateway)
+        .put_number("metric", route.metric)
+        .put_number("table-id", route.table.id())
+        .into_tree()
 }
 
 impl Shown for Route {
@@ -56,62 +38,45 @@ impl Shown for Route {
     }
 }
 
-fn put_subnet(
-    alloc: Global,
-    key: &str,
-    subnet: Option<Subnet>,
-    pairs: &mut Pairs,
-) -> Result<(), OutOfMemory>
-    ensures { OnOk result (held pairs.new ≡ held pairs.old ++ field_of key.now prefix subnet) }
+fn is_marked(mark: u32, mask: u32) -> bool
+    ensures { result ≡ not ((mark == 0) && (mask == 0)) }
 {
-    match subnet {
-        None => Ok(()),
-        Some(subnet) => {
-            let tree = subnet_tree(alloc, subnet)?;
-            pairs.put(key, tree)
-        }
-    }
+    mark != 0 || mask != 0
 }
 
 // Mark and mask, unless both are 0.
-fn put_mark(rule: &Rule, pairs: &mut Pairs) -> Result<(), OutOfMemory>
-    ensures { OnOk result (held pairs.new ≡ held pairs.old ++ mark_fields rule.now) }
+fn put_mark(mark: u32, mask: u32, pairs: Pairs) -> Pairs
+    ensures { (held : Fields) → Holds held pairs → Holds (held ++ marked mark mask) result }
 {
-    if rule.mark == 0 && rule.mask == 0 {
-        return Ok(());
+    if is_marked(mark, mask) {
+        pairs.put_number("fwmark", mark).put_number("fwmask", mask)
+    } else {
+        pairs
     }
-    pairs.put_number("fwmark", rule.mark)?;
-    pairs.put_number("fwmask", rule.mask)?;
-    Ok(())
 }
 
-fn put_target(target: Target, pairs: &mut Pairs) -> Result<(), OutOfMemory>
-    ensures { OnOk result (held pairs.new ≡ held pairs.old ++ target_fields target) }
+fn put_target(target: Target, pairs: Pairs) -> Pairs
+    ensures { (held : Fields) → Holds held pairs → Holds (held ++ target_fields target) result }
 {
     match target {
-        Target::Table(table) => {
-            let id = table.id();
-            pairs.put_number("route-table", id)?;
-        }
-        Target::Blackhole => pairs.put_word("action", "blackhole")?,
-        Target::Unreachable => pairs.put_word("action", "unreachable")?,
-        Target::Prohibit => pairs.put_word("action", "prohibit")?,
+        Target::Table(table) => pairs.put_number("route-table", table.id()),
+        Target::Blackhole => pairs.put_word("action", "blackhole"),
+        Target::Unreachable => pairs.put_word("action", "unreachable"),
+        Target::Prohibit => pairs.put_word("action", "prohibit"),
     }
-    Ok(())
 }
 
 fn rule_tree(alloc: Global, rule: &Rule) -> Result<Tree, OutOfMemory>
     ensures { IfOk result (λ tree. shape tree ≡ rule_tree rule.now) }
 {
-    let mut pairs = Pairs::new(alloc);
-    pairs.put_number("priority", rule.priority)?;
-    pairs.put_word("family", family_word(rule.v6))?;
-    put_subnet(alloc, "ip-from", rule.src, &mut pairs)?;
-    put_subnet(alloc, "ip-to", rule.dst, &mut pairs)?;
-    pairs.put_some_name("iif", &rule.iif)?;
-    put_mark(rule, &mut pairs)?;
-    put_target(rule.target, &mut pairs)?;
-    Ok(pairs.into_tree())
+    let pairs = Pairs::new(alloc)
+        .put_number("priority", rule.priority)
+        .put_word("family", family_word(rule.v6))
+        .put_some_subnet("ip-from", rule.src)
+        .put_some_subnet("ip-to", rule.dst)
+        .put_some_name("iif", &rule.iif);
+    let pairs = put_mark(rule.mark, rule.mask, pairs);
+    put_target(rule.target, pairs).into_tree()
 }
 
 impl Shown for Rule {
@@ -127,48 +92,44 @@ impl Shown for Rule {
 fn dns_tree(alloc: Global, dns: &Dns) -> Result<Tree, OutOfMemory>
     ensures { IfOk result (λ tree. shape tree ≡ dns_tree dns.now) }
 {
-    let mut pairs = Pairs::new(alloc);
-    let servers = each(alloc, dns.servers.items())?;
-    pairs.put("server", servers)?;
-    let search = each(alloc, dns.search.items())?;
-    pairs.put("search", search)?;
-    Ok(pairs.into_tree())
+    Pairs::new(alloc)
+        .put("server", each(alloc, dns.servers.items()))
+        .put("search", each(alloc, dns.search.items()))
+        .into_tree()
 }
 
 // What is running, and what is configured.
-fn running(alloc: Global, first: Tree, second: Tree) -> Result<Tree, OutOfMemory>
-    requires { shape second ≡ shape first }
-    ensures { IfOk result (λ tree. shape tree ≡ running (shape first)) }
+fn running(
+    alloc: Global,
+    first: Result<Tree, OutOfMemory>,
+    second: Result<Tree, OutOfMemory>,
+) -> Result<Tree, OutOfMemory>
+    ensures { (form : Shape) → IsTree form first → IsTree form second → IsTree (running form) result }
 {
-    let mut pairs = Pairs::new(alloc);
-    pairs.put("running", first)?;
-    pairs.put("config", second)?;
-    Ok(pairs.into_tree())
+    Pairs::new(alloc)
+        .put("running", first)
+        .put("config", second)
+        .into_tree()
 }
 
 fn dns_section(alloc: Global, dns: &Dns) -> Result<Tree, OutOfMemory>
     ensures { IfOk result (λ tree. shape tree ≡ running (dns_tree dns.now)) }
 {
-    let run = dns_tree(alloc, dns)?;
-    let config = dns_tree(alloc, dns)?;
-    running(alloc, run, config)
+    running(alloc, dns_tree(alloc, dns), dns_tree(alloc, dns))
 }
 
 fn rules_section(alloc: Global, rules: &[Rule]) -> Result<Tree, OutOfMemory>
     ensures { IfOk result (λ tree. shape tree ≡ fields (field (codes "config") (each rule_tree rules.now))) }
 {
-    let mut pairs = Pairs::new(alloc);
-    let trees = each(alloc, rules)?;
-    pairs.put("config", trees)?;
-    Ok(pairs.into_tree())
+    Pairs::new(alloc)
+        .put("config", each(alloc, rules))
+        .into_tree()
 }
 
 fn routes_section(alloc: Global, routes: &[Route]) -> Result<Tree, OutOfMemory>
     ensures { IfOk result (λ tree. shape tree ≡ running (each route_tree routes.now)) }
 {
-    let run = each(alloc, routes)?;
-    let config = each(alloc, routes)?;
-    running(alloc, run, config)
+    running(alloc, each(alloc, routes), each(alloc, routes))
 }
 
 fn all_links(alloc: Global, links: &[Link]) -> Result<Tree, OutOfMemory>
@@ -204,25 +165,20 @@ fn named_links(alloc: Global, links: &[Link], name: &[u8]) -> Result<Tree, OutOf
 fn whole_tree(alloc: Global, net: &Net) -> Result<Tree, OutOfMemory>
     ensures { IfOk result (λ tree. shape tree ≡ whole_tree net.now) }
 {
-    let mut pairs = Pairs::new(alloc);
-    let dns = dns_section(alloc, net.dns())?;
-    pairs.put("dns-resolver", dns)?;
-    let rules = rules_section(alloc, net.rules())?;
-    pairs.put("route-rules", rules)?;
-    let routes = routes_section(alloc, net.routes())?;
-    pairs.put("routes", routes)?;
-    let links = all_links(alloc, net.links())?;
-    pairs.put("interfaces", links)?;
-    Ok(pairs.into_tree())
+    Pairs::new(alloc)
+        .put("dns-resolver", dns_section(alloc, net.dns()))
+        .put("route-rules", rules_section(alloc, net.rules()))
+        .put("routes", routes_section(alloc, net.routes()))
+        .put("interfaces", all_links(alloc, net.links()))
+        .into_tree()
 }
 
 fn named_tree(alloc: Global, net: &Net, name: &[u8]) -> Result<Tree, OutOfMemory>
     ensures { IfOk result (λ tree. shape tree ≡ named_tree net.now name.now) }
 {
-    let mut pairs = Pairs::new(alloc);
-    let links = named_links(alloc, net.links(), name)?;
-    pairs.put("interfaces", links)?;
-    Ok(pairs.into_tree())
+    Pairs::new(alloc)
+        .put("interfaces", named_links(alloc, net.links(), name))
+        .into_tree()
 }
 
 /// The tree of a network as its state is printed, or of the link of this name alone, whose list is empty where no link

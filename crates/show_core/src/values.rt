@@ -1,7 +1,7 @@
 //! Trees of words, numbers, names and addresses, and of lists of them.
 ghost use Rattle.std.specs.Prelude.{◌≡◌, IfOk};
 ghost use Rattle.addr_text.specs.Mac.{mac_text};
-ghost use Rattle.doc_tree.specs.Shape.{shape, text};
+ghost use Rattle.doc_tree.specs.Shape.{shape, truth, text};
 ghost use Rattle.show_core.specs.Fields.{number, each, address, prefix, hardware};
 ghost use Rattle.show_core.specs.Links.{address_tree as address_pair};
 
@@ -19,6 +19,12 @@ pub trait Shown {
 
     fn show(&self, alloc: Global) -> Result<Tree, OutOfMemory>
         ensures { IfOk result (λ done. shape done ≡ tree self.now) };
+}
+
+pub fn bool_tree(b: bool) -> Tree
+    ensures { shape result ≡ truth b }
+{
+    Tree::Bool(b)
 }
 
 pub fn number_tree(n: u32) -> Tree
@@ -118,11 +124,10 @@ impl Shown for Prefix {
 fn prefix_tree(alloc: Global, of: Prefix) -> Result<Tree, OutOfMemory>
     ensures { IfOk result (λ tree. shape tree ≡ address_pair of) }
 {
-    let mut pairs = Pairs::new(alloc);
-    let addr = address_tree(alloc, of.addr())?;
-    pairs.put("ip", addr)?;
-    pairs.put_number("prefix-length", u32::from(of.len()))?;
-    Ok(pairs.into_tree())
+    Pairs::new(alloc)
+        .put("ip", address_tree(alloc, of.addr()))
+        .put_number("prefix-length", u32::from(of.len()))
+        .into_tree()
 }
 
 /// The list of their trees.
