@@ -8,11 +8,8 @@ ghost use Rattle.net_image.specs.Links.{link, is_writable};
 ghost use Rattle.net_image.specs.Image.{route, rule, target, dns, settings, mark, lists, version_2};
 ghost use Rattle.net_model.specs.declared.limits.TheConstants.{MAX_SERVERS, MAX_SEARCH};
 
-use crate::stored::push_all;
-use crate::write::{
-    push_byte, push_family, push_gateway, push_maybe_name, push_maybe_subnet, push_name,
-    push_subnet, push_table, push_u16, push_u32,
-};
+use crate::stored::{PushTo, push_all};
+use crate::write::{push_byte, push_family, push_u16, push_u32};
 use crate::write_link::push_links;
 use net_model::{Addr, Dns, Domain, Link, Net, OutOfMemory, Route, Rule, Target};
 
@@ -21,24 +18,16 @@ pub(crate) fn push_route(of: &Route, out: &mut Vec<u8>) -> Result<(), OutOfMemor
     ensures bytes { OnOk result (out.new.items ≡ out.old.items ++ route.write of.now) }
     ensures fits { OnOk result (route.fits of.now ≡ true) }
 {
-    push_subnet(of.dest, out)?;
-    push_table(of.table, out)?;
-    push_u32(of.metric, out)?;
-    push_gateway(&of.gateway, out)?;
-    push_name(&of.dev, out)?;
-    Ok(())
+    (of.dest, (of.table, (of.metric, (of.gateway, of.dev)))).push_to(out)
 }
 
 #[tactic(auto, unfolding(crate::specs::Image::target))]
-fn push_target(of: Target, out: &mut Vec<u8>) -> Result<(), OutOfMemory>
+pub(crate) fn push_target(of: Target, out: &mut Vec<u8>) -> Result<(), OutOfMemory>
     ensures bytes { OnOk result (out.new.items ≡ out.old.items ++ target.write of) }
     ensures fits { OnOk result (target.fits of ≡ true) }
 {
     match of {
-        Target::Table(table) => {
-            push_byte(0, out)?;
-            push_table(table, out)
-        }
+        Target::Table(table) => (0u8, table).push_to(out),
         Target::Blackhole => push_byte(1, out),
         Target::Unreachable => push_byte(2, out),
         Target::Prohibit => push_byte(3, out),
@@ -52,13 +41,8 @@ pub(crate) fn push_rule(of: Rule, out: &mut Vec<u8>) -> Result<(), OutOfMemory>
 {
     push_u32(of.priority, out)?;
     push_family(of.v6, out)?;
-    push_maybe_subnet(of.src, out)?;
-    push_maybe_subnet(of.dst, out)?;
-    push_maybe_name(&of.iif, out)?;
-    push_u32(of.mark, out)?;
-    push_u32(of.mask, out)?;
-    push_target(of.target, out)?;
-    Ok(())
+    let marks = (of.mark, (of.mask, of.target));
+    (of.src, (of.dst, (of.iif, marks))).push_to(out)
 }
 
 fn push_servers(of: &[Addr], out: &mut Vec<u8>) -> Result<(), OutOfMemory>
@@ -67,8 +51,7 @@ fn push_servers(of: &[Addr], out: &mut Vec<u8>) -> Result<(), OutOfMemory>
     ensures fits { OnOk result ((counted byte address_form).fits of.now ≡ true) }
 {
     push_byte(of.len() as u8, out)?;
-    push_all(of, out)?;
-    Ok(())
+    push_all(of, out)
 }
 
 fn push_search(of: &[Domain], out: &mut Vec<u8>) -> Result<(), OutOfMemory>
@@ -77,8 +60,7 @@ fn push_search(of: &[Domain], out: &mut Vec<u8>) -> Result<(), OutOfMemory>
     ensures fits { OnOk result ((counted byte domain).fits of.now ≡ true) }
 {
     push_byte(of.len() as u8, out)?;
-    push_all(of, out)?;
-    Ok(())
+    push_all(of, out)
 }
 
 #[tactic(auto, unfolding(crate::specs::Image::dns))]
@@ -119,8 +101,7 @@ fn push_links_counted(links: &[Link], out: &mut Vec<u8>) -> Result<(), OutOfMemo
     ensures fits { OnOk result ((counted (number 2) link).fits links.now ≡ true) }
 {
     push_u16(links.len() as u16, out)?;
-    push_links(links, out)?;
-    Ok(())
+    push_links(links, out)
 }
 
 fn push_routes(routes: &[Route], out: &mut Vec<u8>) -> Result<(), OutOfMemory>
@@ -129,8 +110,7 @@ fn push_routes(routes: &[Route], out: &mut Vec<u8>) -> Result<(), OutOfMemory>
     ensures fits { OnOk result ((counted (number 2) route).fits routes.now ≡ true) }
 {
     push_u16(routes.len() as u16, out)?;
-    push_all(routes, out)?;
-    Ok(())
+    push_all(routes, out)
 }
 
 fn push_rules(rules: &[Rule], out: &mut Vec<u8>) -> Result<(), OutOfMemory>
@@ -139,8 +119,7 @@ fn push_rules(rules: &[Rule], out: &mut Vec<u8>) -> Result<(), OutOfMemory>
     ensures fits { OnOk result ((counted (number 2) rule).fits rules.now ≡ true) }
 {
     push_u16(rules.len() as u16, out)?;
-    push_all(rules, out)?;
-    Ok(())
+    push_all(rules, out)
 }
 
 /// Appends the lists of a network, behind the bytes of version 2.

@@ -33,6 +33,16 @@ told n m tag f g x fits first others = elim (fits_either (eqb n m) f g x fits) [
   | inr h ↦ others h.1
 ]
 
+-- behind a number that was tested stands the variant of that number, which what is held tells
+pub variant_told : {X Y : Type 0} (n m : ℕ) (tag : X → ℕ) (to : Y → X) (held : X → Option Y) (form : Form Y) (g : Form X) (x : X)
+    → ((x : X) (y : Y) → held x ≡ Some y → to y ≡ x) → ((y : Y) → tag (to y) ≡ m)
+    → (cond (eqb n m) (variant to held form) g).fits x ≡ true → (g.fits x ≡ true → tag x ≡ n) → tag x ≡ n
+variant_told {Y = Y} n m tag to held form g x there numbered fits others = told n m tag (variant to held form) g x fits (λ h. by (held x) refl h) others
+  where
+    by : (o : Option Y) → held x ≡ o → option_map_or form.fits o false ≡ true → tag x ≡ m
+    by None is h = absurd cc
+    by (Some y) is h = ap tag (sym (there x y is)) ∙ numbered y
+
 -- ---- numbers and texts
 
 -- a byte up to a bound is exact

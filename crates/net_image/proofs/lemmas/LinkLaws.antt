@@ -23,7 +23,7 @@ use Rattle.net_image.specs.Links.{mode_of, mode, rate_number, rate_of, rate, pol
 use Rattle.net_image.specs.Laws.{IsExact}
 use Rattle.net_image.proofs.lemmas.Exact.{byte_exact, nothing_exact, never_exact, such_that_exact, made_exact, variant_exact, linked_exact, seq_exact, tagged_exact, counted_exact}
 use Rattle.net_image.proofs.lemmas.Numbers.{number_exact}
-use Rattle.net_image.proofs.lemmas.FieldLaws.{if_exact, told, up_to_exact, flag_exact, name_exact, maybe_name_exact, mac_exact, table_exact, prefix_exact}
+use Rattle.net_image.proofs.lemmas.FieldLaws.{if_exact, variant_told, up_to_exact, flag_exact, name_exact, maybe_name_exact, mac_exact, table_exact, prefix_exact}
 
 -- ---- words as one byte
 
@@ -178,13 +178,14 @@ kind_behind_exact n =
 
 -- what stands behind the number of a kind is of that kind
 kind_told : (n : ℕ) (k : Kind) → (kind_behind n).fits k ≡ true → kind_number k ≡ n
-kind_told n (Ethernet p) fits = told n 1 kind_number _ _ (Ethernet p) fits (λ h. refl) (λ o. told n 2 kind_number _ _ (Ethernet p) o (λ h. absurd cc) (λ o. told n 3 kind_number _ _ (Ethernet p) o (λ h. absurd cc) (λ o. told n 4 kind_number _ _ (Ethernet p) o (λ h. absurd cc) (λ o. told n 5 kind_number _ _ (Ethernet p) o (λ h. absurd cc) (λ o. told n 6 kind_number _ _ (Ethernet p) o (λ h. absurd cc) (λ o. told n 7 kind_number _ never (Ethernet p) o (λ h. absurd cc) (λ h. absurd cc)))))))
-kind_told n (Bond b) fits = told n 1 kind_number _ _ (Bond b) fits (λ h. absurd cc) (λ o. told n 2 kind_number _ _ (Bond b) o (λ h. refl) (λ o. told n 3 kind_number _ _ (Bond b) o (λ h. absurd cc) (λ o. told n 4 kind_number _ _ (Bond b) o (λ h. absurd cc) (λ o. told n 5 kind_number _ _ (Bond b) o (λ h. absurd cc) (λ o. told n 6 kind_number _ _ (Bond b) o (λ h. absurd cc) (λ o. told n 7 kind_number _ never (Bond b) o (λ h. absurd cc) (λ h. absurd cc)))))))
-kind_told n Bridge fits = told n 1 kind_number _ _ Bridge fits (λ h. absurd cc) (λ o. told n 2 kind_number _ _ Bridge o (λ h. absurd cc) (λ o. told n 3 kind_number _ _ Bridge o (λ h. refl) (λ o. told n 4 kind_number _ _ Bridge o (λ h. absurd cc) (λ o. told n 5 kind_number _ _ Bridge o (λ h. absurd cc) (λ o. told n 6 kind_number _ _ Bridge o (λ h. absurd cc) (λ o. told n 7 kind_number _ never Bridge o (λ h. absurd cc) (λ h. absurd cc)))))))
-kind_told n (Vlan b i p) fits = told n 1 kind_number _ _ (Vlan b i p) fits (λ h. absurd cc) (λ o. told n 2 kind_number _ _ (Vlan b i p) o (λ h. absurd cc) (λ o. told n 3 kind_number _ _ (Vlan b i p) o (λ h. absurd cc) (λ o. told n 4 kind_number _ _ (Vlan b i p) o (λ h. refl) (λ o. told n 5 kind_number _ _ (Vlan b i p) o (λ h. absurd cc) (λ o. told n 6 kind_number _ _ (Vlan b i p) o (λ h. absurd cc) (λ o. told n 7 kind_number _ never (Vlan b i p) o (λ h. absurd cc) (λ h. absurd cc)))))))
-kind_told n (Vrf t) fits = told n 1 kind_number _ _ (Vrf t) fits (λ h. absurd cc) (λ o. told n 2 kind_number _ _ (Vrf t) o (λ h. absurd cc) (λ o. told n 3 kind_number _ _ (Vrf t) o (λ h. absurd cc) (λ o. told n 4 kind_number _ _ (Vrf t) o (λ h. absurd cc) (λ o. told n 5 kind_number _ _ (Vrf t) o (λ h. refl) (λ o. told n 6 kind_number _ _ (Vrf t) o (λ h. absurd cc) (λ o. told n 7 kind_number _ never (Vrf t) o (λ h. absurd cc) (λ h. absurd cc)))))))
-kind_told n Dummy fits = told n 1 kind_number _ _ Dummy fits (λ h. absurd cc) (λ o. told n 2 kind_number _ _ Dummy o (λ h. absurd cc) (λ o. told n 3 kind_number _ _ Dummy o (λ h. absurd cc) (λ o. told n 4 kind_number _ _ Dummy o (λ h. absurd cc) (λ o. told n 5 kind_number _ _ Dummy o (λ h. absurd cc) (λ o. told n 6 kind_number _ _ Dummy o (λ h. refl) (λ o. told n 7 kind_number _ never Dummy o (λ h. absurd cc) (λ h. absurd cc)))))))
-kind_told n (Veth q) fits = told n 1 kind_number _ _ (Veth q) fits (λ h. absurd cc) (λ o. told n 2 kind_number _ _ (Veth q) o (λ h. absurd cc) (λ o. told n 3 kind_number _ _ (Veth q) o (λ h. absurd cc) (λ o. told n 4 kind_number _ _ (Veth q) o (λ h. absurd cc) (λ o. told n 5 kind_number _ _ (Veth q) o (λ h. absurd cc) (λ o. told n 6 kind_number _ _ (Veth q) o (λ h. absurd cc) (λ o. told n 7 kind_number _ never (Veth q) o (λ h. refl) (λ h. absurd cc)))))))
+kind_told n k fits =
+    variant_told n 1 kind_number Ethernet ethernet_held mac _ k ethernet_there (λ m. refl) fits
+    (λ o. variant_told n 2 kind_number Bond bond_held mode _ k bond_there (λ m. refl) o
+    (λ o. variant_told n 3 kind_number (λ u. Bridge) bridge_held nothing _ k bridge_there (λ u. refl) o
+    (λ o. variant_told n 4 kind_number (λ v. Vlan v.0 v.1.0 v.1.1) vlan_held (name ⨾ vlan_id ⨾ proto) _ k vlan_there (λ v. refl) o
+    (λ o. variant_told n 5 kind_number Vrf vrf_held table _ k vrf_there (λ t. refl) o
+    (λ o. variant_told n 6 kind_number (λ u. Dummy) dummy_held nothing _ k dummy_there (λ u. refl) o
+    (λ o. variant_told n 7 kind_number Veth veth_held name never k veth_there (λ p. refl) o (λ h. absurd cc)))))))
 
 -- the form of a kind is exact
 pub kind_exact : IsExact kind

@@ -13,7 +13,7 @@ use Rattle.net_image.specs.Image.{route, table_held, action, target_behind, targ
 use Rattle.net_image.specs.Laws.{IsExact}
 use Rattle.net_image.proofs.lemmas.Exact.{byte_exact, run_exact, nothing_exact, never_exact, such_that_exact, made_exact, variant_exact, seq_exact, tagged_exact, counted_exact}
 use Rattle.net_image.proofs.lemmas.Numbers.{number_exact}
-use Rattle.net_image.proofs.lemmas.FieldLaws.{if_exact, told, family_exact, maybe_name_exact, domain_exact, table_exact, address_exact, maybe_subnet_exact}
+use Rattle.net_image.proofs.lemmas.FieldLaws.{if_exact, variant_told, family_exact, maybe_name_exact, domain_exact, table_exact, address_exact, maybe_subnet_exact}
 use Rattle.net_image.proofs.lemmas.LinkLaws.{link_exact}
 use Rattle.net_image.proofs.lemmas.RouteLaws.{route_exact}
 
@@ -27,9 +27,11 @@ taken : (b : Bool) (u : Unit {0}) → cond b (Some tt) None ≡ Some u → b ≡
 taken true u held = refl
 taken false u held = absurd cc
 
+action_there : (n : ℕ) (word : Target) → ((t : Target) → target_rank t ≡ n → word ≡ t) → (t : Target) (u : Unit {0}) → cond (eqb (target_rank t) n) (Some tt) None ≡ Some u → word ≡ t
+action_there n word only t u held = only t (eqb-true _ _ (taken (eqb (target_rank t) n) u held))
+
 action_exact : (n : ℕ) (word : Target) → eqb (target_rank word) n ≡ true → ((t : Target) → target_rank t ≡ n → word ≡ t) → IsExact (action n word)
-action_exact n word is only = variant_exact (λ u. word) (λ t. cond (eqb (target_rank t) n) (Some tt) None) nothing nothing_exact
-    (λ t u held. only t (eqb-true _ _ (taken (eqb (target_rank t) n) u held))) (λ u fits. rw is refl)
+action_exact n word is only = variant_exact (λ u. word) (λ t. cond (eqb (target_rank t) n) (Some tt) None) nothing nothing_exact (action_there n word only) (λ u fits. rw is refl)
 
 blackhole_is : (t : Target) → target_rank t ≡ 1 → Blackhole ≡ t
 blackhole_is (Table m) is = absurd cc
@@ -57,10 +59,11 @@ target_behind_exact n =
     (if_exact (eqb n 3) _ _ (action_exact 3 Prohibit refl prohibit_is) never_exact)))
 
 target_told : (n : ℕ) (t : Target) → (target_behind n).fits t ≡ true → target_rank t ≡ n
-target_told n (Table m) fits = told n 0 target_rank _ _ (Table m) fits (λ h. refl) (λ o. told n 1 target_rank _ _ (Table m) o (λ h. absurd cc) (λ o. told n 2 target_rank _ _ (Table m) o (λ h. absurd cc) (λ o. told n 3 target_rank _ never (Table m) o (λ h. absurd cc) (λ h. absurd cc))))
-target_told n Blackhole fits = told n 0 target_rank _ _ Blackhole fits (λ h. absurd cc) (λ o. told n 1 target_rank _ _ Blackhole o (λ h. refl) (λ o. told n 2 target_rank _ _ Blackhole o (λ h. absurd cc) (λ o. told n 3 target_rank _ never Blackhole o (λ h. absurd cc) (λ h. absurd cc))))
-target_told n Unreachable fits = told n 0 target_rank _ _ Unreachable fits (λ h. absurd cc) (λ o. told n 1 target_rank _ _ Unreachable o (λ h. absurd cc) (λ o. told n 2 target_rank _ _ Unreachable o (λ h. refl) (λ o. told n 3 target_rank _ never Unreachable o (λ h. absurd cc) (λ h. absurd cc))))
-target_told n Prohibit fits = told n 0 target_rank _ _ Prohibit fits (λ h. absurd cc) (λ o. told n 1 target_rank _ _ Prohibit o (λ h. absurd cc) (λ o. told n 2 target_rank _ _ Prohibit o (λ h. absurd cc) (λ o. told n 3 target_rank _ never Prohibit o (λ h. refl) (λ h. absurd cc))))
+target_told n t fits =
+    variant_told n 0 target_rank Table table_held table _ t table_there (λ m. refl) fits
+    (λ o. variant_told n 1 target_rank (λ u. Blackhole) _ nothing _ t (action_there 1 Blackhole blackhole_is) (λ u. refl) o
+    (λ o. variant_told n 2 target_rank (λ u. Unreachable) _ nothing _ t (action_there 2 Unreachable unreachable_is) (λ u. refl) o
+    (λ o. variant_told n 3 target_rank (λ u. Prohibit) _ nothing never t (action_there 3 Prohibit prohibit_is) (λ u. refl) o (λ h. absurd cc))))
 
 pub target_exact : IsExact target
 unfolding target
