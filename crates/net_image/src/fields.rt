@@ -1,4 +1,4 @@
-//! Fields that are read without memory, and values that are written by the same forms, alone and one behind the other.
+//! Fields that are read without memory, alone and one behind the other.
 ghost use Rattle.net_image.specs.Form.{Form};
 ghost use Rattle.net_image.specs.Reading.{Gives};
 
@@ -9,16 +9,9 @@ use crate::read_link::{
     port_options_at, proto_at, rate_at, u16_at, vlan_id_at,
 };
 use crate::read_net::{maybe_subnet_at, rule_at, target_at};
-use crate::stored::PushTo;
-use crate::write::{
-    push_byte, push_flag, push_gateway, push_mac, push_maybe_name, push_maybe_subnet, push_name,
-    push_subnet, push_table, push_u16, push_u32,
-};
-use crate::write_link::{push_kind, push_mode, push_policy, push_proto, push_rate, push_vlan_id};
-use crate::write_net::push_target;
 use net_model::{
-    Addr, BondMode, BondOpts, BridgeOpts, HashPolicy, Kind, LacpRate, Mac, Name, OutOfMemory,
-    PortOpts, Prefix, Proto, Route, Rule, Subnet, TableId, Target, VlanId,
+    Addr, BondOpts, BridgeOpts, HashPolicy, Kind, LacpRate, Mac, Name, PortOpts, Prefix, Proto,
+    Route, Rule, Subnet, TableId, Target, VlanId,
 };
 
 /// A field that takes no memory.
@@ -28,18 +21,6 @@ pub(crate) trait Field: Sized + Drop {
     /// The field at the front of bytes, and the bytes behind it.
     fn field_at(bytes: &[u8]) -> Result<(Self, &[u8]), ImageFault>
         ensures { Gives (λ x. (x.0, x.1.now)) result (form.read bytes.now) };
-}
-
-// One behind the other.
-impl<A: PushTo, B: PushTo> PushTo for (A, B) {
-    ghost use Rattle.net_image.specs.Form.{◌⨾◌};
-
-    ghost form = { A.form ⨾ B.form };
-
-    fn push_to(&self, out: &mut Vec<u8>) -> Result<(), OutOfMemory> {
-        self.0.push_to(out)?;
-        self.1.push_to(out)
-    }
 }
 
 // One behind the other.
@@ -286,185 +267,5 @@ impl Field for Rule {
 
     fn field_at(bytes: &[u8]) -> Result<(Rule, &[u8]), ImageFault> {
         rule_at(bytes)
-    }
-}
-
-impl PushTo for u8 {
-    ghost use Rattle.net_image.specs.Form.{byte};
-
-    ghost form = { byte };
-
-    fn push_to(&self, out: &mut Vec<u8>) -> Result<(), OutOfMemory> {
-        push_byte(*self, out)
-    }
-}
-
-impl PushTo for u16 {
-    ghost use Rattle.net_image.specs.Form.{number};
-
-    ghost form = { number 2 };
-
-    fn push_to(&self, out: &mut Vec<u8>) -> Result<(), OutOfMemory> {
-        push_u16(*self, out)
-    }
-}
-
-impl PushTo for u32 {
-    ghost use Rattle.net_image.specs.Form.{number};
-
-    ghost form = { number 4 };
-
-    fn push_to(&self, out: &mut Vec<u8>) -> Result<(), OutOfMemory> {
-        push_u32(*self, out)
-    }
-}
-
-impl PushTo for bool {
-    ghost use Rattle.net_image.specs.Fields.{flag};
-
-    ghost form = { flag };
-
-    fn push_to(&self, out: &mut Vec<u8>) -> Result<(), OutOfMemory> {
-        push_flag(*self, out)
-    }
-}
-
-impl PushTo for TableId {
-    ghost use Rattle.net_image.specs.Fields.{table};
-
-    ghost form = { table };
-
-    fn push_to(&self, out: &mut Vec<u8>) -> Result<(), OutOfMemory> {
-        push_table(*self, out)
-    }
-}
-
-impl PushTo for Name {
-    ghost use Rattle.net_image.specs.Fields.{name};
-
-    ghost form = { name };
-
-    fn push_to(&self, out: &mut Vec<u8>) -> Result<(), OutOfMemory> {
-        push_name(self, out)
-    }
-}
-
-impl PushTo for Option<Name> {
-    ghost use Rattle.net_image.specs.Fields.{maybe_name};
-
-    ghost form = { maybe_name };
-
-    fn push_to(&self, out: &mut Vec<u8>) -> Result<(), OutOfMemory> {
-        push_maybe_name(self, out)
-    }
-}
-
-impl PushTo for Mac {
-    ghost use Rattle.net_image.specs.Fields.{mac};
-
-    ghost form = { mac };
-
-    fn push_to(&self, out: &mut Vec<u8>) -> Result<(), OutOfMemory> {
-        push_mac(*self, out)
-    }
-}
-
-impl PushTo for Subnet {
-    ghost use Rattle.net_image.specs.Fields.{subnet};
-
-    ghost form = { subnet };
-
-    fn push_to(&self, out: &mut Vec<u8>) -> Result<(), OutOfMemory> {
-        push_subnet(*self, out)
-    }
-}
-
-impl PushTo for Option<Subnet> {
-    ghost use Rattle.net_image.specs.Fields.{maybe_subnet};
-
-    ghost form = { maybe_subnet };
-
-    fn push_to(&self, out: &mut Vec<u8>) -> Result<(), OutOfMemory> {
-        push_maybe_subnet(*self, out)
-    }
-}
-
-impl PushTo for Option<Addr> {
-    ghost use Rattle.net_image.specs.Fields.{gateway};
-
-    ghost form = { gateway };
-
-    fn push_to(&self, out: &mut Vec<u8>) -> Result<(), OutOfMemory> {
-        push_gateway(self, out)
-    }
-}
-
-impl PushTo for VlanId {
-    ghost use Rattle.net_image.specs.Links.{vlan_id};
-
-    ghost form = { vlan_id };
-
-    fn push_to(&self, out: &mut Vec<u8>) -> Result<(), OutOfMemory> {
-        push_vlan_id(*self, out)
-    }
-}
-
-impl PushTo for Proto {
-    ghost use Rattle.net_image.specs.Links.{proto};
-
-    ghost form = { proto };
-
-    fn push_to(&self, out: &mut Vec<u8>) -> Result<(), OutOfMemory> {
-        push_proto(*self, out)
-    }
-}
-
-impl PushTo for LacpRate {
-    ghost use Rattle.net_image.specs.Links.{rate};
-
-    ghost form = { rate };
-
-    fn push_to(&self, out: &mut Vec<u8>) -> Result<(), OutOfMemory> {
-        push_rate(*self, out)
-    }
-}
-
-impl PushTo for HashPolicy {
-    ghost use Rattle.net_image.specs.Links.{policy};
-
-    ghost form = { policy };
-
-    fn push_to(&self, out: &mut Vec<u8>) -> Result<(), OutOfMemory> {
-        push_policy(*self, out)
-    }
-}
-
-impl PushTo for BondMode {
-    ghost use Rattle.net_image.specs.Links.{mode};
-
-    ghost form = { mode };
-
-    fn push_to(&self, out: &mut Vec<u8>) -> Result<(), OutOfMemory> {
-        push_mode(*self, out)
-    }
-}
-
-impl PushTo for Kind {
-    ghost use Rattle.net_image.specs.Links.{kind};
-
-    ghost form = { kind };
-
-    fn push_to(&self, out: &mut Vec<u8>) -> Result<(), OutOfMemory> {
-        push_kind(*self, out)
-    }
-}
-
-impl PushTo for Target {
-    ghost use Rattle.net_image.specs.Image.{target};
-
-    ghost form = { target };
-
-    fn push_to(&self, out: &mut Vec<u8>) -> Result<(), OutOfMemory> {
-        push_target(*self, out)
     }
 }
