@@ -12,6 +12,7 @@ pub mod Deleting
 pub mod Nearer
 pub mod Phasing
 pub mod Editing
+pub mod Reached
 pub mod Macs
 pub mod Mtu
 pub mod Making
