@@ -202,8 +202,7 @@ fn settle(alloc: Global, draft: &mut Draft, creations: &mut Creations) -> Result
     ensures { OnOk result (draft.new ≡ noted creations.old draft.old) }
 {
     let mut links = made_links(alloc, &creations.links)?;
-    draft.put_in(alloc, &mut links, &mut creations.calls)?;
-    Ok(())
+    draft.put_in(alloc, &mut links, &mut creations.calls)
 }
 
 // Notes that the link of a name is made, which is of this kind.
@@ -219,8 +218,7 @@ fn create(
 {
     plan_laws();
     let first = first_of(draft, creations, name, kind);
-    creations.note(name, first)?;
-    Ok(())
+    creations.note(name, first)
 }
 
 // Notes that the link of a name is made, where the target has it and it isn't there yet.
@@ -246,6 +244,5 @@ pub fn create_links(alloc: Global, draft: &mut Draft, names: &[Name]) -> Result<
     for name in names {
         create_next(draft, &mut creations, name)?;
     }
-    settle(alloc, draft, &mut creations)?;
-    Ok(())
+    settle(alloc, draft, &mut creations)
 }

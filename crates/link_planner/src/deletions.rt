@@ -56,11 +56,7 @@ fn in_order(alloc: Global, names: &BTreeSet<Name>) -> Result<Vec<Name>, AllocErr
     ensures all { IfOk result (λ list. list.items ≡ names.now.keys) }
     ensures rise { IfOk result (λ list. rises name_cmp list.items ≡ true) }
 {
-    let mut list = Vec::new(alloc);
-    for name in names.iter() {
-        list.push(*name)?;
-    }
-    Ok(list)
+    names.iter().copied().collect(alloc)
 }
 
 impl Deletions {
@@ -159,9 +155,8 @@ fn settle(alloc: Global, draft: &mut Draft, deletions: &mut Deletions) -> Result
     ensures none { OnOk result (AreNone deletions.new) }
 {
     let names = in_order(alloc, &deletions.names)?;
-    draft.take_out(&names, &mut deletions.calls)?;
     deletions.names.clear();
-    Ok(())
+    draft.take_out(&names, &mut deletions.calls)
 }
 
 // Deletes the link of a name, which is of this kind. Where a VLAN that stays stands over it or its peer, that one goes with
@@ -179,13 +174,12 @@ fn delete(
 {
     plan_laws();
     if are_bare(draft, deletions, name, kind) {
-        deletions.note(name, peer_of(kind))?;
-        return Ok(());
+        return deletions.note(name, peer_of(kind));
     }
     settle(alloc, draft, deletions)?;
-    serve(draft, Phase::DeleteLinks, name)?;
+    let served = serve(draft, Phase::DeleteLinks, name);
     draft.laws();
-    Ok(())
+    served
 }
 
 // Deletes the link of a name, unless it may stay, or went with another.
@@ -216,6 +210,5 @@ pub fn delete_links(alloc: Global, draft: &mut Draft, names: &[Name]) -> Result<
     for name in names {
         delete_next(alloc, draft, &mut deletions, name)?;
     }
-    settle(alloc, draft, &mut deletions)?;
-    Ok(())
+    settle(alloc, draft, &mut deletions)
 }

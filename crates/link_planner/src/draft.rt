@@ -1,11 +1,12 @@
 //! A plan in the making.
-ghost use Rattle.std.specs.Prelude.{◌≡◌, ◌++◌, true, [], IfOk, IfSome, OnOk, OnErr, MatchOption, IsPermutation, IsSorted};
+ghost use Rattle.std.specs.Prelude.{◌≡◌, ◌++◌, true, [], Ok, IfOk, IfSome, OnOk, OnErr, MatchOption, IsPermutation, IsSorted};
 ghost use Rattle.net_model.specs.Words.{is_among, rises, sorted};
 ghost use Rattle.net_model.specs.Order.{link_cmp, name_cmp};
 ghost use Rattle.net_model.specs.Valid.{names_differ};
 ghost use Rattle.net_model.specs.Hardware.{hardware};
 ghost use Rattle.net_model.specs.NetData.{IsNet};
 ghost use Rattle.net_model.specs.Edits.{without};
+ghost use Rattle.kernel_model.specs.Kernel.{step, after};
 ghost use Rattle.link_planner.specs.Drafts.{Holds, IsSafe, draft_of, with_call, with_created, with_deleted, with_links, with_some};
 ghost use Rattle.link_planner.specs.Kept.{is_kept};
 ghost use Rattle.link_planner.specs.Pairs.{AreUnpaired, ArePair};
@@ -35,6 +36,19 @@ impl<'a> Model for Draft<'a> {
     ghost view = { λ d. draft_of d.start.now d.target.now d.net d.calls.items };
 
     ghost invariant = { λ d. IsDraft (draft_of d.start.now d.target.now d.net d.calls.items) };
+}
+
+// Makes a call that is accepted.
+fn make_call(net: &mut Net, call: &Call) -> Result<(), OutOfMemory>
+    requires { step call.now net.old ≡ Ok (after call.now net.old) }
+    ensures made { OnOk result (step call.now net.old ≡ Ok net.new) }
+    ensures unchanged { OnErr result (net.new ≡ net.old) }
+{
+    match step(net, call) {
+        Ok(()) => Ok(()),
+        Err(StepFault::Refused(_)) => unreachable!(),
+        Err(StepFault::OutOfMemory) => Err(OutOfMemory),
+    }
 }
 
 // Takes out the links of these names, which are sorted, and the routes over them.
@@ -185,11 +199,7 @@ impl<'a> Draft<'a> {
         plan_laws();
         self.net.laws();
         self.calls.reserve(1)?;
-        match step(&mut self.net, &call) {
-            Ok(()) => {}
-            Err(StepFault::Refused(_)) => unreachable!(),
-            Err(StepFault::OutOfMemory) => return Err(OutOfMemory),
-        }
+        make_call(&mut self.net, &call)?;
         self.calls.push(call)?;
         Ok(())
     }

@@ -70,8 +70,7 @@ pub fn serve(draft: &mut Draft, phase: Phase, name: &Name) -> Result<(), OutOfMe
     ensures { OnOk result (IsServed phase name.now draft.old draft.new) }
 {
     let call = call_for(draft, phase, name);
-    draft.add_some(call)?;
-    Ok(())
+    draft.add_some(call)
 }
 
 /// Carries out a phase for the names, one after the other.

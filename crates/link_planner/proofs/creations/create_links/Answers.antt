@@ -1,7 +1,8 @@
 use Rattle.std.proofs.Common.{arith, sym, subst}
+use Rattle.std.proofs.lemmas.Result.{on_ok_weaker}
 use Rattle.link_planner.specs.declared.phase.Phase.TheVariants.{CreateLinks}
 use Rattle.link_planner.specs.Drafts.{Holds}
-use Rattle.link_planner.specs.Phases.{IsAlong}
+use Rattle.link_planner.specs.Phases.{HasRun, IsAlong}
 use Rattle.link_planner.specs.Creations.{noted}
 use Rattle.link_planner.proofs.Creating.{noted_none}
 use Rattle.link_planner.proofs.Phasing.{along_none, along_due, along_more, along_all}
@@ -31,4 +32,6 @@ pub settle-requires : goal.settle-requires
 settle-requires c = c.loop-name.invariant.holds
 
 pub returns : goal.returns
-returns c = rw c.in_ok-settle.ensures (along_all CreateLinks c.args.names.now c.args.draft.now c.requires.stands c.requires.order c.loop-name.name-index (noted c.loop-name.creations c.args.draft.now) c.loop-name-test.false c.loop-name.invariant.along)
+returns c =
+    let run = along_all CreateLinks c.args.names.now c.args.draft.now c.requires.stands c.requires.order c.loop-name.name-index (noted c.loop-name.creations c.args.draft.now) c.loop-name-test.false c.loop-name.invariant.along in
+    on_ok_weaker c.settle.result (λ is. subst (HasRun CreateLinks c.args.names.now c.args.draft.now) (sym is) run) c.settle.ensures
