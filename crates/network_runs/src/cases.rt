@@ -5,6 +5,7 @@
 //! | `hardware LIST` | the devices of all networks |
 //! | `network NAME DOCUMENT` | names the network that a document makes of the devices |
 //! | `grow NAME NEW N CALL` | names the network that a call N times makes of a named one, with the number of the time from 0: how many whole 64 for `%`, what is left for `#` |
+//! | `drawn SEED N` | N pairs of networks that the seed draws, with the plans from the one to the other and back |
 //! | `== TITLE` | begins a group of cases |
 //! | `line CALL` | a case: a call that is printed as it stands there |
 //! | `NAME: CALL => ANSWER` | a case: a call on a named network, and the number with which it is refused, `done`, or the name of the network that then stands |
@@ -13,6 +14,7 @@
 
 use crate::calls::call;
 use crate::networks::{copied, first, merged, try_call};
+use crate::pairs::led;
 use crate::printing::is_printed;
 use crate::reading::{number, text_of};
 use anyhow::{Result, anyhow};
@@ -193,6 +195,15 @@ impl Cases {
         Ok(())
     }
 
+    // `SEED N`, of a line.
+    fn drawn(&mut self, alloc: Global, line: &str, rest: &str) -> Result<()> {
+        let Some((seed, count)) = rest.split_once(' ') else {
+            return Err(anyhow!("no number of pairs"));
+        };
+        let told = led(alloc, number(seed)? as u64, number(count)?)?;
+        self.tell(line, &told)
+    }
+
     // `NAME: CALL => ANSWER`.
     fn case(&mut self, alloc: Global, line: &str) -> Result<()> {
         let Some((name, rest)) = line.split_once(": ") else {
@@ -236,6 +247,9 @@ impl Cases {
         }
         if let Some(rest) = line.strip_prefix("grow ") {
             return self.grow(alloc, rest);
+        }
+        if let Some(rest) = line.strip_prefix("drawn ") {
+            return self.drawn(alloc, line, rest);
         }
         if let Some(title) = line.strip_prefix("== ") {
             self.end(alloc)?;

@@ -25,7 +25,8 @@ pub enum Machine {
     Disk(MemoryDisk),
 }
 
-fn in_memory<T: Drop>(given: Result<T, OutOfMemory>) -> Result<T> {
+/// What was made, or that memory ran out.
+pub fn in_memory<T: Drop>(given: Result<T, OutOfMemory>) -> Result<T> {
     match given {
         Ok(given) => Ok(given),
         Err(OutOfMemory) => Err(anyhow!("out of memory")),

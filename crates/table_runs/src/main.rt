@@ -1,0 +1,105 @@
+//! Reads tables of cases from standard input and says which answer otherwise than they say: texts that are read and printed
+//! again, networks of lists and what is asked of them, stored bytes, policies, and words, scripts and answers of commands.
+#![tactic(auto)]
+
+// Lines in the manner of ip(8).
+mod batches;
+// Checkpoint areas as they read.
+mod cells;
+// The command of words.
+mod commands;
+// A disk in memory, step by step.
+mod disks;
+// JSON and YAML.
+mod documents;
+// Bytes as hexadecimal digits.
+mod hex;
+// Images.
+mod images;
+// Stored bytes.
+mod kept;
+// Links from words.
+mod links;
+// Lists of links, routes, rules, servers and search domains from words.
+mod lists;
+// Networks of lists.
+mod networks;
+// The order of words with what is read for it, and the steps of scripts.
+mod orders;
+// Documents that are policies, and why others are refused.
+mod policies;
+// What is asked of a network.
+mod questions;
+// Words of lists, and what they stand for.
+mod reading;
+// The lines of answers.
+mod told;
+// Trees on one line.
+mod trees;
+// What policies are worth on a running state.
+mod values;
+// Addresses and words of settings.
+mod words;
+
+use base_model::OutOfMemory;
+use case_table::{Answers, report};
+use std::alloc::Global;
+use std::io::{self, Read, Write};
+
+// The tables.
+struct Tables;
+
+// Appends the answer to a case of bytes, if it is one: documents, lines, addresses, policies.
+fn push_of_bytes(
+    alloc: Global,
+    kind: &str,
+    case: &[u8],
+    out: &mut Vec<u8>,
+) -> Result<bool, OutOfMemory> {
+    if kind == "bytes" {
+        orders::push_steps(alloc, case, out)?;
+        return Ok(true);
+    }
+    let is_answered = documents::answer(alloc, kind, case, out)?
+        || batches::answer(alloc, kind, case, out)?
+        || words::answer(kind, case, out)?
+        || policies::answer(alloc, kind, case, out)?
+        || values::answer(alloc, kind, case, out)?;
+    Ok(is_answered)
+}
+
+// Appends the answer to a case of text, if it is one: networks, stored bytes, words, orders, answers.
+fn push_of_text(
+    alloc: Global,
+    kind: &str,
+    case: &str,
+    out: &mut Vec<u8>,
+) -> Result<bool, OutOfMemory> {
+    let is_answered = networks::answer(alloc, kind, case, out)?
+        || kept::answer(alloc, kind, case, out)?
+        || commands::answer(alloc, kind, case, out)?
+        || orders::answer(alloc, kind, case, out)?
+        || told::answer(alloc, kind, case, out)?;
+    Ok(is_answered)
+}
+
+impl Answers for Tables {
+    fn answer(alloc: Global, kind: &str, case: &[u8]) -> Result<Vec<u8>, OutOfMemory> {
+        let mut out = Vec::new(alloc);
+        if !push_of_bytes(alloc, kind, case, &mut out)?
+            && !push_of_text(alloc, kind, str::from_utf8(case).unwrap_or(""), &mut out)?
+        {
+            out.extend_from_slice(b"no such kind")?;
+        }
+        Ok(out)
+    }
+}
+
+fn main(rt: HostRuntime) -> io::Result<()> {
+    let mut input = String::new(rt.alloc());
+    rt.stdin().read_to_string(&mut input)?;
+    match report::<Tables>(rt.alloc(), input.as_str()) {
+        Ok(report) => rt.stdout().write_all(&report),
+        Err(OutOfMemory) => rt.stdout().write_all(b"out of memory\n"),
+    }
+}
