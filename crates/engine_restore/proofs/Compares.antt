@@ -1,16 +1,16 @@
 -- What a check answers and leaves.
 use Rattle.std.proofs.Common.{◌≡◌, ◌≢◌, ◌∙◌, inl, inr, refl, sym, ap, subst, ℕ, List, [], ◌∷◌, length, Option, Some, None}
-use Rattle.std.specs.Prelude.{Result, Ok, Err, IsSome, OnOk}
+use Rattle.std.specs.Prelude.{Result, Ok, Err, IsSome}
 use Rattle.net_model.specs.NetData.{NetData, IsNet}
 use Rattle.host_core.specs.HostView.{State, HostView}
 use Rattle.host_core.specs.Stops.{Stops, Steps, Stays}
 use Rattle.host_core.proofs.lemmas.Moments.{follow}
 use Rattle.checkpoint_cell.specs.Cell.{Checkpoint, cell_of, saved_net, seen_of, applying}
-use Rattle.checkpoint_cell.specs.Loaded.{IsLoaded}
+use Rattle.checkpoint_cell.specs.Loaded.{IsBad, IsLoaded}
 use Rattle.checkpoint_cell.specs.Settled.{Standing, standing, restored_to}
 use Rattle.checkpoint_cell.specs.declared.Seen.{Seen}
 use Rattle.checkpoint_cell.specs.declared.loading.Pending.{Pending}
-use Rattle.engine_model.specs.Checks.{found, unless_other, differing_from, SameHardware, check_cell, check, saved_in, Compared, CheckSays, CheckAnswers, AsRead, CheckExit}
+use Rattle.engine_model.specs.Checks.{found, unless_other, differing_from, SameHardware, check_cell, check_saved, check, saved_in, Compared, CheckSays, CheckAnswers, AsRead, CheckExit}
 use Rattle.engine_model.specs.Sound.{Fit, Sound, IsWhole}
 use Rattle.engine_model.specs.Stations.{Within, Before, Ends, entry_of, left_by}
 use Rattle.engine_model.specs.declared.Checked.{Checked}
@@ -86,6 +86,25 @@ answers_compared old new pending net seen loaded is stands (Err (HardwareDiffers
     ap (λ (n : Option NetData). check_cell n (cell_of old.state.cell)) stands ∙ agrees pending (cell_of old.state.cell) net seen loaded is (Err (HardwareDiffers names)) c
 answers_compared old new pending net seen loaded is stands (Err OutOfMemory) c = tt
 
+-- ---- what is damaged
+
+abbrev pub damaged : ℕ → Outcome
+damaged area = Err (Damaged area)
+
+-- the checkpoint is open and has no whole image
+pub bad_told : (net : Option NetData) (cell : Option Checkpoint) → IsBad cell → check_cell net cell ≡ damaged 1
+bad_told net None bad = absurd bad
+bad_told net (Some checkpoint) bad = ap (check_saved net checkpoint) bad
+
+-- there is no network
+pub none_told : (pending : Option Pending) (net : Option NetData) (cell : Option Checkpoint) → net ≡ None → IsLoaded pending cell → check_cell net cell ≡ damaged 0
+none_told None net cell none is = λ i. check_cell (none i) (is i)
+none_told (Some pending) net cell none is = λ i. check_cell (none i) (is i)
+
+-- as the number of its area is told
+pub damaged_as : (area told : ℕ) → area ≡ told → damaged area ≡ damaged told
+damaged_as area told is = ap damaged is
+
 -- ---- what is left
 
 module _ (old new : HostView) (steps : Steps Stays old.stops new.stops) where
@@ -158,7 +177,6 @@ sound_as pending net host same each loaded filled = record {
 
 -- ---- a network that was taken back
 
-pub restored_net : (saved : NetData) (mid new : HostView) {A E : Type 0} (result : Result A E) → new.stops.may_leave new.state → saved_net mid.state.cell ≡ Some saved → OnOk result (Ends (restored_to saved) new)
-    → OnOk result (saved_net new.state.cell ≡ saved_net mid.state.cell) → OnOk result (new.state.net ≡ saved_net new.state.cell)
-restored_net saved mid new (Ok done) there cell ends same = ap (λ (x : Standing). x.net) (ends new.state there) ∙ sym (same ∙ cell)
-restored_net saved mid new (Err fault) there cell ends same = tt
+pub restored_net : (saved : NetData) (mid new : HostView) → new.stops.may_leave new.state → saved_net mid.state.cell ≡ Some saved → Ends (restored_to saved) new → saved_net new.state.cell ≡ saved_net mid.state.cell
+    → new.state.net ≡ saved_net new.state.cell
+restored_net saved mid new there cell ends same = ap (λ (x : Standing). x.net) (ends new.state there) ∙ sym (same ∙ cell)

@@ -1,7 +1,7 @@
 -- A run of calls goes on by one.
-use Rattle.std.proofs.Common.{◌≡◌, inl, inr, ◌+◌, ◌<◌, ℕ, List, [], ◌∷◌, ◌++◌, length, drop, take, get_or, refl, sym, ap, ◌∙◌, subst, Option, Some, add-one}
+use Rattle.std.proofs.Common.{◌≡◌, inl, inr, ◌+◌, ◌<◌, ◌≤◌, ℕ, List, [], ◌∷◌, ◌++◌, length, drop, take, get_or, refl, sym, ap, ◌∙◌, subst, Option, Some, add-one}
 use Rattle.std.specs.Prelude.{Ok, Err}
-use Rattle.std.proofs.lemmas.List.{drop_more, take-append-drop}
+use Rattle.std.proofs.lemmas.List.{drop_all, drop_more, take-append-drop}
 use Rattle.std.proofs.Math.Seq.{take-suc}
 use Rattle.net_model.specs.NetData.{NetData}
 use Rattle.net_model.specs.declared.Call.{Call}
@@ -48,6 +48,10 @@ run_taken calls i d call from to old at lt is runs k refuses =
     let next = run_step calls i d from to lt runs in
     let there : step call from ≡ Ok next.0 = subst (λ (c : Call). step c from ≡ Ok next.0) (sym at) next.1 in
     never_refused call k from next.0 old is there refuses
+
+-- behind the last call the run is at its end
+pub run_ended : (calls : List Call) (i : ℕ) (from to : NetData) → length calls ≤ i → Runs (drop i calls) from to → to ≡ from
+run_ended calls i from to end runs = subst (λ (l : List Call). Runs l from to) (drop_all i calls end) runs
 
 pub called : KeepsNet → KeepsHardware → (call : Call) (r s : State) → MaybeCalled call r s → RunStep r s
 called keeps devices call r s step = record {

@@ -3,7 +3,7 @@ ghost use Rattle.std.specs.Prelude.{◌≡◌, ◌≢◌, ◌≤◌, ℕ, None, 
 ghost use Rattle.host_core.specs.Stops.{Steps, Stays};
 ghost use Rattle.checkpoint_cell.specs.Steps.{Holds};
 ghost use Rattle.checkpoint_cell.specs.Settled.{standing};
-ghost use Rattle.engine_model.specs.Machine.{rollback, recover, settle};
+ghost use Rattle.engine_model.specs.Machine.{rollback, recover, settle, due_at};
 ghost use Rattle.engine_model.specs.Sound.{WhereSound};
 ghost use Rattle.engine_model.specs.Stations.{Only, Kept, at, entry_of, left_by};
 ghost use Rattle.engine_model.specs.Exit.{BackExit};
@@ -91,6 +91,17 @@ pub fn recover<H: Host>(host: &mut H, alloc: Global, now: u64) -> Result<Recover
     take_back(host, alloc, now)
 }
 
+// When the change is due, where one waits.
+fn due_at(done: Recovered) -> Option<u64>
+    ensures { result ≡ due_at done }
+{
+    match done {
+        Recovered::Waiting { deadline } => Some(deadline),
+        Recovered::Nothing => None,
+        Recovered::Restored => None,
+    }
+}
+
 /// Takes back a change that is being made or is due, and answers when one that waits is due.
 pub fn settle<H: Host>(host: &mut H, alloc: Global, now: u64) -> Result<Option<u64>, BackFault>
     ensures says { BackSays H.tells (settle now (standing (H.told host.old).state)).answer (H.told host.old) (H.told host.new) result }
@@ -116,9 +127,7 @@ pub fn settle<H: Host>(host: &mut H, alloc: Global, now: u64) -> Result<Option<u
     ensures later { (H.told host.old).faults ≤ (H.told host.new).faults }
 {
     match recover(host, alloc, now) {
-        Ok(Recovered::Waiting { deadline }) => Ok(Some(deadline)),
-        Ok(Recovered::Nothing) => Ok(None),
-        Ok(Recovered::Restored) => Ok(None),
+        Ok(done) => Ok(due_at(done)),
         Err(fault) => Err(fault),
     }
 }

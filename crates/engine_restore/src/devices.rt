@@ -5,7 +5,7 @@ ghost use Rattle.std.specs.Option.{option_to_list};
 ghost use Rattle.net_model.specs.Hardware.{device_of, hardware, same_device};
 ghost use Rattle.net_model.specs.Order.{name_cmp};
 ghost use Rattle.net_model.specs.Words.{is_among, sorted};
-ghost use Rattle.engine_model.specs.Differing.{lacking, differing};
+ghost use Rattle.engine_model.specs.Differing.{lacking, either, differing};
 
 use base_model::{Items, OutOfMemory};
 use net_model::{Kind, Link, Mac, Name, Net};
@@ -91,16 +91,24 @@ fn sort_names(names: &mut Vec<Name>) -> Result<(), AllocError>
     names.sort()
 }
 
+// The names of the devices that only one of the two has, each once.
+fn either(alloc: Global, ours: &[Device], theirs: &[Device]) -> Result<Vec<Name>, AllocError>
+    ensures { IfOk result (λ names. names.items ≡ either (lacking ours.now theirs.now) (lacking theirs.now ours.now)) }
+{
+    let mut names = lacking(alloc, ours, theirs)?;
+    let more = lacking(alloc, theirs, ours)?;
+    let new = others(alloc, &names, &more)?;
+    names.extend_from_slice(&new)?;
+    Ok(names)
+}
+
 /// The names of the devices on which two networks differ, in order.
 pub(crate) fn differing(alloc: Global, a: &Net, b: &Net) -> Result<Items<Name>, OutOfMemory>
     ensures { IfOk result (λ names. differing a.now b.now ≡ names) }
 {
     let ours = hardware(alloc, a.links())?;
     let theirs = hardware(alloc, b.links())?;
-    let mut names = lacking(alloc, &ours, &theirs)?;
-    let more = lacking(alloc, &theirs, &ours)?;
-    let new = others(alloc, &names, &more)?;
-    names.extend_from_slice(&new)?;
+    let mut names = either(alloc, &ours, &theirs)?;
     sort_names(&mut names)?;
     Ok(Items::of(names))
 }

@@ -1,10 +1,10 @@
 //! A restoring, from its barrier to the clearing.
-ghost use Rattle.std.specs.Prelude.{◌≡◌, ◌≢◌, ◌≤◌, ℕ, not, true, false, [], length, None, Some, OnOk, IfOk, IfErr, IsErrOf, IsSome};
+ghost use Rattle.std.specs.Prelude.{◌≡◌, ◌≢◌, ◌≤◌, ℕ, not, true, false, None, Some, OnOk, IfOk, IfErr, IsErrOf, IsSome};
 ghost use Rattle.net_model.specs.NetData.{NetData, IsNet};
 ghost use Rattle.kernel_model.specs.Runs.{Runs};
 ghost use Rattle.host_core.specs.Faults.{HasCause};
 ghost use Rattle.host_core.specs.Stops.{Steps, Stays};
-ghost use Rattle.host_core.specs.HostView.{State, SameKernel, NoneRefused};
+ghost use Rattle.host_core.specs.HostView.{State, SameKernel, Untouched, NoneRefused};
 ghost use Rattle.checkpoint_cell.specs.Cell.{Checkpoint, cell_of, saved_net, applying, in_phase};
 ghost use Rattle.checkpoint_cell.specs.Steps.{Holds};
 ghost use Rattle.checkpoint_cell.specs.Settled.{Standing, standing, settled, taken_back};
@@ -14,64 +14,85 @@ ghost use Rattle.engine_model.specs.Sound.{WhereSound};
 ghost use Rattle.engine_model.specs.Stations.{Only, Kept, Ends, IsSettled, Waits, FromRead, Any};
 ghost use Rattle.checkpoint_cell.specs.Settled.{restored_to};
 ghost use Rattle.engine_model.specs.Answers.{IsBefore, IsHealthy, IsClear, IsTaken, IsUndone, Finds};
-ghost use Rattle.engine_model.specs.Failing.{Fails};
-ghost use Rattle.engine_model.specs.Refusals.{NoCallMade};
+ghost use Rattle.engine_model.specs.Failing.{IsUnbegun, Fails};
 ghost use Rattle.engine_model.specs.Faults.{GaveSaved};
-ghost use Rattle.engine_restore.specs.Given.{IsGiven};
+ghost use Rattle.engine_restore.specs.Restoring.{IsSet, Hinders, IsDumped, WayBack, IsReady, Undoes, Interrupts, Restores};
 
 use crate::devices::differing;
 use crate::running::{RunFault, run};
-use checkpoint_cell::{CellFault, Phase, Seen, barrier, clear, due, load, mark_applying};
+use checkpoint_cell::{CellFault, Pending, Phase, Seen, barrier, clear, due, load, mark_applying};
 use engine_model::{BackFault, Left, Recovered};
 use host_core::{DumpFault, Failed, Host};
 use net_model::{Call, Net, OutOfMemory};
 use plan_core::plan;
 use std::alloc::Global;
 
-// Plans the calls that lead back to the saved network.
-fn ready<H: Host>(host: &mut H, alloc: Global) -> Result<Vec<Call>, BackFault>
+// The checkpoint that is held, with its network.
+fn load_held<H: Host>(host: &mut H, alloc: Global) -> Result<Pending, BackFault>
     requires { H.tells → (checkpoint : Checkpoint) × Holds (Some checkpoint) (H.told host.old) }
-    ensures planned { H.honest → (checkpoint : Checkpoint) (saved : NetData)
-        → cell_of (H.told host.old).state.cell ≡ Some checkpoint → checkpoint.net ≡ Some saved
-        → IfOk result (λ calls. (from : NetData) × ((H.told host.new).state.net ≡ Some from) × IsNet from × Runs calls.items from saved) }
-    ensures settled { OnOk result (H.told host.new).settled }
-    ensures state { H.tells → (H.told host.new).state ≡ (H.told host.old).state }
-    ensures stops { Steps Stays (H.told host.old).stops (H.told host.new).stops }
-    // It makes no call. Where calls are planned, the network that was dumped is there, and they lead from it to the saved one.
-    ensures unmade { NoCallMade (H.told host.old).kernel (H.told host.new).kernel }
-    ensures calls { OnOk result ((H.told host.new).kernel.calls ≡ 0) }
-    ensures found { H.tells → OnOk result (IsSome (H.told host.old).state.net) }
-    ensures gives { H.tells → IfOk result (λ calls. IsGiven calls.items (H.told host.new)) }
-    ensures fails { IfErr result (λ fault. Fails H.tells (H.told host.old) (H.told host.new) fault) }
-    ensures healthy { WhereSound H.honest (H.told host.old) (IfErr result (λ fault. IsHealthy fault)) }
-    ensures exact { H.honest → (checkpoint : Checkpoint) → Holds (Some checkpoint) (H.told host.old)
-        → Finds (saved_on checkpoint.net (H.told host.old).state.net) result }
+    ensures set { IfOk result (λ pending. H.tells → IsSet pending.net (H.told host.new)) }
+    ensures fault { IfErr result (λ fault. Hinders H.tells H.honest (H.told host.old) (H.told host.new) fault) }
+    ensures untouched { Untouched H.tells (H.told host.old) (H.told host.new) }
     ensures later { (H.told host.old).faults ≤ (H.told host.new).faults }
 {
-    let pending = match load(host, alloc) {
-        Ok(Some(pending)) => pending,
-        Ok(None) => return Err(BackFault::Damaged(1)),
-        Err(CellFault::Failed) => return Err(BackFault::HostFault(Left::NotBegun)),
-        Err(CellFault::Damaged) => return Err(BackFault::Damaged(1)),
-        Err(CellFault::OutOfMemory) => return Err(BackFault::OutOfMemory),
-    };
-    let found = match host.dump(alloc) {
-        Ok(found) => found,
-        Err(DumpFault::Failed) => return Err(BackFault::HostFault(Left::NotBegun)),
-        Err(DumpFault::Damaged) => return Err(BackFault::Damaged(0)),
-        Err(DumpFault::OutOfMemory) => return Err(BackFault::OutOfMemory),
-    };
+    match load(host, alloc) {
+        Ok(Some(pending)) => Ok(pending),
+        Ok(None) => Err(BackFault::Damaged(1)),
+        Err(CellFault::Failed) => Err(BackFault::HostFault(Left::NotBegun)),
+        Err(CellFault::Damaged) => Err(BackFault::Damaged(1)),
+        Err(CellFault::OutOfMemory) => Err(BackFault::OutOfMemory),
+    }
+}
+
+// The network that stands.
+fn dump_net<H: Host>(host: &mut H, alloc: Global) -> Result<Net, BackFault>
+    requires { H.tells → (saved : NetData) × IsSet saved (H.told host.old) }
+    ensures dumped { IfOk result (λ net. IsDumped H.tells H.honest (H.told host.old) (H.told host.new) net) }
+    ensures fault { IfErr result (λ fault. Hinders H.tells H.honest (H.told host.old) (H.told host.new) fault) }
+    ensures unbegun { IsUnbegun H.tells (H.told host.old) (H.told host.new) }
+    ensures later { (H.told host.old).faults ≤ (H.told host.new).faults }
+{
+    match host.dump(alloc) {
+        Ok(net) => Ok(net),
+        Err(DumpFault::Failed) => Err(BackFault::HostFault(Left::NotBegun)),
+        Err(DumpFault::Damaged) => Err(BackFault::Damaged(0)),
+        Err(DumpFault::OutOfMemory) => Err(BackFault::OutOfMemory),
+    }
+}
+
+// Plans the calls that lead from the network that was found to the saved one.
+fn way_back(alloc: Global, found: &Net, saved: &Net) -> Result<Vec<Call>, BackFault>
+    ensures { WayBack found.now saved.now result }
+{
     found.laws();
-    pending.net.laws();
-    if !found.same_hardware(&pending.net) {
-        return match differing(alloc, &pending.net, &found) {
+    saved.laws();
+    if !found.same_hardware(saved) {
+        return match differing(alloc, saved, found) {
             Ok(names) => Err(BackFault::HardwareDiffers(names)),
             Err(OutOfMemory) => Err(BackFault::OutOfMemory),
         };
     }
-    match plan(alloc, &found, &pending.net) {
+    match plan(alloc, found, saved) {
         Ok(calls) => Ok(calls),
         Err(OutOfMemory) => Err(BackFault::OutOfMemory),
+    }
+}
+
+// Plans the calls that lead back to the saved network. It makes none.
+fn ready<H: Host>(host: &mut H, alloc: Global) -> Result<Vec<Call>, BackFault>
+    requires { H.tells → (checkpoint : Checkpoint) × Holds (Some checkpoint) (H.told host.old) }
+    ensures ready { IfOk result (λ calls. IsReady H.tells H.honest calls.items (H.told host.old) (H.told host.new)) }
+    ensures fault { IfErr result (λ fault. Hinders H.tells H.honest (H.told host.old) (H.told host.new) fault) }
+    ensures unbegun { IsUnbegun H.tells (H.told host.old) (H.told host.new) }
+    ensures later { (H.told host.old).faults ≤ (H.told host.new).faults }
+{
+    let pending = match load_held(host, alloc) {
+        Ok(pending) => pending,
+        Err(fault) => return Err(fault),
+    };
+    match dump_net(host, alloc) {
+        Ok(found) => way_back(alloc, &found, &pending.net),
+        Err(fault) => Err(fault),
     }
 }
 
@@ -99,22 +120,15 @@ fn take_up<H: Host>(host: &mut H, phase: Phase) -> Result<(), Failed>
 // Makes the calls that lead back to the saved network, and clears the checkpoint.
 fn undo<H: Host>(host: &mut H, alloc: Global, calls: &[Call]) -> Result<(), BackFault>
     requires settled { (H.told host.old).settled }
+    requires zero { (H.told host.old).kernel.calls ≡ 0 }
     requires cell { H.tells → (checkpoint : Checkpoint) × Holds (Some checkpoint) (H.told host.old) }
-    ensures cleared { H.tells → OnOk result (Holds None (H.told host.new)) }
+    ensures undone { OnOk result (Undoes H.tells H.honest calls.now (H.told host.old) (H.told host.new)) }
+    ensures fault { IfErr result (λ fault.
+        Interrupts H.tells H.honest calls.now (H.told host.old) (H.told host.new) fault) }
     ensures kept { WhereSound H.honest (H.told host.old) ((made deadline : ℕ) (from saved : NetData)
         → Ends (stand from (Some (applying made deadline saved))) (H.told host.old) → (H.told host.old).state.net ≡ Some from → IsNet from
         → Runs calls.now from saved → Kept (Only (restored_to saved)) (H.told host.old) (H.told host.new)) }
-    ensures ends { H.honest → (from saved : NetData) → (H.told host.old).state.net ≡ Some from
-        → Runs calls.now from saved → OnOk result (Ends (restored_to saved) (H.told host.new)) }
-    ensures healthy { H.honest → (from saved : NetData) → (H.told host.old).state.net ≡ Some from
-        → Runs calls.now from saved → IfErr result (λ fault. IsHealthy fault) }
-    ensures begun { IfErr result (λ fault. IsBefore fault → ⊥) }
-    ensures fails { (H.told host.old).kernel.calls ≡ 0 → IfErr result (λ fault. Fails H.tells (H.told host.old) (H.told host.new) fault) }
-    ensures quiet { OnOk result (NoneRefused (H.told host.old).kernel (H.told host.new).kernel) }
-    ensures made { OnOk result ((H.told host.old).kernel.calls ≡ 0 → (H.told host.new).kernel.calls ≡ length calls.now) }
-    ensures idle { H.tells → OnOk result (calls.now ≡ [] → (H.told host.new).fresh ≡ (H.told host.old).fresh) }
     ensures moves { Steps Any (H.told host.old).stops (H.told host.new).stops }
-    ensures saved { H.tells → OnOk result (saved_net (H.told host.new).state.cell ≡ saved_net (H.told host.old).state.cell) }
     ensures later { (H.told host.old).faults ≤ (H.told host.new).faults }
 {
     match run(host, alloc, calls) {
@@ -132,23 +146,13 @@ fn undo<H: Host>(host: &mut H, alloc: Global, calls: &[Call]) -> Result<(), Back
 // Leads back to the network of the checkpoint, and clears it.
 fn restore<H: Host>(host: &mut H, alloc: Global, phase: Phase) -> Result<(), BackFault>
     requires { H.tells → (checkpoint : Checkpoint) × Holds (Some checkpoint) (H.told host.old) × (checkpoint.phase ≡ phase) }
-    ensures cleared { H.tells → OnOk result (Holds None (H.told host.new)) }
+    ensures restored { OnOk result (Restores H.tells H.honest (H.told host.old) (H.told host.new)) }
+    ensures fault { IfErr result (λ fault. Hinders H.tells H.honest (H.told host.old) (H.told host.new) fault) }
     ensures kept { WhereSound H.honest (H.told host.old) ((checkpoint : Checkpoint) (saved : NetData) → Holds (Some checkpoint) (H.told host.old)
         → checkpoint.net ≡ Some saved → Kept (Only (restored_to saved)) (H.told host.old) (H.told host.new)) }
-    ensures ends { H.honest → (checkpoint : Checkpoint) (saved : NetData) → Holds (Some checkpoint) (H.told host.old) → checkpoint.net ≡ Some saved
-        → OnOk result (Ends (restored_to saved) (H.told host.new)) }
-    ensures healthy { WhereSound H.honest (H.told host.old) (IfErr result (λ fault. IsHealthy fault)) }
-    ensures exact { H.honest → (checkpoint : Checkpoint) → Holds (Some checkpoint) (H.told host.old)
-        → Finds (saved_on checkpoint.net (H.told host.old).state.net) result }
-    // What its faults say on every host, and by what calls the saved network was given. Without a network nothing is done.
-    ensures fails { IfErr result (λ fault. Fails H.tells (H.told host.old) (H.told host.new) fault) }
-    ensures quiet { OnOk result (NoneRefused (H.told host.old).kernel (H.told host.new).kernel) }
-    ensures gave { H.tells → OnOk result (GaveSaved (H.told host.new)) }
+    // Without a network nothing is done.
     ensures bare { H.tells → (H.told host.old).state.net ≡ None → (H.told host.new).state ≡ (H.told host.old).state }
     ensures moves { Steps Any (H.told host.old).stops (H.told host.new).stops }
-    ensures saved { H.tells → OnOk result (saved_net (H.told host.new).state.cell ≡ saved_net (H.told host.old).state.cell) }
-    // On an honest host, sound or not, the network is the saved one.
-    ensures reads { H.honest → OnOk result ((H.told host.new).state.net ≡ saved_net (H.told host.new).state.cell) }
     ensures later { (H.told host.old).faults ≤ (H.told host.new).faults }
 {
     let calls = match ready(host, alloc) {

@@ -1,191 +1,213 @@
-use Rattle.std.proofs.Common.{◌≡◌, ◌∙◌, inl, List, Option, Some, sym, ap, subst, arith}
+use Rattle.std.proofs.Common.{◌≡◌, ◌∙◌, inl, List, Option, Some, Err, sym, ap, subst}
 use Rattle.std.proofs.lemmas.Result.{on_ok_weaker}
-use Rattle.net_model.specs.NetData.{NetData, IsNet}
+use Rattle.net_model.specs.NetData.{NetData}
 use Rattle.net_model.specs.declared.Call.{Call}
 use Rattle.kernel_model.specs.Runs.{Runs}
 use Rattle.host_core.proofs.lemmas.Counts.{rose_after}
 use Rattle.host_core.specs.HostView.{State, Kernel, HasNet}
 use Rattle.checkpoint_cell.specs.declared.Phase.TheVariants.{Applying}
 use Rattle.checkpoint_cell.specs.Cell.{Checkpoint, in_phase, applying, saved_net}
-use Rattle.checkpoint_cell.proofs.lemmas.Saved.{saved_is}
+use Rattle.checkpoint_cell.specs.Settled.{restored_to}
 use Rattle.checkpoint_cell.specs.Steps.{Holds}
-use Rattle.engine_model.specs.Undone.{stand}
+use Rattle.checkpoint_cell.proofs.lemmas.Saved.{saved_is}
+use Rattle.engine_model.specs.Machine.{saved_on}
+use Rattle.engine_model.specs.Answers.{IsHealthy}
+use Rattle.engine_model.specs.Refusals.{NoCallMade}
 use Rattle.engine_model.specs.Sound.{Sound}
 use Rattle.engine_model.specs.Stations.{Only, Kept, Ends}
-use Rattle.checkpoint_cell.specs.Settled.{restored_to}
-use Rattle.engine_model.proofs.lemmas.Leading.{kept_stays, kept_on, sound_stays}
-use Rattle.engine_model.proofs.lemmas.Restores.{held_stays, is_applying, ends_held}
-use Rattle.std.specs.Prelude.{⊤, Vec, OnOk}
-use Rattle.std.specs.declared.alloc.Global.{Global}
-use Rattle.engine_model.specs.Machine.{saved_on}
-use Rattle.engine_model.proofs.lemmas.Finding.{finds_as, finds_done, found_saved}
-use Rattle.engine_model.specs.Refusals.{NoCallMade}
-use Rattle.engine_model.specs.Answers.{IsBefore}
-use Rattle.engine_model.specs.Failing.{Fails}
+use Rattle.engine_model.specs.Undone.{stand}
+use Rattle.engine_model.specs.declared.answers.BackFault.{BackFault}
+use Rattle.engine_model.specs.declared.answers.BackFault.TheVariants.{NoCheckpoint}
+use Rattle.engine_model.proofs.lemmas.Failing.{fails_late, fails_set}
+use Rattle.engine_model.proofs.lemmas.Finding.{finds_done}
+use Rattle.engine_model.proofs.lemmas.Leading.{kept_stays, kept_on, sound_stays, any_step, any_on}
 use Rattle.engine_model.proofs.lemmas.Refusals.{quiet_on, unmade_quiet, unmade_on}
-use Rattle.engine_model.proofs.lemmas.Failing.{fails_late}
+use Rattle.engine_model.proofs.lemmas.Restores.{held_stays, is_applying, ends_held}
+use Rattle.host_core.specs.Stops.{Stays}
 use Rattle.engine_restore.specs.Given.{IsGiven}
-use Rattle.engine_restore.proofs.Gives.{gave_saved, if_err_both, if_err_never}
+use Rattle.engine_restore.specs.Restoring.{Hinders, LeadsBack, Undoes, Interrupts, Restores}
 use Rattle.engine_restore.proofs.Compares.{restored_net, none_here}
+use Rattle.engine_restore.proofs.Gives.{gave_saved, if_err_weaker}
+use Rattle.engine_restore.proofs.Readies.{later_on, runs_to}
 use Rattle.engine_restore.proofs.restoring.restore.Goals as goal
 use Rattle.engine_restore.proofs.restoring.restore.Goals.{After-take_up, After-undo}
 
 -- what is known before the change is taken up
-record Ready (g : _) (c : After-take_up g) (checkpoint : Checkpoint) (saved : NetData) : Type 0 where
-  from : NetData
-  net : (g.H.Host.told c.ready.new.host).state.net ≡ Some from
-  built : IsNet from
-  runs : Runs c.in-Ok.calls.items from saved
+record Ready (g : _) (c : After-take_up g) (checkpoint : Checkpoint) : Type 0 where
+  leads : LeadsBack c.in-Ok.calls.items checkpoint (g.H.Host.told c.args.host.now) (g.H.Host.told c.ready.new.host)
   holds : Holds (Some checkpoint) (g.H.Host.told c.ready.new.host)
-  ends : Ends (stand from (Some checkpoint)) (g.H.Host.told c.ready.new.host)
+  ends : Ends (stand leads.from (Some checkpoint)) (g.H.Host.told c.ready.new.host)
 
-known : (g : _) (c : After-take_up g) (checkpoint : Checkpoint) (saved : NetData) → g.H.Host.honest → Holds (Some checkpoint) (g.H.Host.told c.args.host.now) → checkpoint.net ≡ Some saved → Ready g c checkpoint saved
-known g c checkpoint saved honest holds has =
+held : (g : _) (c : After-take_up g) (checkpoint : Checkpoint) → g.H.Host.tells → Holds (Some checkpoint) (g.H.Host.told c.args.host.now) → Holds (Some checkpoint) (g.H.Host.told c.ready.new.host)
+held g c checkpoint tells holds =
+    let begun = c.ready.ensures.unbegun in
+    held_stays (Some checkpoint) (g.H.Host.told c.args.host.now) (g.H.Host.told c.ready.new.host) holds begun.stops (ap (λ (s : State). s.cell) (begun.same tells))
+
+known : (g : _) (c : After-take_up g) (checkpoint : Checkpoint) → g.H.Host.honest → Holds (Some checkpoint) (g.H.Host.told c.args.host.now) → Ready g c checkpoint
+known g c checkpoint honest holds =
     let tells = g.met.H.Host.honest_tells honest in
-    let old = g.H.Host.told c.args.host.now in
     let mid = g.H.Host.told c.ready.new.host in
-    let plan = c.in-Ok.ensures.planned honest checkpoint saved holds.cell has in
-    let there = held_stays (Some checkpoint) old mid holds c.ready.ensures.stops (ap (λ (s : State). s.cell) (c.ready.ensures.state tells)) in
-    let nets : HasNet (Some plan.0) mid = subst (λ (n : Option NetData). HasNet n mid) plan.1 ((g.met.H.Host.lawful c.ready.new.host).no_doubt tells c.in-Ok.ensures.settled) in
-    record { from = plan.0; net = plan.1; built = plan.2; runs = plan.3; holds = there; ends = ends_held plan.0 (Some checkpoint) mid nets there }
+    let ready = c.in-Ok.ensures.ready in
+    let leads = ready.leads honest checkpoint holds in
+    let there = held g c checkpoint tells holds in
+    let nets : HasNet (Some leads.from) mid = subst (λ (n : Option NetData). HasNet n mid) leads.is_from ((g.met.H.Host.lawful c.ready.new.host).no_doubt tells ready.settled) in
+    record { leads = leads; holds = there; ends = ends_held leads.from (Some checkpoint) mid nets there }
 
 taken : (g : _) (c : After-take_up g) (checkpoint : Checkpoint) (saved : NetData) → g.H.Host.honest → Sound (g.H.Host.told c.args.host.now) → Holds (Some checkpoint) (g.H.Host.told c.args.host.now) → checkpoint.net ≡ Some saved
     → Kept (Only (restored_to saved)) (g.H.Host.told c.args.host.now) (g.H.Host.told c.take_up.new.host)
 taken g c checkpoint saved honest sound holds has =
-    let tells = g.met.H.Host.honest_tells honest in
     let old = g.H.Host.told c.args.host.now in
     let mid = g.H.Host.told c.ready.new.host in
-    let k = known g c checkpoint saved honest holds has in
-    kept_on (Only (restored_to saved)) old mid (g.H.Host.told c.take_up.new.host) (kept_stays (Only (restored_to saved)) old mid sound c.ready.ensures.stops)
-    (c.take_up.ensures.kept tells (sound_stays old mid sound c.ready.ensures.stops) checkpoint k.from saved k.holds k.ends has)
-
-pub undo-requires-clause-cell : goal.undo-requires-clause-cell
-undo-requires-clause-cell g c = λ tells.
-    let was = c.requires tells in
-    let there = held_stays (Some was.0) (g.H.Host.told c.args.host.now) (g.H.Host.told c.ready.new.host) was.1 c.ready.ensures.stops (ap (λ (s : State). s.cell) (c.ready.ensures.state tells)) in
-    (_, c.in-Ok-take_up.ensures.taken tells was.0 there)
-
-pub returns-clause-kept : goal.returns-clause-kept
-returns-clause-kept g c = λ honest sound checkpoint saved holds has. taken g (goal.at.returns-clause-kept g c).After-take_up checkpoint saved honest sound holds has
-
-pub returns-in-Ok-take_up-clause-kept : goal.returns-in-Ok-take_up-clause-kept
-returns-in-Ok-take_up-clause-kept g c = λ honest sound checkpoint saved holds has.
-    let tells = g.met.H.Host.honest_tells honest in
-    let at = (goal.at.returns-in-Ok-take_up-clause-kept g c).After-take_up in
-    let old = g.H.Host.told c.args.host.now in
-    let mid = g.H.Host.told c.take_up.new.host in
-    let k = known g at checkpoint saved honest holds has in
-    let first = taken g at checkpoint saved honest sound holds has in
-    let ends : Ends (stand k.from (Some (applying checkpoint.made checkpoint.deadline saved))) mid =
-    subst (λ (p : Checkpoint). Ends (stand k.from (Some p)) mid) (is_applying checkpoint saved has) (c.in-Ok-take_up.ensures.ends tells checkpoint k.from k.holds k.ends) in
-    let runs : Runs c.deref.result.now k.from saved = subst (λ (l : List Call). Runs l k.from saved) (sym c.deref.ensures.value) k.runs in
-    kept_on (Only (restored_to saved)) old mid _ first
-    (c.undo.ensures.kept honest first.sound checkpoint.made checkpoint.deadline k.from saved ends (c.take_up.ensures.kernel.net tells ∙ k.net) k.built runs)
-
-pub returns-in-Ok-take_up-clause-ends : goal.returns-in-Ok-take_up-clause-ends
-returns-in-Ok-take_up-clause-ends g c = λ honest checkpoint saved holds has.
-    let tells = g.met.H.Host.honest_tells honest in
-    let k = known g (goal.at.returns-in-Ok-take_up-clause-ends g c).After-take_up checkpoint saved honest holds has in
-    c.undo.ensures.ends honest k.from saved (c.take_up.ensures.kernel.net tells ∙ k.net) (subst (λ (l : List Call). Runs l k.from saved) (sym c.deref.ensures.value) k.runs)
-
-pub returns-in-Ok-take_up-clause-healthy : goal.returns-in-Ok-take_up-clause-healthy
-returns-in-Ok-take_up-clause-healthy g c = λ honest sound.
-    let tells = g.met.H.Host.honest_tells honest in
-    let old = g.H.Host.told c.args.host.now in
-    let was = c.requires tells in
-    let w = (sound.fit old.state ((g.met.H.Host.lawful c.args.host.now).reads tells)).whole was.0 was.1.cell in
-    let k = known g (goal.at.returns-in-Ok-take_up-clause-healthy g c).After-take_up was.0 w.saved honest was.1 w.is_saved in
-    c.undo.ensures.healthy honest k.from w.saved (c.take_up.ensures.kernel.net tells ∙ k.net) (subst (λ (l : List Call). Runs l k.from w.saved) (sym c.deref.ensures.value) k.runs)
-
--- the saved network stays in its place
-stays_saved : (g : _) (c : After-undo g) → g.H.Host.tells → OnOk c.undo.result (saved_net (g.H.Host.told c.undo.new.host).state.cell ≡ saved_net (g.H.Host.told c.args.host.now).state.cell)
-stays_saved g c tells =
-    let was = c.requires tells in
-    let old = g.H.Host.told c.args.host.now in
-    let there = held_stays (Some was.0) old (g.H.Host.told c.ready.new.host) was.1 c.ready.ensures.stops (ap (λ (s : State). s.cell) (c.ready.ensures.state tells)) in
-    let marked = c.in-Ok-take_up.ensures.taken tells was.0 there in
-    on_ok_weaker c.undo.result
-    (λ same. same ∙ saved_is (in_phase Applying was.0) (g.H.Host.told c.take_up.new.host).state.cell marked.cell ∙ sym (saved_is was.0 old.state.cell was.1.cell))
-    (c.undo.ensures.saved tells)
-
-pub returns-in-Ok-take_up-clause-saved : goal.returns-in-Ok-take_up-clause-saved
-returns-in-Ok-take_up-clause-saved g c = λ tells. stays_saved g (goal.at.returns-in-Ok-take_up-clause-saved g c).After-undo tells
-
-pub returns-in-Err-clause-exact : goal.returns-in-Err-clause-exact
-returns-in-Err-clause-exact g c = λ honest checkpoint holds. finds_as (Vec Call Global) ⊤ (saved_on checkpoint.net (g.H.Host.told c.args.host.now).state.net) c.in-Err.fault (c.in-Err.ensures.exact honest checkpoint holds)
-
-pub returns-in-Ok-take_up-clause-exact : goal.returns-in-Ok-take_up-clause-exact
-returns-in-Ok-take_up-clause-exact g c = λ honest checkpoint holds.
-    let tells = g.met.H.Host.honest_tells honest in
-    let found = saved_on checkpoint.net (g.H.Host.told c.args.host.now).state.net in
-    let is = c.in-Ok.ensures.exact honest checkpoint holds in
-    let has = found_saved checkpoint.net (g.H.Host.told c.args.host.now).state.net is.0 is.1 in
-    let k = known g (goal.at.returns-in-Ok-take_up-clause-exact g c).After-take_up checkpoint is.0 honest holds has in
-    let zero : (g.H.Host.told c.take_up.new.host).kernel.calls ≡ 0 = ap (λ (k : Kernel). k.calls) c.take_up.ensures.kernel.kernel ∙ c.in-Ok.ensures.calls in
-    finds_done found is.0 is.1 c.undo.result
-    (c.undo.ensures.healthy honest k.from is.0 (c.take_up.ensures.kernel.net tells ∙ k.net) (subst (λ (l : List Call). Runs l k.from is.0) (sym c.deref.ensures.value) k.runs))
-    (if_err_never ⊤ g.H.Host.tells (g.H.Host.told c.take_up.new.host) (g.H.Host.told c.undo.new.host) c.undo.result (c.undo.ensures.fails zero))
-
-pub returns-in-Ok-take_up-clause-reads : goal.returns-in-Ok-take_up-clause-reads
-returns-in-Ok-take_up-clause-reads g c = λ honest.
-    let tells = g.met.H.Host.honest_tells honest in
-    let was = c.requires tells in
-    let old = g.H.Host.told c.args.host.now in
-    let new = g.H.Host.told c.undo.new.host in
-    let at = (goal.at.returns-in-Ok-take_up-clause-reads g c).After-take_up in
-    let is = c.in-Ok.ensures.exact honest was.0 was.1 in
-    let has = found_saved was.0.net old.state.net is.0 is.1 in
-    let k = known g at was.0 is.0 honest was.1 has in
-    let there = held_stays (Some was.0) old (g.H.Host.told c.ready.new.host) was.1 c.ready.ensures.stops (ap (λ (s : State). s.cell) (c.ready.ensures.state tells)) in
-    let marked = c.in-Ok-take_up.ensures.taken tells was.0 there in
-    let cell = saved_is (in_phase Applying was.0) (g.H.Host.told c.take_up.new.host).state.cell marked.cell ∙ has in
-    restored_net is.0 (g.H.Host.told c.take_up.new.host) new c.undo.result ((g.met.H.Host.lawful c.undo.new.host).reads tells) cell
-    (c.undo.ensures.ends honest k.from is.0 (c.take_up.ensures.kernel.net tells ∙ k.net) (subst (λ (l : List Call). Runs l k.from is.0) (sym c.deref.ensures.value) k.runs)) (c.undo.ensures.saved tells)
-
--- ---- on every host
+    let steps = c.ready.ensures.unbegun.stops in
+    let k = known g c checkpoint honest holds in
+    kept_on (Only (restored_to saved)) old mid (g.H.Host.told c.take_up.new.host) (kept_stays (Only (restored_to saved)) old mid sound steps)
+    (c.take_up.ensures.kept (g.met.H.Host.honest_tells honest) (sound_stays old mid sound steps) checkpoint k.leads.from saved k.holds k.ends has)
 
 -- no call was made before the planned ones
 unmade : (g : _) (c : After-take_up g) → NoCallMade (g.H.Host.told c.args.host.now).kernel (g.H.Host.told c.take_up.new.host).kernel
-unmade g c = unmade_on (g.H.Host.told c.args.host.now).kernel (g.H.Host.told c.ready.new.host).kernel (g.H.Host.told c.take_up.new.host).kernel c.ready.ensures.unmade (inl c.take_up.ensures.kernel.kernel)
+unmade g c =
+    unmade_on (g.H.Host.told c.args.host.now).kernel (g.H.Host.told c.ready.new.host).kernel (g.H.Host.told c.take_up.new.host).kernel c.ready.ensures.unbegun.unmade (inl c.take_up.ensures.kernel.kernel)
 
-pub returns-in-Err-clause-fails : goal.returns-in-Err-clause-fails
-returns-in-Err-clause-fails g c = c.in-Err.ensures.fails
+pub undo-requires : goal.undo-requires
+undo-requires g c = record {
+  settled = c.take_up.ensures.kernel.settled c.in-Ok.ensures.ready.settled;
+  zero = ap (λ (k : Kernel). k.calls) c.take_up.ensures.kernel.kernel ∙ c.in-Ok.ensures.ready.zero;
+  cell = λ tells.
+      let was = c.requires tells in
+      (_, c.in-Ok-take_up.ensures.taken tells was.0 (held g (goal.at.undo-requires g c).After-take_up was.0 tells was.1));
+}
 
-pub returns-clause-fails : goal.returns-clause-fails
-returns-clause-fails g c = (
-  rose_after (g.H.Host.told c.args.host.now).faults (g.H.Host.told c.ready.new.host).faults (g.H.Host.told c.take_up.new.host).faults c.ready.ensures.later c.in-Err-take_up.ensures.cause.failed,
-  unmade_quiet (g.H.Host.told c.args.host.now).kernel (g.H.Host.told c.take_up.new.host).kernel (unmade g (goal.at.returns-clause-fails g c).After-take_up),
-)
-
-pub returns-in-Ok-take_up-clause-fails : goal.returns-in-Ok-take_up-clause-fails
-returns-in-Ok-take_up-clause-fails g c =
+pub returns-in-Err : goal.returns-in-Err
+returns-in-Err g c =
     let old = g.H.Host.told c.args.host.now in
-    let mid = g.H.Host.told c.take_up.new.host in
+    let new = g.H.Host.told c.ready.new.host in
+    let begun = c.ready.ensures.unbegun in
+    record {
+      restored = tt;
+      fault = c.in-Err.ensures.fault;
+      kept = λ honest sound checkpoint saved holds has. kept_stays (Only (restored_to saved)) old new sound begun.stops;
+      bare = λ tells none. begun.same tells;
+      moves = any_step Stays old.stops new.stops begun.stops;
+      later = c.ready.ensures.later;
+    }
+
+pub returns : goal.returns
+returns g c =
+    let at = (goal.at.returns g c).After-take_up in
+    let old = g.H.Host.told c.args.host.now in
+    let mid = g.H.Host.told c.ready.new.host in
+    let new = g.H.Host.told c.take_up.new.host in
+    record {
+      restored = tt;
+      fault = record {
+        fails = (rose_after old.faults mid.faults new.faults c.ready.ensures.later c.in-Err-take_up.ensures.cause.failed, unmade_quiet old.kernel new.kernel (unmade g at));
+        healthy = λ honest sound. tt;
+        exact = λ honest checkpoint holds. tt;
+      };
+      kept = λ honest sound checkpoint saved holds has. taken g at checkpoint saved honest sound holds has;
+      bare = λ tells none. absurd (none_here old.state.net (c.in-Ok.ensures.ready.found tells) none);
+      moves = any_on old.stops mid.stops new.stops (any_step Stays old.stops mid.stops c.ready.ensures.unbegun.stops) c.take_up.ensures.moves;
+      later = later_on old.faults mid.faults new.faults c.ready.ensures.later c.take_up.ensures.cause.later;
+    }
+
+-- ---- the calls and the clearing
+
+-- as the change is taken up
+net_is : (g : _) (c : After-undo g) (tells : g.H.Host.tells) (from : NetData) → (g.H.Host.told c.ready.new.host).state.net ≡ Some from → (g.H.Host.told c.take_up.new.host).state.net ≡ Some from
+net_is g c tells from is = c.take_up.ensures.kernel.net tells ∙ is
+
+calls_are : (g : _) (c : After-undo g) → c.deref.result.now ≡ c.in-Ok.calls.items
+calls_are g c = c.deref.ensures.value
+
+-- the saved network stays in its place
+marked_saved : (g : _) (c : After-undo g) (checkpoint : Checkpoint) → g.H.Host.tells → Holds (Some checkpoint) (g.H.Host.told c.args.host.now) → saved_net (g.H.Host.told c.take_up.new.host).state.cell ≡ checkpoint.net
+marked_saved g c checkpoint tells holds =
+    let marked = c.in-Ok-take_up.ensures.taken tells checkpoint (held g (goal.at.After-undo g c).After-take_up checkpoint tells holds) in
+    saved_is (in_phase Applying checkpoint) (g.H.Host.told c.take_up.new.host).state.cell marked.cell
+
+restores : (g : _) (c : After-undo g) → Undoes g.H.Host.tells g.H.Host.honest c.deref.result.now (g.H.Host.told c.take_up.new.host) (g.H.Host.told c.undo.new.host)
+    → Restores g.H.Host.tells g.H.Host.honest (g.H.Host.told c.args.host.now) (g.H.Host.told c.undo.new.host)
+restores g c u =
+    let at = (goal.at.After-undo g c).After-take_up in
+    let old = g.H.Host.told c.args.host.now in
+    let mid = g.H.Host.told c.ready.new.host in
+    let taken = g.H.Host.told c.take_up.new.host in
     let new = g.H.Host.told c.undo.new.host in
-    let zero : mid.kernel.calls ≡ 0 = ap (λ (k : Kernel). k.calls) c.take_up.ensures.kernel.kernel ∙ c.in-Ok.ensures.calls in
-    if_err_both c.undo.result (λ fault. IsBefore fault → ⊥) (λ fault. Fails g.H.Host.tells mid new fault) (λ fault. Fails g.H.Host.tells old new fault)
-    (λ fault begun fails. fails_late g.H.Host.tells old mid new (omega (arith, c.ready.ensures.later, c.take_up.ensures.cause.later)) (unmade g (goal.at.returns-in-Ok-take_up-clause-fails g c).After-take_up) fault begun fails)
-    c.undo.ensures.begun (c.undo.ensures.fails zero)
-
-pub returns-in-Ok-take_up-clause-quiet : goal.returns-in-Ok-take_up-clause-quiet
-returns-in-Ok-take_up-clause-quiet g c =
-    let old = (g.H.Host.told c.args.host.now).kernel in
-    let mid = (g.H.Host.told c.take_up.new.host).kernel in
-    on_ok_weaker c.undo.result (λ quiet. quiet_on old mid (g.H.Host.told c.undo.new.host).kernel (unmade_quiet old mid (unmade g (goal.at.returns-in-Ok-take_up-clause-quiet g c).After-take_up)) quiet) c.undo.ensures.quiet
-
-pub returns-in-Ok-take_up-clause-gave : goal.returns-in-Ok-take_up-clause-gave
-returns-in-Ok-take_up-clause-gave g c = λ tells.
-    let mid = g.H.Host.told c.take_up.new.host in
-    let given = c.in-Ok.ensures.gives tells in
+    let ready = c.in-Ok.ensures.ready in
     let calls = c.deref.result.now in
-    let zero : mid.kernel.calls ≡ 0 = ap (λ (k : Kernel). k.calls) c.take_up.ensures.kernel.kernel ∙ c.in-Ok.ensures.calls in
-    gave_saved calls (g.H.Host.told c.ready.new.host) (g.H.Host.told c.undo.new.host) c.undo.result (subst (λ (l : List Call). IsGiven l (g.H.Host.told c.ready.new.host)) (sym c.deref.ensures.value) given)
-    (on_ok_weaker c.undo.result (λ made. made zero) c.undo.ensures.made)
-    (on_ok_weaker c.undo.result (λ idle. λ none. idle none ∙ c.take_up.ensures.kernel.fresh tells) (c.undo.ensures.idle tells))
-    (on_ok_weaker c.undo.result (λ same. same ∙ ap (λ (s : State). saved_net s.cell) (sym (c.ready.ensures.state tells))) (stays_saved g (goal.at.returns-in-Ok-take_up-clause-gave g c).After-undo tells))
+    record {
+      cleared = u.cleared;
+      ends = ends;
+      exact = λ honest checkpoint holds. let k = known g at checkpoint honest holds in (k.leads.saved, k.leads.finds);
+      quiet = quiet_on old.kernel taken.kernel new.kernel (unmade_quiet old.kernel taken.kernel (unmade g at)) u.quiet;
+      gave = λ tells.
+          gave_saved calls mid new (subst (λ (l : List Call). IsGiven l mid) (sym (calls_are g c)) (ready.given tells)) u.made (λ none. u.idle tells none ∙ c.take_up.ensures.kernel.fresh tells)
+          (same tells ∙ ap (λ (s : State). saved_net s.cell) (sym (c.ready.ensures.unbegun.same tells)));
+      saved = same;
+      reads = λ honest.
+          let tells = g.met.H.Host.honest_tells honest in
+          let was = c.requires tells in
+          let k = known g at was.0 honest was.1 in
+          restored_net k.leads.saved taken new ((g.met.H.Host.lawful c.undo.new.host).reads tells) (marked_saved g c was.0 tells was.1 ∙ k.leads.is_saved) (ends honest was.0 k.leads.saved was.1 k.leads.is_saved) (u.saved tells);
+    }
+  where
+    ends : g.H.Host.honest → (checkpoint : Checkpoint) (saved : NetData) → Holds (Some checkpoint) (g.H.Host.told c.args.host.now) → checkpoint.net ≡ Some saved → Ends (restored_to saved) (g.H.Host.told c.undo.new.host)
+    ends honest checkpoint saved holds has =
+        let k = known g (goal.at.After-undo g c).After-take_up checkpoint honest holds in
+        let runs = runs_to c.in-Ok.calls.items checkpoint (g.H.Host.told c.args.host.now) (g.H.Host.told c.ready.new.host) saved has k.leads in
+        u.ends honest k.leads.from saved (net_is g c (g.met.H.Host.honest_tells honest) k.leads.from k.leads.is_from) (subst (λ (l : List Call). Runs l k.leads.from saved) (sym (calls_are g c)) runs)
 
-pub returns-clause-bare : goal.returns-clause-bare
-returns-clause-bare g c = λ tells none. absurd (none_here (g.H.Host.told c.args.host.now).state.net (c.in-Ok.ensures.found tells) none)
+    same : g.H.Host.tells → saved_net (g.H.Host.told c.undo.new.host).state.cell ≡ saved_net (g.H.Host.told c.args.host.now).state.cell
+    same tells =
+        let was = c.requires tells in
+        u.saved tells ∙ marked_saved g c was.0 tells was.1 ∙ sym (saved_is was.0 (g.H.Host.told c.args.host.now).state.cell was.1.cell)
 
-pub returns-in-Ok-take_up-clause-bare : goal.returns-in-Ok-take_up-clause-bare
-returns-in-Ok-take_up-clause-bare g c = λ tells none. absurd (none_here (g.H.Host.told c.args.host.now).state.net (c.in-Ok.ensures.found tells) none)
+hinders : (g : _) (c : After-undo g) (fault : BackFault) → Interrupts g.H.Host.tells g.H.Host.honest c.deref.result.now (g.H.Host.told c.take_up.new.host) (g.H.Host.told c.undo.new.host) fault
+    → Hinders g.H.Host.tells g.H.Host.honest (g.H.Host.told c.args.host.now) (g.H.Host.told c.undo.new.host) fault
+hinders g c fault i =
+    let at = (goal.at.After-undo g c).After-take_up in
+    let old = g.H.Host.told c.args.host.now in
+    let mid = g.H.Host.told c.ready.new.host in
+    let taken = g.H.Host.told c.take_up.new.host in
+    let new = g.H.Host.told c.undo.new.host in
+    record {
+      fails = fails_late g.H.Host.tells old taken new (later_on old.faults mid.faults taken.faults c.ready.ensures.later c.take_up.ensures.cause.later) (unmade g at) fault i.begun i.fails;
+      healthy = λ honest sound. let was = c.requires (g.met.H.Host.honest_tells honest) in healthy honest was.0 was.1;
+      exact = λ honest checkpoint holds.
+          let k = known g at checkpoint honest holds in
+          finds_done (saved_on checkpoint.net old.state.net) k.leads.saved k.leads.finds (Err fault) (healthy honest checkpoint holds)
+          (λ is. let same : fault ≡ NoCheckpoint = cc in fails_set g.H.Host.tells taken new fault i.fails same);
+    }
+  where
+    healthy : g.H.Host.honest → (checkpoint : Checkpoint) → Holds (Some checkpoint) (g.H.Host.told c.args.host.now) → IsHealthy fault
+    healthy honest checkpoint holds =
+        let k = known g (goal.at.After-undo g c).After-take_up checkpoint honest holds in
+        i.healthy honest k.leads.from k.leads.saved (net_is g c (g.met.H.Host.honest_tells honest) k.leads.from k.leads.is_from)
+        (subst (λ (l : List Call). Runs l k.leads.from k.leads.saved) (sym (calls_are g c)) k.leads.runs)
+
+pub returns-in-Ok-take_up : goal.returns-in-Ok-take_up
+returns-in-Ok-take_up g c =
+    let here = (goal.at.returns-in-Ok-take_up g c).After-undo in
+    let at = (goal.at.After-undo g here).After-take_up in
+    let tells_of = g.H.Host.tells in
+    let honest_of = g.H.Host.honest in
+    let old = g.H.Host.told c.args.host.now in
+    let mid = g.H.Host.told c.ready.new.host in
+    let taken_up = g.H.Host.told c.take_up.new.host in
+    let new = g.H.Host.told c.undo.new.host in
+    record {
+      restored = on_ok_weaker c.undo.result (restores g here) c.undo.ensures.undone;
+      fault = if_err_weaker c.undo.result (λ fault. Interrupts tells_of honest_of c.deref.result.now taken_up new fault) (λ fault. Hinders tells_of honest_of old new fault) (hinders g here) c.undo.ensures.fault;
+      kept = λ honest sound checkpoint saved holds has.
+          let tells = g.met.H.Host.honest_tells honest in
+          let k = known g at checkpoint honest holds in
+          let first = taken g at checkpoint saved honest sound holds has in
+          let ends : Ends (stand k.leads.from (Some (applying checkpoint.made checkpoint.deadline saved))) taken_up =
+          subst (λ (p : Checkpoint). Ends (stand k.leads.from (Some p)) taken_up) (is_applying checkpoint saved has) (c.in-Ok-take_up.ensures.ends tells checkpoint k.leads.from k.holds k.ends) in
+          let runs : Runs c.deref.result.now k.leads.from saved = subst (λ (l : List Call). Runs l k.leads.from saved) (sym (calls_are g here)) (runs_to c.in-Ok.calls.items checkpoint old mid saved has k.leads) in
+          kept_on (Only (restored_to saved)) old taken_up new first
+          (c.undo.ensures.kept honest first.sound checkpoint.made checkpoint.deadline k.leads.from saved ends (net_is g here tells k.leads.from k.leads.is_from) k.leads.built runs);
+      bare = λ tells none. absurd (none_here old.state.net (c.in-Ok.ensures.ready.found tells) none);
+      moves = any_on old.stops mid.stops new.stops (any_step Stays old.stops mid.stops c.ready.ensures.unbegun.stops) (any_on mid.stops taken_up.stops new.stops c.take_up.ensures.moves c.undo.ensures.moves);
+      later = later_on old.faults mid.faults new.faults c.ready.ensures.later (later_on mid.faults taken_up.faults new.faults c.take_up.ensures.cause.later c.undo.ensures.later);
+    }
