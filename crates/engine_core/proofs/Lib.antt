@@ -8,3 +8,4 @@ mod Applies
 mod Exacts
 mod Tries
 mod Calms
+mod Apart

@@ -33,6 +33,14 @@ use Rattle.engine_model.specs.Faults.{IsDamaged}
 use Rattle.std.proofs.Common.{Option, false}
 use Rattle.engine_model.specs.Faults.{Backs}
 use Rattle.engine_core.proofs.Tries.{left_tries, left_twice, twice_before, left_backs}
+use Rattle.std.specs.Prelude.{◌≢◌}
+use Rattle.host_core.specs.HostView.{HostView}
+use Rattle.engine_model.specs.Stations.{Only}
+use Rattle.engine_model.specs.declared.answers.Left.{Left}
+use Rattle.engine_model.specs.declared.answers.Left.TheVariants.{NotBegun, RolledBack, Pending}
+use Rattle.engine_model.specs.declared.answers.ApplyFault.TheVariants as ap_
+use Rattle.engine_model.proofs.lemmas.Leading.{near_ends}
+use Rattle.engine_core.proofs.Apart.{later_on, left_unbegun, damaged_unbegun, memory_unbegun, refused_unbegun}
 use Rattle.engine_core.proofs.applying.change.Goals as goal
 use Rattle.engine_core.proofs.applying.change.Goals.{After-carry_out, After-dump, In-Ok}
 
@@ -91,23 +99,6 @@ returns-clause-kept g c = λ honest sound ends. kept g (goal.at.returns-clause-k
 stays : (g : _) (c : After-dump g) → Sound (g.H.Host.told c.args.host.now) → Kept (IsStation (asked c.args.doc.now c.args.opts.now c.args.now) (standing (g.H.Host.told c.args.host.now).state)) (g.H.Host.told c.args.host.now) (g.H.Host.told c.dump.new.self)
 stays g c sound = kept_stays (IsStation (asked c.args.doc.now c.args.opts.now c.args.now) (standing (g.H.Host.told c.args.host.now).state)) (g.H.Host.told c.args.host.now) (g.H.Host.told c.dump.new.self) sound c.dump.ensures.stops
 
-pub returns-in-Err-Refused-clause-kept : goal.returns-in-Err-Refused-clause-kept
-returns-in-Err-Refused-clause-kept g c = λ honest sound ends. stays g (goal.at.returns-in-Err-Refused-clause-kept g c).After-dump sound
-
-pub returns-in-Err-OutOfMemory-merge-clause-kept : goal.returns-in-Err-OutOfMemory-merge-clause-kept
-returns-in-Err-OutOfMemory-merge-clause-kept g c = λ honest sound ends. stays g (goal.at.returns-in-Err-OutOfMemory-merge-clause-kept g c).After-dump sound
-
-pub returns-in-Err-clause-kept : goal.returns-in-Err-clause-kept
-returns-in-Err-clause-kept g c = λ honest sound ends. stays g (goal.at.returns-in-Err-clause-kept g c).After-dump sound
-
-pub returns-in-Err-Refused-clause-exit : goal.returns-in-Err-Refused-clause-exit
-returns-in-Err-Refused-clause-exit g c = λ honest sound ends.
-    let old = g.H.Host.told c.args.host.now in
-    let stood : standing old.state ≡ restored_to c.in-Ok.found = λ i. record { net = c.in-Ok.ensures.net honest i; cell = (c.requires.none (g.met.H.Host.honest_tells honest)).cell i } in
-    let broken : merge c.in-Ok.found c.args.doc.now ≡ Err c.in-Err-Refused.r = c.in-Err-Refused.ensures.refused c.in-Err-Refused.r (ap (λ e. Err e) c.in-Err-Refused.field-0-is) in
-    let same = c.in-Err-Refused.r-is in
-    (c.in-Ok.found, stood, cc, ends_stays (standing old.state) old (g.H.Host.told c.dump.new.self) ends c.dump.ensures.stops)
-
 pub returns-clause-value : goal.returns-clause-value
 returns-clause-value g c =
     let same : c.saturating_add-deadline.result ≡ deadline_of (asked c.args.doc.now c.args.opts.now c.args.now) = omega (arith, c.saturating_add-deadline.ensures) in
@@ -131,70 +122,12 @@ dumped_follows g c start follows =
     let mid = g.H.Host.told c.dump.new.self in
     follows_on start old mid follows c.dump.ensures.cause.later c.dump.ensures.stops.later (quiet_dumped old.kernel mid.kernel c.in-Ok.ensures.calls)
 
-pub returns-in-Err-Failed-clause-says : goal.returns-in-Err-Failed-clause-says
-returns-in-Err-Failed-clause-says g c = λ start follows settled was.
-    let old = g.H.Host.told c.args.host.now in
-    let mid = g.H.Host.told c.dump.new.self in
-    left_says g.H.Host.tells (asked c.args.doc.now c.args.opts.now c.args.now) start old mid c.args.left c.requires.left
-    (rose_after start.faults old.faults mid.faults follows.faults (c.in-Err-Failed.ensures.cause.failed (ap (λ e. Err e) c.in-Err-Failed.field-0-is))) c.dump.ensures.state was (λ tells. (c.requires.none tells).cell)
-    (left_settled g.H.Host.tells c.args.now start old mid settled (inl c.in-Err-Failed.ensures.kernel))
-
-pub returns-in-Err-Damaged-clause-says : goal.returns-in-Err-Damaged-clause-says
-returns-in-Err-Damaged-clause-says g c = λ start follows settled was tells.
-    let old = g.H.Host.told c.args.host.now in
-    let mid = g.H.Host.told c.dump.new.self in
-    let damaged : IsDamaged 0 old.state = inl (refl, c.in-Err-Damaged.ensures.damaged tells (ap (λ e. Err e) c.in-Err-Damaged.field-0-is)) in (
-      since_keeps Stays start.moment 0 old mid follows.moment c.dump.ensures.stops (since start.moment 0 old (g.met.H.Host.lawful c.args.host.now).stops ((g.met.H.Host.lawful c.args.host.now).reads tells) follows.moment damaged),
-      record {
-        damaged = subst (λ (s : State). IsDamaged 0 s) (sym (c.dump.ensures.state tells)) damaged;
-        held = inl (left_settled g.H.Host.tells c.args.now start old mid settled (inl c.in-Err-Damaged.ensures.kernel));
-      },
-    )
-
-pub returns-in-Err-Refused-clause-says : goal.returns-in-Err-Refused-clause-says
-returns-in-Err-Refused-clause-says g c = λ start follows settled was.
-    let broken : merge c.in-Ok.found c.args.doc.now ≡ Err c.in-Err-Refused.r = c.in-Err-Refused.ensures.refused c.in-Err-Refused.r (ap (λ e. Err e) c.in-Err-Refused.field-0-is) in
-    let same = c.in-Err-Refused.r-is in (
-      dumped_settled g (goal.at.returns-in-Err-Refused-clause-says g c).In-Ok start settled,
-      λ tells. record {
-        from = c.in-Ok.found;
-        is_fresh = c.in-Ok.ensures.fresh tells;
-        breaks = cc;
-        none = ap (λ (s : State). cell_of s.cell) (c.dump.ensures.state tells) ∙ (c.requires.none tells).cell;
-      },
-    )
-
 pub returns-clause-says : goal.returns-clause-says
 returns-clause-says g c = λ start follows settled was.
     let at = (goal.at.returns-clause-says g c).In-Ok in
     c.carry_out.ensures.says c.args.doc.now start (dumped_follows g at start follows) (ap (λ (k : Kernel). k.calls) c.in-Ok.ensures.calls) c.in-Ok-merge.ensures.merged (dumped_settled g at start settled)
 
 -- ---- what every host counts
-
-pub returns-in-Err-Failed-clause-counts : goal.returns-in-Err-Failed-clause-counts
-returns-in-Err-Failed-clause-counts g c = λ start follows unmade.
-    left_counts start.kernel (g.H.Host.told c.args.host.now).kernel (g.H.Host.told c.dump.new.self).kernel c.args.left c.requires.left follows.quiet unmade c.in-Err-Failed.ensures.kernel
-
-pub returns-in-Err-Damaged-clause-counts : goal.returns-in-Err-Damaged-clause-counts
-returns-in-Err-Damaged-clause-counts g c = λ start follows unmade.
-    let old = (g.H.Host.told c.args.host.now).kernel in
-    let mid = (g.H.Host.told c.dump.new.self).kernel in
-    inl (quiet_on start.kernel old mid follows.quiet (quiet_same old mid c.in-Err-Damaged.ensures.kernel))
-
-pub returns-in-Err-OutOfMemory-clause-counts : goal.returns-in-Err-OutOfMemory-clause-counts
-returns-in-Err-OutOfMemory-clause-counts g c = λ start follows unmade.
-    let old = (g.H.Host.told c.args.host.now).kernel in
-    let mid = (g.H.Host.told c.dump.new.self).kernel in
-    inl (quiet_on start.kernel old mid follows.quiet (quiet_same old mid c.in-Err-OutOfMemory.ensures.kernel))
-
-pub returns-in-Err-Refused-clause-counts : goal.returns-in-Err-Refused-clause-counts
-returns-in-Err-Refused-clause-counts g c = λ start follows unmade. dumped_quiet g (goal.at.returns-in-Err-Refused-clause-counts g c).In-Ok start follows
-
-pub returns-in-Err-OutOfMemory-merge-clause-counts : goal.returns-in-Err-OutOfMemory-merge-clause-counts
-returns-in-Err-OutOfMemory-merge-clause-counts g c = λ start follows unmade. inl (dumped_quiet g (goal.at.returns-in-Err-OutOfMemory-merge-clause-counts g c).In-Ok start follows)
-
-pub returns-in-Err-clause-counts : goal.returns-in-Err-clause-counts
-returns-in-Err-clause-counts g c = λ start follows unmade. inl (dumped_quiet g (goal.at.returns-in-Err-clause-counts g c).In-Ok start follows)
 
 pub returns-clause-counts : goal.returns-clause-counts
 returns-clause-counts g c = λ start follows unmade.
@@ -224,27 +157,6 @@ returns-clause-calm g c = λ honest t le from to is merges calm.
 
 -- ---- on an honest host, sound or not
 
-pub returns-in-Err-Failed-clause-exact : goal.returns-in-Err-Failed-clause-exact
-returns-in-Err-Failed-clause-exact g c = λ honest. c.in-Err-Failed.ensures.cause.failed (ap (λ e. Err e) c.in-Err-Failed.field-0-is)
-
-pub returns-in-Err-Damaged-clause-exact : goal.returns-in-Err-Damaged-clause-exact
-returns-in-Err-Damaged-clause-exact g c = λ honest.
-    let tells = g.met.H.Host.honest_tells honest in
-    let old = g.H.Host.told c.args.host.now in
-    let mid = g.H.Host.told c.dump.new.self in
-    none_exact (asked c.args.doc.now c.args.opts.now c.args.now) (standing old.state) (Rose old.faults mid.faults) mid (c.in-Err-Damaged.ensures.damaged tells (ap (λ e. Err e) c.in-Err-Damaged.field-0-is)) (ap standing (c.dump.ensures.state tells))
-
-pub returns-in-Err-Refused-clause-exact : goal.returns-in-Err-Refused-clause-exact
-returns-in-Err-Refused-clause-exact g c = λ honest.
-    let tells = g.met.H.Host.honest_tells honest in
-    let old = g.H.Host.told c.args.host.now in
-    let mid = g.H.Host.told c.dump.new.self in
-    let stood : standing old.state ≡ restored_to c.in-Ok.found = λ i. record { net = c.in-Ok.ensures.net honest i; cell = (c.requires.none tells).cell i } in
-    let broken : merge c.in-Ok.found c.args.doc.now ≡ Err c.in-Err-Refused.r = c.in-Err-Refused.ensures.refused c.in-Err-Refused.r (ap (λ e. Err e) c.in-Err-Refused.field-0-is) in
-    let same = c.in-Err-Refused.r-is in
-    let is = refused_exact (asked c.args.doc.now c.args.opts.now c.args.now) (standing old.state) c.in-Ok.found c.in-Err-Refused.r (Rose old.faults mid.faults) mid stood broken (ap standing (c.dump.ensures.state tells)) in
-    record { answer = let there = is.answer in cc; after = is.after }
-
 pub returns-clause-exact : goal.returns-clause-exact
 returns-clause-exact g c = λ honest.
     let tells = g.met.H.Host.honest_tells honest in
@@ -265,15 +177,9 @@ returns-clause-exact g c = λ honest.
 
 -- ---- what was tried, dumped and taken back
 
-pub returns-in-Err-Failed-clause-tries : goal.returns-in-Err-Failed-clause-tries
-returns-in-Err-Failed-clause-tries g c = λ start follows. left_tries (c.args.opts.now.no_verify ≡ false) start.faults start.kernel.refusals (g.H.Host.told c.dump.new.self) c.args.left c.requires.left
-
 pub returns-clause-tries : goal.returns-clause-tries
 returns-clause-tries g c = λ start follows.
     c.carry_out.ensures.tries c.args.doc.now start (dumped_follows g (goal.at.returns-clause-tries g c).In-Ok start follows) (ap (λ (k : Kernel). k.calls) c.in-Ok.ensures.calls) c.in-Ok-merge.ensures.merged
-
-pub returns-in-Err-Failed-clause-twice : goal.returns-in-Err-Failed-clause-twice
-returns-in-Err-Failed-clause-twice g c = λ honest. left_twice ⊥ (g.H.Host.told c.args.host.now).faults (g.H.Host.told c.dump.new.self) c.args.left c.requires.left
 
 pub returns-clause-twice : goal.returns-clause-twice
 returns-clause-twice g c = λ honest.
@@ -284,11 +190,178 @@ returns-clause-twice g c = λ honest.
 pub returns-clause-dumps : goal.returns-clause-dumps
 returns-clause-dumps g c = c.carry_out.ensures.dumps c.in-Ok.ensures.fresh
 
-pub returns-in-Err-Failed-clause-backs : goal.returns-in-Err-Failed-clause-backs
-returns-in-Err-Failed-clause-backs g c = λ honest.
-    left_backs (g.H.Host.told c.args.host.now).state.net (g.H.Host.told c.dump.new.self) c.args.left (ap (λ (s : State). s.net) (c.dump.ensures.state (g.met.H.Host.honest_tells honest)))
-
 pub returns-clause-backs : goal.returns-clause-backs
 returns-clause-backs g c = λ honest.
     let net = ap (λ (s : State). s.net) (c.dump.ensures.state (g.met.H.Host.honest_tells honest)) in
     subst (λ (n : Option NetData). Backs n (g.H.Host.told c.carry_out.new.host) c.carry_out.result) net (c.carry_out.ensures.backs honest)
+
+pub returns-clause-moment : goal.returns-clause-moment
+returns-clause-moment g c =
+    later_on (g.H.Host.told c.args.host.now).stops.moment (g.H.Host.told c.dump.new.self).stops.moment (g.H.Host.told c.carry_out.new.host).stops.moment c.dump.ensures.stops.later c.carry_out.ensures.moment
+
+pub returns-clause-later : goal.returns-clause-later
+returns-clause-later g c = later_on (g.H.Host.told c.args.host.now).faults (g.H.Host.told c.dump.new.self).faults (g.H.Host.told c.carry_out.new.host).faults c.dump.ensures.cause.later c.carry_out.ensures.later
+
+-- ---- where no change is begun
+
+left_exit : (a : Asked) (before : Standing) (faults : ℕ) (new : HostView) (left : Left) → left ≢ Pending → Ends before new → Exit a before faults (Err (ap_.HostFault left)) new
+left_exit a before faults new NotBegun never ends = ends
+left_exit a before faults new RolledBack never ends = ends
+left_exit a before faults new Pending never ends = absurd (never refl)
+
+pub returns-in-Err-Failed : goal.returns-in-Err-Failed
+returns-in-Err-Failed g c = record {
+  kept = λ honest sound ends. stays g (goal.at.returns-in-Err-Failed g c).After-dump sound;
+  exit = λ honest sound ends. left_exit (asked c.args.doc.now c.args.opts.now c.args.now) (standing (g.H.Host.told c.args.host.now).state) (g.H.Host.told c.args.host.now).faults (g.H.Host.told c.dump.new.self) c.args.left c.requires.left (ends_stays (standing (g.H.Host.told c.args.host.now).state) (g.H.Host.told c.args.host.now) (g.H.Host.told c.dump.new.self) ends c.dump.ensures.stops);
+  exact = λ honest. c.in-Err-Failed.ensures.cause.failed (ap (λ e. Err e) c.in-Err-Failed.field-0-is);
+  unbegun = λ is. (left_unbegun c.args.left is, c.dump.ensures.stops);
+  calm = λ honest t le from to is merges calm. tt;
+  value = tt;
+  says = λ start follows settled was.
+      let old = g.H.Host.told c.args.host.now in
+      let mid = g.H.Host.told c.dump.new.self in
+      left_says g.H.Host.tells (asked c.args.doc.now c.args.opts.now c.args.now) start old mid c.args.left c.requires.left
+      (rose_after start.faults old.faults mid.faults follows.faults (c.in-Err-Failed.ensures.cause.failed (ap (λ e. Err e) c.in-Err-Failed.field-0-is))) c.dump.ensures.state was (λ tells. (c.requires.none tells).cell)
+      (left_settled g.H.Host.tells c.args.now start old mid settled (inl c.in-Err-Failed.ensures.kernel));
+  counts = λ start follows unmade.
+      left_counts start.kernel (g.H.Host.told c.args.host.now).kernel (g.H.Host.told c.dump.new.self).kernel c.args.left c.requires.left follows.quiet unmade c.in-Err-Failed.ensures.kernel;
+  tries = λ start follows. left_tries (c.args.opts.now.no_verify ≡ false) start.faults start.kernel.refusals (g.H.Host.told c.dump.new.self) c.args.left c.requires.left;
+  twice = λ honest. left_twice ⊥ (g.H.Host.told c.args.host.now).faults (g.H.Host.told c.dump.new.self) c.args.left c.requires.left;
+  dumps = tt;
+  backs = λ honest.
+      left_backs (g.H.Host.told c.args.host.now).state.net (g.H.Host.told c.dump.new.self) c.args.left (ap (λ (s : State). s.net) (c.dump.ensures.state (g.met.H.Host.honest_tells honest)));
+  moment = c.dump.ensures.stops.later;
+  later = c.dump.ensures.cause.later;
+}
+
+pub returns-in-Err-Damaged : goal.returns-in-Err-Damaged
+returns-in-Err-Damaged g c = record {
+  kept = λ honest sound ends. stays g (goal.at.returns-in-Err-Damaged g c).After-dump sound;
+  exit = λ honest sound ends. (refl, c.in-Err-Damaged.ensures.damaged (g.met.H.Host.honest_tells honest) (ap (λ e. Err e) c.in-Err-Damaged.field-0-is), ends_stays (standing (g.H.Host.told c.args.host.now).state) (g.H.Host.told c.args.host.now) (g.H.Host.told c.dump.new.self) ends c.dump.ensures.stops);
+  exact = λ honest.
+      let tells = g.met.H.Host.honest_tells honest in
+      let old = g.H.Host.told c.args.host.now in
+      let mid = g.H.Host.told c.dump.new.self in
+      none_exact (asked c.args.doc.now c.args.opts.now c.args.now) (standing old.state) (Rose old.faults mid.faults) mid (c.in-Err-Damaged.ensures.damaged tells (ap (λ e. Err e) c.in-Err-Damaged.field-0-is)) (ap standing (c.dump.ensures.state tells));
+  unbegun = λ is. absurd (damaged_unbegun is);
+  calm = λ honest t le from to is merges calm. tt;
+  value = tt;
+  says = λ start follows settled was tells.
+      let old = g.H.Host.told c.args.host.now in
+      let mid = g.H.Host.told c.dump.new.self in
+      let damaged : IsDamaged 0 old.state = inl (refl, c.in-Err-Damaged.ensures.damaged tells (ap (λ e. Err e) c.in-Err-Damaged.field-0-is)) in (
+        since_keeps Stays start.moment 0 old mid follows.moment c.dump.ensures.stops (since start.moment 0 old (g.met.H.Host.lawful c.args.host.now).stops ((g.met.H.Host.lawful c.args.host.now).reads tells) follows.moment damaged),
+        record {
+          damaged = subst (λ (s : State). IsDamaged 0 s) (sym (c.dump.ensures.state tells)) damaged;
+          held = inl (left_settled g.H.Host.tells c.args.now start old mid settled (inl c.in-Err-Damaged.ensures.kernel));
+        },
+      );
+  counts = λ start follows unmade.
+      let old = (g.H.Host.told c.args.host.now).kernel in
+      let mid = (g.H.Host.told c.dump.new.self).kernel in
+      inl (quiet_on start.kernel old mid follows.quiet (quiet_same old mid c.in-Err-Damaged.ensures.kernel));
+  tries = λ start follows. tt;
+  twice = λ honest. tt;
+  dumps = tt;
+  backs = λ honest. tt;
+  moment = c.dump.ensures.stops.later;
+  later = c.dump.ensures.cause.later;
+}
+
+pub returns-in-Err-OutOfMemory : goal.returns-in-Err-OutOfMemory
+returns-in-Err-OutOfMemory g c = record {
+  kept = λ honest sound ends. stays g (goal.at.returns-in-Err-OutOfMemory g c).After-dump sound;
+  exit = λ honest sound ends. inl (near_ends (Only (standing (g.H.Host.told c.args.host.now).state)) (standing (g.H.Host.told c.args.host.now).state) (g.H.Host.told c.dump.new.self) refl (ends_stays (standing (g.H.Host.told c.args.host.now).state) (g.H.Host.told c.args.host.now) (g.H.Host.told c.dump.new.self) ends c.dump.ensures.stops));
+  exact = λ honest. tt;
+  unbegun = λ is. absurd (memory_unbegun is);
+  calm = λ honest t le from to is merges calm. tt;
+  value = tt;
+  says = λ start follows settled was. tt;
+  counts = λ start follows unmade.
+      let old = (g.H.Host.told c.args.host.now).kernel in
+      let mid = (g.H.Host.told c.dump.new.self).kernel in
+      inl (quiet_on start.kernel old mid follows.quiet (quiet_same old mid c.in-Err-OutOfMemory.ensures.kernel));
+  tries = λ start follows. tt;
+  twice = λ honest. tt;
+  dumps = tt;
+  backs = λ honest. tt;
+  moment = c.dump.ensures.stops.later;
+  later = c.dump.ensures.cause.later;
+}
+
+pub returns-in-Err-Refused : goal.returns-in-Err-Refused
+returns-in-Err-Refused g c = record {
+  kept = λ honest sound ends. stays g (goal.at.returns-in-Err-Refused g c).After-dump sound;
+  exit = λ honest sound ends.
+      let old = g.H.Host.told c.args.host.now in
+      let stood : standing old.state ≡ restored_to c.in-Ok.found = λ i. record { net = c.in-Ok.ensures.net honest i; cell = (c.requires.none (g.met.H.Host.honest_tells honest)).cell i } in
+      let broken : merge c.in-Ok.found c.args.doc.now ≡ Err c.in-Err-Refused.r = c.in-Err-Refused.ensures.refused c.in-Err-Refused.r (ap (λ e. Err e) c.in-Err-Refused.field-0-is) in
+      let same = c.in-Err-Refused.r-is in
+      (c.in-Ok.found, stood, cc, ends_stays (standing old.state) old (g.H.Host.told c.dump.new.self) ends c.dump.ensures.stops);
+  exact = λ honest.
+      let tells = g.met.H.Host.honest_tells honest in
+      let old = g.H.Host.told c.args.host.now in
+      let mid = g.H.Host.told c.dump.new.self in
+      let stood : standing old.state ≡ restored_to c.in-Ok.found = λ i. record { net = c.in-Ok.ensures.net honest i; cell = (c.requires.none tells).cell i } in
+      let broken : merge c.in-Ok.found c.args.doc.now ≡ Err c.in-Err-Refused.r = c.in-Err-Refused.ensures.refused c.in-Err-Refused.r (ap (λ e. Err e) c.in-Err-Refused.field-0-is) in
+      let same = c.in-Err-Refused.r-is in
+      let is = refused_exact (asked c.args.doc.now c.args.opts.now c.args.now) (standing old.state) c.in-Ok.found c.in-Err-Refused.r (Rose old.faults mid.faults) mid stood broken (ap standing (c.dump.ensures.state tells)) in
+      record { answer = let there = is.answer in cc; after = is.after };
+  unbegun = λ is. absurd (refused_unbegun _ is);
+  calm = λ honest t le from to is merges calm. tt;
+  value = tt;
+  says = λ start follows settled was.
+      let broken : merge c.in-Ok.found c.args.doc.now ≡ Err c.in-Err-Refused.r = c.in-Err-Refused.ensures.refused c.in-Err-Refused.r (ap (λ e. Err e) c.in-Err-Refused.field-0-is) in
+      let same = c.in-Err-Refused.r-is in (
+        dumped_settled g (goal.at.returns-in-Err-Refused g c).In-Ok start settled,
+        λ tells. record {
+          from = c.in-Ok.found;
+          is_fresh = c.in-Ok.ensures.fresh tells;
+          breaks = cc;
+          none = ap (λ (s : State). cell_of s.cell) (c.dump.ensures.state tells) ∙ (c.requires.none tells).cell;
+        },
+      );
+  counts = λ start follows unmade. dumped_quiet g (goal.at.returns-in-Err-Refused g c).In-Ok start follows;
+  tries = λ start follows. tt;
+  twice = λ honest. tt;
+  dumps = tt;
+  backs = λ honest. tt;
+  moment = c.dump.ensures.stops.later;
+  later = c.dump.ensures.cause.later;
+}
+
+pub returns-in-Err-OutOfMemory-merge : goal.returns-in-Err-OutOfMemory-merge
+returns-in-Err-OutOfMemory-merge g c = record {
+  kept = λ honest sound ends. stays g (goal.at.returns-in-Err-OutOfMemory-merge g c).After-dump sound;
+  exit = λ honest sound ends. inl (near_ends (Only (standing (g.H.Host.told c.args.host.now).state)) (standing (g.H.Host.told c.args.host.now).state) (g.H.Host.told c.dump.new.self) refl (ends_stays (standing (g.H.Host.told c.args.host.now).state) (g.H.Host.told c.args.host.now) (g.H.Host.told c.dump.new.self) ends c.dump.ensures.stops));
+  exact = λ honest. tt;
+  unbegun = λ is. absurd (memory_unbegun is);
+  calm = λ honest t le from to is merges calm. tt;
+  value = tt;
+  says = λ start follows settled was. tt;
+  counts = λ start follows unmade. inl (dumped_quiet g (goal.at.returns-in-Err-OutOfMemory-merge g c).In-Ok start follows);
+  tries = λ start follows. tt;
+  twice = λ honest. tt;
+  dumps = tt;
+  backs = λ honest. tt;
+  moment = c.dump.ensures.stops.later;
+  later = c.dump.ensures.cause.later;
+}
+
+pub returns-in-Err : goal.returns-in-Err
+returns-in-Err g c = record {
+  kept = λ honest sound ends. stays g (goal.at.returns-in-Err g c).After-dump sound;
+  exit = λ honest sound ends. inl (near_ends (Only (standing (g.H.Host.told c.args.host.now).state)) (standing (g.H.Host.told c.args.host.now).state) (g.H.Host.told c.dump.new.self) refl (ends_stays (standing (g.H.Host.told c.args.host.now).state) (g.H.Host.told c.args.host.now) (g.H.Host.told c.dump.new.self) ends c.dump.ensures.stops));
+  exact = λ honest. tt;
+  unbegun = λ is. absurd (memory_unbegun is);
+  calm = λ honest t le from to is merges calm. tt;
+  value = tt;
+  says = λ start follows settled was. tt;
+  counts = λ start follows unmade. inl (dumped_quiet g (goal.at.returns-in-Err g c).In-Ok start follows);
+  tries = λ start follows. tt;
+  twice = λ honest. tt;
+  dumps = tt;
+  backs = λ honest. tt;
+  moment = c.dump.ensures.stops.later;
+  later = c.dump.ensures.cause.later;
+}
