@@ -13,12 +13,10 @@ const STANDARD_INPUT: &str = "-";
 fn reads_input(command: &str) -> bool
     ensures { result ≡ reads_input command.now }
 {
-    command == "apply"
-        || command == "plan"
-        || command == "policy"
-        || command == "simulate"
-        || command == "init"
-        || command == "script"
+    match command {
+        "apply" | "plan" | "policy" | "simulate" | "init" | "script" => true,
+        _ => false,
+    }
 }
 
 fn push_all<'w>(words: &'w [String], given: &mut Vec<&'w str>) -> Result<(), AllocError>

@@ -19,16 +19,12 @@ const ESCAPE: &str = "--";
 pub(crate) fn lone_word(word: &str) -> Option<Command>
     ensures { result ≡ lone_word word.now }
 {
-    if word == "commit" {
-        return Some(Command::Commit);
+    match word {
+        "commit" => Some(Command::Commit),
+        "rollback" => Some(Command::Rollback),
+        "recover" => Some(Command::Recover),
+        _ => None,
     }
-    if word == "rollback" {
-        return Some(Command::Rollback);
-    }
-    if word == "recover" {
-        return Some(Command::Recover);
-    }
-    None
 }
 
 /// The command `commit`, `rollback` or `recover`, where the words are exactly that one. It takes no memory.

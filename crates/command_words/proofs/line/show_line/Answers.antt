@@ -1,9 +1,7 @@
 use Rattle.std.specs.Prelude.{codes}
-use Rattle.clap.specs.Words.{new_app, new_rule, with_rule}
-use Rattle.command_words.specs.Program.{flag}
+use Rattle.clap.specs.Words.{new_rule}
 use Rattle.command_words.proofs.line.show_line.Goals as goal
 
 pub returns : goal.returns
 returns c =
-    c.with.ensures (with_rule (new_app (codes "show")) (new_rule (codes "IFNAME"))) (flag (codes "json"))
-    (c.with-line.ensures (new_app (codes "show")) (new_rule (codes "IFNAME")) (c.new.ensures.app, c.new.ensures.local) c.positional.ensures) c.flag.ensures
+    c.with_flag.ensures _ (c.line_with-line.ensures (new_rule (codes "IFNAME")) c.positional.ensures)
