@@ -4,5 +4,6 @@ mod Documents
 mod Readings
 mod Batches
 mod PolicyReadings
+mod Files
 mod Parts
 mod Workloads

@@ -1,17 +1,19 @@
 -- The order that is handed over, and what is known of it.
-use Rattle.std.specs.Prelude.{List, Bool, true, ◌&&◌, Option, Some, None, map, Result}
+use Rattle.std.specs.Prelude.{List, Bool, true, ◌&&◌, Option, Some, None, map, Result, Ok}
 use Rattle.document_model.specs.Entries.{is_document, has_short_doc}
 use Rattle.host_core.specs.Streams.{SourceView}
 use Rattle.policy_lang.specs.Held.{data_of}
 use Rattle.command_words.specs.declared.Command.{Command}
 use Rattle.command_words.specs.declared.Command.TheVariants as command
-use Rattle.top_model.specs.Orders.{Text, showing, planning, planning_policy, evaluating, simulating, applying, applying_policy, committing, rolling_back, recovering, checking, making, generating}
+use Rattle.top_model.specs.Orders.{Text, and_then, tree_of, policy, calls_of, hardware_list, policy_or_document, showing, planning, planning_policy, evaluating, simulating, applying, applying_policy, committing, rolling_back, recovering, checking, making, generating}
 use Rattle.top_model.specs.Orders as model
 use Rattle.top_model.specs.Lines.{Timed, timed_of}
 use Rattle.top_model.specs.declared.Step.{Step}
 use Rattle.top_model.specs.declared.Cause.{Cause}
 use Rattle.order_reading.specs.declared.order.Order.{Order}
 use Rattle.order_reading.specs.declared.order.Order.TheVariants.{Show, Plan, PlanPolicy, Evaluate, Simulate, Apply, ApplyPolicy, Commit, Rollback, Recover, Check, Init, Generate}
+use Rattle.order_reading.specs.declared.order.Purpose.{Purpose}
+use Rattle.order_reading.specs.declared.order.Purpose.TheVariants as purpose
 pub use Rattle.top_model.specs.Taking.{read_there, file_read}
 use Rattle.order_reading.specs.Reading.{Takes}
 
@@ -39,6 +41,14 @@ has_right_document (Generate devices first second) = is_document first && has_sh
 has_right_document _ = true
 
 -- ---- the FILE of a command
+
+-- what is asked with what was read of the FILE, or why nothing was read
+abbrev pub order_of_file : Purpose → Result Text Cause → Result model.Order Cause
+order_of_file (purpose.Plan in_batch) bytes = and_then (and_then bytes tree_of) (policy_or_document (λ p. planning_policy p in_batch) (λ doc. planning doc in_batch))
+order_of_file purpose.Evaluate bytes = and_then (and_then bytes policy) (λ p. Ok (evaluating p))
+order_of_file purpose.Simulate bytes = and_then (and_then bytes calls_of) (λ calls. Ok (simulating calls))
+order_of_file (purpose.Apply opts) bytes = and_then (and_then bytes tree_of) (policy_or_document (λ p. applying_policy p opts) (λ doc. applying doc opts))
+order_of_file purpose.Init bytes = and_then (and_then bytes hardware_list) (λ links. Ok (making links))
 
 -- nothing but that FILE is read, and of it no more than the limit and one byte
 abbrev pub TakesFile : {A : Type 0} → Type 0 → Type 0 → SourceView → SourceView → Option (Option Text) → Result A Cause → Type 0

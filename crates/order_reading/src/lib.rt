@@ -14,8 +14,6 @@ mod calls;
 mod workload;
 // Policies.
 mod policies;
-// The FILE of a command, as the command takes it.
-mod files;
 // The order of the words.
 mod order;
 // The document of a FILE that may be nothing else.
