@@ -1,6 +1,7 @@
 pub mod lemmas
 pub mod Trims
 pub mod Parts
+pub mod Walks
 pub mod Counts
 pub mod Under
 pub mod Sited

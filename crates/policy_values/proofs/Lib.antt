@@ -6,6 +6,7 @@ pub mod Fair
 pub mod Keeping
 pub mod Items
 pub mod Given
+pub mod Walks
 pub mod Listed
 pub mod InPlace
 pub mod Known

@@ -143,6 +143,16 @@ fn only(alloc: Global, key: &Str, tree: Tree) -> Result<Tree, AllocError>
     Ok(Tree::Map(pairs))
 }
 
+// The same where anything was found.
+fn only_found(alloc: Global, key: &Str, found: Option<Tree>) -> Result<Option<Tree>, AllocError>
+    ensures { IfOk result (λ map. option_map shape map ≡ option_map (only key.now) (option_map shape found)) }
+{
+    match found {
+        Some(tree) => Ok(Some(only(alloc, key, tree)?)),
+        None => Ok(None),
+    }
+}
+
 // What stands under a key, taken out of its map.
 fn taken(key: &Str, pairs: Vec<(Str, Tree)>) -> Option<Tree>
     ensures { option_map shape result ≡ find key.now (pairs_of (map pair_shape pairs.items)) }
@@ -177,10 +187,7 @@ pub(crate) fn narrowed_of(
             let Some(below) = taken(key, pairs) else {
                 return Ok(None);
             };
-            match narrowed_of(alloc, verb, value, keys, below)? {
-                Some(found) => Ok(Some(only(alloc, key, found)?)),
-                None => Ok(None),
-            }
+            only_found(alloc, key, narrowed_of(alloc, verb, value, keys, below)?)
         }
         _ => Ok(None),
     }
@@ -208,8 +215,5 @@ pub(crate) fn narrowed(
     let Some(below) = tree.get(key.as_str()) else {
         return Ok(None);
     };
-    match narrowed(alloc, verb, value, keys, below)? {
-        Some(found) => Ok(Some(only(alloc, key, found)?)),
-        None => Ok(None),
-    }
+    only_found(alloc, key, narrowed(alloc, verb, value, keys, below)?)
 }

@@ -35,3 +35,11 @@ loop-pass-preserved c =
       known = c.in_ok-pass.ensures.pass n (c.as_slice-in-loop-pass-4.ensures.value ∙ c.loop-pass.invariant.done, c.as_slice-in-loop-pass-5.ensures.value ∙ ready) c.loop-pass.invariant.known ∙ ap (tables captures running) (sym (add-one n));
       done = ready ∙ ap (λ (m : ℕ). map (was_ready captures running m) captures) (sym (add-one n));
     }
+
+pub loop-pass-init : goal.loop-pass-init
+loop-pass-init c = record { known = c.in_ok-values.ensures; done = c.in_ok-done.ensures }
+
+pub returns : goal.returns
+returns c =
+    let last : c.loop-pass._pass ≡ length c.args.captures.now = omega arith in
+    c.loop-pass.invariant.known ∙ ap (tables c.args.captures.now (shape c.args.running.now)) last
