@@ -1,5 +1,5 @@
 -- What the making of a first network leaves.
-use Rattle.std.proofs.Common.{◌≡◌, ◌≢◌, ◌⊎◌, inl, inr, ℕ, List, [], ◌∷◌, ◌++◌, take, get_or, map, reverse, Some, None, Vec, refl, sym, ap, ◌∙◌, subst, arith}
+use Rattle.std.proofs.Common.{◌≡◌, ◌≢◌, ◌⊎◌, inl, inr, ℕ, true, false, List, [], ◌∷◌, ◌++◌, take, get_or, map, reverse, Some, None, Option, IsSome, Result, Ok, Err, OnOk, OnErr, Vec, refl, sym, ap, ◌∙◌, subst, arith}
 use Rattle.std.proofs.lemmas.List.{append_assoc}
 use Rattle.std.specs.declared.alloc.Global.{Global}
 use Rattle.net_model.specs.NetData.{NetData}
@@ -11,9 +11,10 @@ use Rattle.host_memory.specs.declared.record.HostEvent.{HostEvent}
 use Rattle.host_memory.specs.declared.record.HostEvent.TheVariants.{Changed, Wrote, Synced}
 use Rattle.host_memory.specs.HostRecord.{undone, Left, stops_of, reads, one_net, WasClosed, WasOpen, IsClosing}
 use Rattle.host_memory.specs.HostStopped.{touch_of}
+use Rattle.host_memory.specs.HostMakes.{Makes, IsUnmade}
 use Rattle.host_memory.specs.Touches.{IsTouched}
 use Rattle.host_memory.proofs.DiskPushes.{torn_same}
-use Rattle.host_memory.proofs.HostPushes.{push, newest, write_pushed, sync_pushed, sync_sure}
+use Rattle.host_memory.proofs.HostPushes.{push, newest, unchanged, write_pushed, sync_pushed, sync_sure}
 
 first_of : (byte default : ℕ) (bytes : List ℕ) → take 1 bytes ≡ byte ∷ [] → get_or bytes 0 default ≡ byte
 first_of byte default [] is = let e : [] ≡ byte ∷ [] = is in absurd (cc)
@@ -97,13 +98,6 @@ module _ (before : List HostEvent) (gate : Vec ℕ Global) (old mid : State) whe
 shut_already : (before : List HostEvent) (old : State) → Steps Began (stops_of old (reverse before)) (stops_of old (reverse (before ++ Synced ∷ [])))
 shut_already before old = weaken Stays Began (stops_of old (reverse before)) (stops_of old (reverse (before ++ Synced ∷ []))) (sync_pushed before (before ++ Synced ∷ []) old (inr refl)) (λ r s left same. inl same)
 
--- what a making leaves, at each moment and behind it
-pub record Makes (first : NetData) (old new : State) (before after : List HostEvent) : Type 0 where
-  pub stops : Steps (MaybeMade first) (stops_of old (reverse before)) (stops_of new (reverse after))
-  pub storing : Storing first old new
-  pub sure : (s : State) → Left new (reverse after) s → s.cell ≡ new.cell
-  pub consistent : IsTouched old.cell (map (touch_of 0) (reverse before)) → IsTouched new.cell (map (touch_of 0) (reverse after))
-
 module _ (first : NetData) (before after closing : List HostEvent) (old new : State) (none : old.net ≡ None) (stored : new.net ≡ Some first) (is : after ≡ before ++ (closing ++ Changed None ∷ [])) where
   -- the last events of a making are a sync and the storing
   last_two : (rest : List HostEvent) → after ≡ (rest ++ Synced ∷ []) ++ Changed None ∷ [] → reverse after ≡ Changed None ∷ (Synced ∷ reverse rest)
@@ -119,6 +113,8 @@ module _ (first : NetData) (before after closing : List HostEvent) (old new : St
   made_closed : WasClosed old.cell new.cell closing → Makes first old new before after
   made_closed was =
       record {
+        none = none;
+        net = stored;
         stops = subst (λ (l : List HostEvent). Steps (MaybeMade first) (stops_of old (reverse before)) (stops_of new (reverse l))) (sym two)
             (stored_after first (before ++ Synced ∷ []) old new none stored was.bytes (stops_of old (reverse before)) was.closed (sync_sure before (before ++ Synced ∷ []) old refl) (shut_already before old));
         storing = record {
@@ -138,6 +134,8 @@ module _ (first : NetData) (before after closing : List HostEvent) (old new : St
   made_open : WasOpen old.cell new.cell closing → Makes first old new before after
   made_open was =
       record {
+        none = none;
+        net = stored;
         stops = subst (λ (l : List HostEvent). Steps (MaybeMade first) (stops_of old (reverse before)) (stops_of new (reverse l))) (sym two)
             (stored_after first (rest ++ Synced ∷ []) mid new none stored refl (stops_of old (reverse before)) (closed old.cell new.cell was.written) (sync_sure rest (rest ++ Synced ∷ []) mid refl)
             (opening before was.before old mid none was.opened was.items refl was.written.torn));
@@ -166,3 +164,45 @@ module _ (first : NetData) (before after closing : List HostEvent) (old new : St
   pub makes : IsClosing old.cell new.cell closing → Makes first old new before after
   makes (inl was) = made_closed was
   makes (inr was) = made_open was
+
+-- ---- what a making leaves where it was answered that it was made or that it wasn't
+
+no_net : (net : Option NetData) → net ≡ None → IsSome net → ⊥
+no_net None none some = let e : false ≡ true = some in absurd (cc)
+no_net (Some n) none some = let e : Some n ≡ None = none in absurd (cc)
+
+-- what a making leaves, made or not
+pub record Leaves (first : NetData) (old new : State) (before after : List HostEvent) : Type 0 where
+  pub maybe : MaybeMade first old new
+  pub stops : Steps (MaybeMade first) (stops_of old (reverse before)) (stops_of new (reverse after))
+  pub stays : IsSome old.net → Steps Stays (stops_of old (reverse before)) (stops_of new (reverse after)) × (new ≡ old)
+  pub has_net : old.net ≢ None → new.net ≢ None
+
+module _ (old new : State) (before after : List HostEvent) (kept : IsUnmade old new before after) where
+  same_state : new ≡ old
+  same_state = λ i. record { net = kept.net i; cell = kept.cell i }
+
+  unmade : Steps Stays (stops_of old (reverse before)) (stops_of new (reverse after)) × (new ≡ old)
+  unmade = (unchanged before after old new Stays (λ s. refl) kept.events same_state, same_state)
+
+module _ {E : Type 0} (first : NetData) (old new : State) (before after : List HostEvent) where
+  pub leaves : (answer : Result (Unit {0}) E) → OnOk answer (Makes first old new before after) → OnErr answer (IsUnmade old new before after)
+      → Leaves first old new before after
+  leaves (Ok done) made same = record {
+    maybe = inr (inr made.storing);
+    stops = made.stops;
+    stays = λ some. absurd (no_net old.net made.none some);
+    has_net = λ some. absurd (some made.none);
+  }
+  leaves (Err fault) made same = record {
+    maybe = inl (same_state old new before after same);
+    stops = unchanged before after old new (MaybeMade first) (λ s. inl refl) same.events (same_state old new before after same);
+    stays = λ some. unmade old new before after same;
+    has_net = λ some none. some (sym same.net ∙ none);
+  }
+
+  -- where it wasn't made, nothing changed
+  pub at_fault : (answer : Result (Unit {0}) E) → OnErr answer (IsUnmade old new before after) → (fault : E) → answer ≡ Err fault
+      → Steps Stays (stops_of old (reverse before)) (stops_of new (reverse after)) × (new ≡ old)
+  at_fault (Ok done) same fault is = absurd (cc)
+  at_fault (Err other) same fault is = unmade old new before after same

@@ -63,7 +63,7 @@ module _ (before after : List HostEvent) (old new : State) where
   same_state net cell = λ i. record { net = net i; cell = cell i }
 
   -- nothing happened
-  unchanged : (step : State → State → Type 0) → ((s : State) → step s s) → after ≡ before → new ≡ old → Steps step (stops_of old (reverse before)) (stops_of new (reverse after))
+  pub unchanged : (step : State → State → Type 0) → ((s : State) → step s s) → after ≡ before → new ≡ old → Steps step (stops_of old (reverse before)) (stops_of new (reverse after))
   unchanged step same events state =
       subst (λ (l : List HostEvent). Steps step (stops_of old (reverse before)) (stops_of new (reverse l))) (sym events)
       (subst (λ (n : State). Steps step (stops_of old (reverse before)) (stops_of n (reverse before))) (sym state)
@@ -85,6 +85,11 @@ module _ (before after : List HostEvent) (old new : State) where
       subst (λ (l : List HostEvent). Steps (MaybeCalled call) (stops_of old (reverse before)) (stops_of new l)) (sym (newest before after (Changed old.net) done.pushed))
       (called (reverse before) old new call old.net (λ i. record { net = old.net; cell = cell i }) done.accepts)
   call_pushed call (inr kept) cell = unchanged (MaybeCalled call) (λ s. record { cell = refl; net = inl refl }) kept.events (same_state kept.net cell)
+
+  -- the same of the network and the area
+  pub maybe_called : (call : Call) → IsCalled call old.net new.net before after ⊎ IsUncalled old.net new.net before after → new.cell ≡ old.cell → MaybeCalled call old new
+  maybe_called call (inl done) cell = record { cell = cell; net = inr done.accepts }
+  maybe_called call (inr kept) cell = record { cell = cell; net = inl kept.net }
 
   pub call_cell_pushed : (call : Call) → IsCalled call old.net new.net before after ⊎ IsUncalled old.net new.net before after → new.cell ≡ old.cell
       → Steps SameCell (stops_of old (reverse before)) (stops_of new (reverse after))

@@ -2,9 +2,10 @@
 ghost use Rattle.std.specs.Prelude.{◌≡◌, ◌≢◌, ◌⊎◌, ◌<◌, ◌≤◌, ◌+◌, ◌^◌, ℕ, [], ◌∷◌, length, get_or, map, reverse, None, Some, false, IfOk, OnOk, OnErr, IsErrOf, IsSome, option_map};
 ghost use Rattle.host_core.specs.Bytes.{Torn, Written, Filled};
 ghost use Rattle.host_core.specs.Faults.{HasCause, HasFault, one_more};
-ghost use Rattle.host_core.specs.HostView.{State, HasCell, Accepts, Refuses, MaybeCalled, SameCell, SameKernel, Untouched, CellTorn, IsFirst, IsMade, Storing, MaybeMade, counted, refused, dumped};
+ghost use Rattle.host_core.specs.HostView.{State, HasCell, Accepts, Refuses, MaybeCalled, SameCell, SameKernel, Untouched, CellTorn, IsFirst, IsMade, MaybeMade, counted, refused, dumped};
 ghost use Rattle.host_core.specs.Stops.{Steps, Stays};
-ghost use Rattle.host_memory.specs.HostRecord.{Left, stops_of, IsAsBefore, IsClosing};
+ghost use Rattle.host_memory.specs.HostRecord.{IsClosing};
+ghost use Rattle.host_memory.specs.HostMakes.{Makes, IsUnmade};
 ghost use Rattle.host_memory.specs.HostStopped.{touch_of};
 ghost use Rattle.host_memory.specs.Touches.{IsTouched, IsTouched-prop};
 
@@ -21,7 +22,6 @@ use std::alloc::{AllocError, Global};
 /// A host whose network and checkpoint area stand in memory. It keeps a record of what was done to it, and fails at the
 /// calls that its fuses name. Memory that is refused in a write or a sync of the checkpoint area is a fault of it; without
 /// fuses there is no other.
-#[derive(Drop)]
 pub struct MemoryHost {
     alloc: Global,
     net: Option<Net>,
@@ -36,6 +36,26 @@ pub struct MemoryHost {
     last_number: u8,
     last_call: u64,
     ghost consistent: { IsTouched cell.items (map (touch_of 0) (reverse events.items)) } by { IsTouched-prop cell.items (map (touch_of 0) (reverse events.items)) },
+}
+
+// By hand, so that a proof sees one call where one is dropped, and not a step for each part.
+impl Drop for MemoryHost {
+    fn drop(self) {
+        let MemoryHost {
+            alloc: _,
+            net: _,
+            cell: _,
+            events: _,
+            fuses: _,
+            settled: _,
+            fresh: _,
+            faults: _,
+            calls: _,
+            refusals: _,
+            last_number: _,
+            last_call: _,
+        } = self;
+    }
 }
 
 impl MemoryHost {
@@ -106,9 +126,24 @@ impl MemoryHost {
         ensures faults { IfOk result (λ host. (⟦<MemoryHost as Host>⟧.told host).faults ≡ 0) }
         ensures unfused { IfOk result IsUnfused }
     {
+        let (net, cell) = self.left(alloc, after, pick)?;
+        Ok(MemoryHost::new(alloc, net, cell, Vec::new(alloc)))
+    }
+
+    // The network and the bytes of the checkpoint area after such a stop.
+    fn left(
+        &self,
+        alloc: Global,
+        after: u64,
+        pick: u8,
+    ) -> Result<(Option<Net>, Vec<u8>), OutOfMemory>
+        requires after { after ≤ (⟦<MemoryHost as Host>⟧.told self.now).stops.moment }
+        requires pick { pick < 4 }
+        ensures { IfOk result (λ left. state_stopped after pick self.now ≡ record { net = left.0; cell = left.1.items }) }
+    {
         let cell = stopped(alloc, &self.events, 0, &self.cell, after, pick)?;
         let net = copied(net_before(&self.events[after as usize..], &self.net))?;
-        Ok(MemoryHost::new(alloc, net, cell, Vec::new(alloc)))
+        Ok((net, cell))
     }
 
     /// Counts a kernel call that isn't made.
@@ -175,7 +210,7 @@ fn closing(alloc: Global, cell: &[u8]) -> Result<(Vec<u8>, Vec<HostEvent>), Allo
 }
 
 // Closes the checkpoint and stores the first network, and records it. All memory is taken first.
-fn made(
+fn stored(
     alloc: Global,
     net: &mut Option<Net>,
     cell: &mut Vec<u8>,
@@ -183,16 +218,10 @@ fn made(
     first: &Net,
 ) -> Result<(), OutOfMemory>
     requires { net.old ≡ None }
-    ensures net { OnOk result (net.new ≡ Some first.now) }
-    ensures storing { OnOk result (Storing first.now (record { net = net.old; cell = cell.old.items }) (record { net = net.new; cell = cell.new.items })) }
-    ensures maybe { MaybeMade first.now (record { net = net.old; cell = cell.old.items }) (record { net = net.new; cell = cell.new.items }) }
-    ensures sure { OnOk result ((s : State) → Left (record { net = net.new; cell = cell.new.items }) (reverse events.new.items) s → s.cell ≡ cell.new.items) }
-    ensures consistent { IsTouched cell.old.items (map (touch_of 0) (reverse events.old.items))
-        → IsTouched cell.new.items (map (touch_of 0) (reverse events.new.items)) }
-    ensures same_net { OnErr result (net.new ≡ net.old) }
-    ensures same { OnErr result (IsAsBefore cell.old.items cell.new.items events.old.items events.new.items) }
-    ensures stops { Steps (MaybeMade first.now) (stops_of (record { net = net.old; cell = cell.old.items }) (reverse events.old.items))
-        (stops_of (record { net = net.new; cell = cell.new.items }) (reverse events.new.items)) }
+    ensures made { OnOk result (Makes first.now (record { net = net.old; cell = cell.old.items }) (record { net = net.new; cell = cell.new.items })
+        events.old.items events.new.items) }
+    ensures same { OnErr result (IsUnmade (record { net = net.old; cell = cell.old.items }) (record { net = net.new; cell = cell.new.items })
+        events.old.items events.new.items) }
 {
     let copy = first.copy()?;
     let (next, mut making) = closing(alloc, cell)?;
@@ -201,6 +230,32 @@ fn made(
     *cell = next;
     *net = Some(copy);
     Ok(())
+}
+
+// Makes the first network, where there is none.
+fn made(
+    alloc: Global,
+    net: &mut Option<Net>,
+    cell: &mut Vec<u8>,
+    events: &mut Vec<HostEvent>,
+    first: &Net,
+) -> Result<(), MakeFault>
+    ensures exists { IsErrOf result MakeFault.Exists → IsSome net.old }
+    ensures failed { IsErrOf result MakeFault.Failed → ⊥ }
+    ensures made { OnOk result (Makes first.now (record { net = net.old; cell = cell.old.items }) (record { net = net.new; cell = cell.new.items })
+        events.old.items events.new.items) }
+    ensures same { OnErr result (IsUnmade (record { net = net.old; cell = cell.old.items }) (record { net = net.new; cell = cell.new.items })
+        events.old.items events.new.items) }
+    ensures consistent { IsTouched cell.old.items (map (touch_of 0) (reverse events.old.items))
+        → IsTouched cell.new.items (map (touch_of 0) (reverse events.new.items)) }
+{
+    if net.is_some() {
+        return Err(MakeFault::Exists);
+    }
+    match stored(alloc, net, cell, events, first) {
+        Ok(()) => Ok(()),
+        Err(OutOfMemory) => Err(MakeFault::OutOfMemory),
+    }
 }
 
 impl Host for MemoryHost {
@@ -242,13 +297,6 @@ impl Host for MemoryHost {
             self.faults = raised(self.faults);
             return Err(MakeFault::Failed);
         }
-        if self.net.is_some() {
-            if fuse.is_some() {
-                self.faults = raised(self.faults);
-                return Err(MakeFault::Failed);
-            }
-            return Err(MakeFault::Exists);
-        }
         let answer = made(
             self.alloc,
             &mut self.net,
@@ -260,10 +308,7 @@ impl Host for MemoryHost {
             self.faults = raised(self.faults);
             return Err(MakeFault::Failed);
         }
-        match answer {
-            Ok(()) => Ok(()),
-            Err(OutOfMemory) => Err(MakeFault::OutOfMemory),
-        }
+        answer
     }
 
     fn dump(&mut self, _alloc: Global) -> Result<Net, DumpFault>
