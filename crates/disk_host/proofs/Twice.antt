@@ -1,5 +1,5 @@
 -- Reads one after another touch nothing.
-use Rattle.std.proofs.Common.{◌∙◌}
+use Rattle.std.proofs.Common.{◌∙◌, ◌≤◌, ℕ, arith}
 use Rattle.host_core.specs.Stops.{Stops, Steps, Stays}
 use Rattle.host_core.specs.DiskView.{Areas, DiskView, Untouched}
 use Rattle.host_core.proofs.lemmas.Moments.{follow}
@@ -12,3 +12,6 @@ untouched_twice tells old mid new one two = record {
   areas = λ told. two.areas told ∙ one.areas told;
   stops = stays_twice old.stops mid.stops new.stops one.stops two.stops;
 }
+
+pub later_twice : (old mid new : ℕ) → old ≤ mid → mid ≤ new → old ≤ new
+later_twice old mid new one two = omega (arith, one, two)

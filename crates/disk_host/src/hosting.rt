@@ -10,7 +10,6 @@ ghost use Rattle.disk_host.specs.Writes.{Writes, IsMadeOf};
 
 use crate::changing::{Missed, change};
 use crate::host::DiskHost;
-use crate::kept::copied;
 use crate::making::establish;
 use crate::read::{SlotFault, read_synced};
 use host_core::{CallFault, Disk, DumpFault, Failed, Host, MakeFault, raised};
@@ -97,7 +96,7 @@ impl<D: Disk> Host for DiskHost<D> {
                 self.calls = 0;
                 self.settled = true;
                 self.fresh = true;
-                let (net, kept) = copied(kept);
+                let (net, kept) = kept.copied();
                 self.kept = kept;
                 Ok(net)
             }

@@ -5,7 +5,6 @@ use base_model::OutOfMemory;
 use net_model::Net;
 
 /// The network on a disk, and where the next record goes, so that a kernel call needs no reading.
-#[derive(Drop)]
 pub struct Kept {
     pub net: Net,
     /// Whether the second slot is selected.
@@ -16,13 +15,35 @@ pub struct Kept {
     pub gate: Option<u64>,
 }
 
-/// The network, and what is kept, where there is memory for a second network.
-pub fn copied(kept: Kept) -> (Net, Option<Kept>)
-    ensures net { result.0 ≡ kept.net }
-    ensures kept { (result.1 ≡ Some kept) ⊎ (result.1 ≡ None) }
-{
-    match kept.net.copy() {
-        Ok(net) => (net, Some(kept)),
-        Err(OutOfMemory) => (kept.net, None),
+// By hand, so that a proof sees one call where one is dropped, and not a step for each part.
+impl Drop for Kept {
+    fn drop(self) {
+        let Kept {
+            net: _,
+            second: _,
+            first_image: _,
+            gate: _,
+        } = self;
+    }
+}
+
+impl Kept {
+    /// The network, and what is kept, where there is memory for a second network.
+    pub fn copied(self) -> (Net, Option<Kept>)
+        ensures net { result.0 ≡ self.net }
+        ensures kept { (result.1 ≡ Some self) ⊎ (result.1 ≡ None) }
+    {
+        match self.net.copy() {
+            Ok(net) => (net, Some(self)),
+            Err(OutOfMemory) => {
+                let Kept {
+                    net,
+                    second: _,
+                    first_image: _,
+                    gate: _,
+                } = self;
+                (net, None)
+            }
+        }
     }
 }

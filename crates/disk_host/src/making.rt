@@ -1,17 +1,17 @@
 //! The making of a first network on a disk.
-ghost use Rattle.std.specs.Prelude.{◌≡◌, ◌≢◌, ◌⊎◌, ◌≤◌, ◌==◌, length, get_or, not, false, None, Some, IfOk, OnOk, OnErr, IsErrOf, IsSome};
-ghost use Rattle.host_core.specs.Faults.{HasCause, HasFault};
-ghost use Rattle.host_core.specs.Stops.{Steps, Stays};
-ghost use Rattle.host_core.specs.DiskView.{DiskView, HasArea, Areas, Untouched};
+ghost use Rattle.std.specs.Prelude.{◌≡◌, ◌≢◌, ◌≤◌, ◌==◌, length, get_or, not, false, None, Some, IfOk, OnOk};
+ghost use Rattle.host_core.specs.Faults.{HasCause};
+ghost use Rattle.host_core.specs.Stops.{Steps};
+ghost use Rattle.host_core.specs.DiskView.{DiskView, HasArea, Untouched};
 ghost use Rattle.net_image.specs.Image.{net_of};
 ghost use Rattle.call_journal.specs.Area.{is_first, selects, kernel_net, new_slot};
 ghost use Rattle.disk_host.specs.Slots.{KeepsKernel, HasNone, MaybeClosed, IsShut, AreasMade, IsApart};
-ghost use Rattle.disk_host.specs.Writes.{IsMadeSlot, IsMadeOf};
+ghost use Rattle.disk_host.specs.Writes.{IsMadeSlot};
+ghost use Rattle.disk_host.specs.Established.{Establishes};
 
-use crate::changing::{image_of, slot_of};
+use crate::changing::image_and_slot;
 use crate::read::{SlotFault, read_synced, selected};
 use crate::slot::{SECOND, store, write_synced};
-use base_model::OutOfMemory;
 use host_core::{Disk, Failed, MakeFault};
 use net_model::Net;
 use std::alloc::Global;
@@ -91,23 +91,7 @@ fn fill<D: Disk>(disk: &mut D, first: &Net, image: &[u8], slot: &[u8]) -> Result
 
 /// Stores the first network, where there is none, and closes the checkpoint.
 pub fn establish<D: Disk>(disk: &mut D, alloc: Global, first: &Net) -> Result<(), MakeFault>
-    ensures exists { D.tells → IsErrOf result MakeFault.Exists → IsSome (kernel_net (D.told disk.old).areas.kernel) }
-    ensures met { D.tells → OnOk result (kernel_net (D.told disk.old).areas.kernel ≡ None) }
-    ensures net { OnOk result (D.tells → (kernel_net (D.told disk.new).areas.kernel ≡ Some first.now)
-        × HasArea 0 (D.told disk.new).areas.kernel (D.told disk.new)) }
-    // It stands in a slot with an empty journal, which a closed gate ends.
-    ensures slot { OnOk result (D.tells → IsMadeOf first.now (D.told disk.new).areas.kernel) }
-    ensures cell { OnOk result (D.tells → (get_or (D.told disk.new).areas.cell 0 1 ≢ 1) × HasArea 1 (D.told disk.new).areas.cell (D.told disk.new)) }
-    ensures shut { OnOk result (D.tells → IsShut (D.told disk.old).areas.cell (D.told disk.new).areas.cell) }
-    ensures stays { D.tells → IsSome (kernel_net (D.told disk.old).areas.kernel)
-        → Steps Stays (D.told disk.old).stops (D.told disk.new).stops
-        × ((D.told disk.new).areas ≡ (D.told disk.old).areas) }
-    ensures same { D.tells → IsErrOf result MakeFault.OutOfMemory
-        → Steps Stays (D.told disk.old).stops (D.told disk.new).stops
-        × ((D.told disk.new).areas ≡ (D.told disk.old).areas) }
-    ensures maybe { D.tells → AreasMade first.now (D.told disk.old).areas (D.told disk.new).areas }
-    ensures stops { D.tells → Steps (AreasMade first.now) (D.told disk.old).stops (D.told disk.new).stops }
-    ensures cause { HasFault (D.told disk.old).faults (D.told disk.new).faults MakeFault.Failed result }
+    ensures { Establishes D.tells first.now (D.told disk.old) (D.told disk.new) result }
 {
     // Both areas are synced first, and all memory is taken before the first write.
     match disk.sync(1) {
@@ -120,13 +104,8 @@ pub fn establish<D: Disk>(disk: &mut D, alloc: Global, first: &Net) -> Result<()
         Err(SlotFault::Failed) => return Err(MakeFault::Failed),
         Err(SlotFault::OutOfMemory) => return Err(MakeFault::OutOfMemory),
     }
-    let image = match image_of(alloc, first) {
-        Ok(image) => image,
-        Err(OutOfMemory) => return Err(MakeFault::OutOfMemory),
-    };
-    let slot = match slot_of(alloc, &image) {
-        Ok(slot) => slot,
-        Err(OutOfMemory) => return Err(MakeFault::OutOfMemory),
+    let Ok((image, slot)) = image_and_slot(alloc, first) else {
+        return Err(MakeFault::OutOfMemory);
     };
     match fill(disk, first, &image, &slot) {
         Ok(()) => Ok(()),

@@ -1,10 +1,19 @@
-use Rattle.std.proofs.Common.{◌∙◌, ◌+◌, ℕ, length, Some, sym, ap}
+use Rattle.std.proofs.Common.{◌∙◌, ◌+◌, ℕ, length, Some, refl, sym, ap}
 use Rattle.call_journal.specs.Area.{held}
-use Rattle.disk_host.proofs.Changes.{record_size}
+use Rattle.disk_host.proofs.Changes.{record_size, wrote_record}
+use Rattle.disk_host.proofs.Storing.{stored, unstored}
 use Rattle.disk_host.proofs.changing.append_kept.Goals as goal
 
-pub returns-in-Ok-clause-kept : goal.returns-in-Ok-clause-kept
-returns-in-Ok-clause-kept g c = λ tells. record {
-  second = c.in-Ok.ensures.selects tells;
-  held = c.in-Ok.ensures.held tells ∙ ap (λ (k : ℕ). Some (held c.args.kept.first_image c.args.kept.net (Some (c.args.gate + k)))) (sym (ap length c.requires.bytes ∙ record_size c.args.call.now));
-}
+pub returns-in-Ok : goal.returns-in-Ok
+returns-in-Ok g c =
+    stored g.D.Disk.tells c.args.call.now c.args.kept (g.D.Disk.told c.args.disk.now) (g.D.Disk.told c.append.new.disk) c.append.ensures.maybe c.append.ensures.stops c.append.ensures.stops_cell c.append.ensures.cause.later _
+    (λ tells. record {
+      second = c.in-Ok.ensures.selects tells;
+      held = c.in-Ok.ensures.held tells ∙ ap (λ (k : ℕ). Some (held c.args.kept.first_image c.args.kept.net (Some (c.args.gate + k)))) (sym (ap length c.requires.bytes ∙ record_size c.args.call.now));
+    })
+    refl c.in-Ok.ensures.sure
+    (λ tells. wrote_record c.args.call.now c.args.kept (g.D.Disk.told c.args.disk.now).areas.kernel (c.requires.after tells) c.args.gate (g.D.Disk.told c.append.new.disk).areas.kernel c.requires.room (c.in-Ok.ensures.written tells))
+
+pub returns-in-Err : goal.returns-in-Err
+returns-in-Err g c =
+    unstored g.D.Disk.tells c.args.call.now c.args.kept (g.D.Disk.told c.args.disk.now) (g.D.Disk.told c.append.new.disk) c.append.ensures.maybe c.append.ensures.stops c.append.ensures.stops_cell c.append.ensures.cause.later c.in-Err.ensures.cause.failed

@@ -8,6 +8,7 @@ use Rattle.host_core.proofs.lemmas.Moments.{follow}
 use Rattle.host_core.specs.Bytes.{Filled}
 use Rattle.call_journal.specs.Area.{HasImage, is_first, slot_at, slot_of}
 use Rattle.disk_host.proofs.SlotReads.{too_short, too_long, cut_short, no_net, has_image}
+use Rattle.disk_host.proofs.Twice.{untouched_twice, later_twice}
 use Rattle.disk_host.proofs.read.read_image.Goals as goal
 use Rattle.disk_host.proofs.read.read_image.Goals.{then-filled-lt4-via-then-filled-lt4, then-filled-lt4-via-else-filled-lt4+then-len-gt-LIMIT}
 
@@ -80,3 +81,29 @@ returns-in-Err-Damaged-clause-damaged g c = λ tells is.
     let enough : n ≤ c.in_ok-filled-2.filled = subst (λ (k : ℕ). k % 2 ^ 31 ≤ c.in_ok-filled-2.filled) c.read_u32-number.ensures (omega (arith, c.if-filled-len.false)) in
     no_net c.args.second area head c.in_ok-filled.filled filled n refl small c.deref_mut.result.now c.read_at-2.new.buf c.in_ok-filled-2.filled long then enough
     (ap net_of (sym (c.deref-2.ensures.value ∙ take_at c.read_at-2.new.buf _ _ (omega (arith, c.deref_mut.ensures.len)))) ∙ c.in-Err-Damaged.ensures.damaged (ap (λ e. Err e) c.in-Err-Damaged.field-0-is))
+
+-- ---- what is touched, and the faults
+
+pub returns-in_err-filled-2-clause-untouched : goal.returns-in_err-filled-2-clause-untouched
+returns-in_err-filled-2-clause-untouched g c = untouched_twice g.D.Disk.tells (g.D.Disk.told c.args.disk.now) (g.D.Disk.told c.read_at.new.self) (g.D.Disk.told c.read_at-2.new.self) c.read_at.ensures.untouched c.read_at-2.ensures.untouched
+
+pub returns-then-filled-len-clause-untouched : goal.returns-then-filled-len-clause-untouched
+returns-then-filled-len-clause-untouched g c = untouched_twice g.D.Disk.tells (g.D.Disk.told c.args.disk.now) (g.D.Disk.told c.read_at.new.self) (g.D.Disk.told c.read_at-2.new.self) c.read_at.ensures.untouched c.read_at-2.ensures.untouched
+
+pub returns-in-Err-Damaged-clause-untouched : goal.returns-in-Err-Damaged-clause-untouched
+returns-in-Err-Damaged-clause-untouched g c = untouched_twice g.D.Disk.tells (g.D.Disk.told c.args.disk.now) (g.D.Disk.told c.read_at.new.self) (g.D.Disk.told c.read_at-2.new.self) c.read_at.ensures.untouched c.read_at-2.ensures.untouched
+
+pub returns-clause-untouched : goal.returns-clause-untouched
+returns-clause-untouched g c = untouched_twice g.D.Disk.tells (g.D.Disk.told c.args.disk.now) (g.D.Disk.told c.read_at.new.self) (g.D.Disk.told c.read_at-2.new.self) c.read_at.ensures.untouched c.read_at-2.ensures.untouched
+
+pub returns-then-filled-len-clause-cause : goal.returns-then-filled-len-clause-cause
+returns-then-filled-len-clause-cause g c = record { later = later_twice _ _ _ c.read_at.ensures.cause.later c.read_at-2.ensures.cause.later; failed = λ is. absurd (cc) }
+
+pub returns-in-Ok-decode-clause-cause : goal.returns-in-Ok-decode-clause-cause
+returns-in-Ok-decode-clause-cause g c = record { later = later_twice _ _ _ c.read_at.ensures.cause.later c.read_at-2.ensures.cause.later; failed = λ is. absurd (cc) }
+
+pub returns-in-Err-Damaged-clause-cause : goal.returns-in-Err-Damaged-clause-cause
+returns-in-Err-Damaged-clause-cause g c = record { later = later_twice _ _ _ c.read_at.ensures.cause.later c.read_at-2.ensures.cause.later; failed = λ is. absurd (cc) }
+
+pub returns-clause-cause : goal.returns-clause-cause
+returns-clause-cause g c = record { later = later_twice _ _ _ c.read_at.ensures.cause.later c.read_at-2.ensures.cause.later; failed = λ is. absurd (cc) }

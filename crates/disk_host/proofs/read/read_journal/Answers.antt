@@ -7,7 +7,7 @@ use Rattle.call_journal.specs.Replay.{replayed}
 use Rattle.call_journal.specs.Area.{slot_at, slot_of}
 use Rattle.call_journal.proofs.lemmas.Slots.{journaled_held, gate_held, full_held, bad_journal, cut_journal}
 use Rattle.disk_host.proofs.SlotReads.{all_there, slot_size, journal_is}
-use Rattle.disk_host.proofs.Twice.{untouched_twice}
+use Rattle.disk_host.proofs.Twice.{untouched_twice, later_twice}
 use Rattle.disk_host.proofs.read.read_journal.Goals as goal
 
 -- the read of the journal, at its place in the area
@@ -127,3 +127,23 @@ returns-then-there-room-clause-untouched g c = untouched_twice g.D.Disk.tells (g
 
 pub returns-clause-untouched : goal.returns-clause-untouched
 returns-clause-untouched g c = untouched_twice g.D.Disk.tells (g.D.Disk.told c.args.disk.now) (g.D.Disk.told c.size.new.self) (g.D.Disk.told c.read_at.new.self) c.size.ensures.untouched c.read_at.ensures.untouched
+
+-- ---- the faults
+
+pub returns-then-filled-there-clause-cause : goal.returns-then-filled-there-clause-cause
+returns-then-filled-there-clause-cause g c = record { later = later_twice _ _ _ c.size.ensures.cause.later c.read_at.ensures.cause.later; failed = λ is. absurd (cc) }
+
+pub returns-in-Err-Bad-clause-cause : goal.returns-in-Err-Bad-clause-cause
+returns-in-Err-Bad-clause-cause g c = record { later = later_twice _ _ _ c.size.ensures.cause.later c.read_at.ensures.cause.later; failed = λ is. absurd (cc) }
+
+pub returns-in-Err-OutOfMemory-clause-cause : goal.returns-in-Err-OutOfMemory-clause-cause
+returns-in-Err-OutOfMemory-clause-cause g c = record { later = later_twice _ _ _ c.size.ensures.cause.later c.read_at.ensures.cause.later; failed = λ is. absurd (cc) }
+
+pub returns-then-end-there-clause-cause : goal.returns-then-end-there-clause-cause
+returns-then-end-there-clause-cause g c = record { later = later_twice _ _ _ c.size.ensures.cause.later c.read_at.ensures.cause.later; failed = λ is. absurd (cc) }
+
+pub returns-then-there-room-clause-cause : goal.returns-then-there-room-clause-cause
+returns-then-there-room-clause-cause g c = record { later = later_twice _ _ _ c.size.ensures.cause.later c.read_at.ensures.cause.later; failed = λ is. absurd (cc) }
+
+pub returns-clause-cause : goal.returns-clause-cause
+returns-clause-cause g c = record { later = later_twice _ _ _ c.size.ensures.cause.later c.read_at.ensures.cause.later; failed = λ is. absurd (cc) }
