@@ -16,7 +16,7 @@ const KERNEL: &str = "kernel";
 const CELL: &str = "cell";
 
 // The lock on a folder, which keeps every other program that takes it off the files.
-#[derive(Drop)]
+#[derive(Clone, Copy)]
 enum Lock {
     Untried,
     Held,

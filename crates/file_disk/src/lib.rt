@@ -10,9 +10,6 @@ mod folder;
 mod raw;
 // Reads that go on until they are whole.
 mod read;
-// What a disk over real files carries, and its lock.
-#[cfg(test)]
-mod tests;
 // A disk whose calls are whole.
 mod whole;
 // Writes that go on until they are whole.

@@ -9,10 +9,15 @@ use crate::write::write_whole;
 use host_core::{Disk, Failed, raised};
 
 /// A disk over single calls of a system. A call of it goes on until the whole is done, and one that fails is counted.
-#[derive(Drop)]
 pub struct WholeDisk<R: RawDisk> {
     raw: R,
     faults: u64,
+}
+
+impl<R: RawDisk + Drop> Drop for WholeDisk<R> {
+    fn drop(self) {
+        let WholeDisk { raw: _, faults: _ } = self;
+    }
 }
 
 impl<R: RawDisk> WholeDisk<R> {

@@ -1,287 +1,239 @@
 //! Kernel calls from words, as a plan prints them. What isn't named has its default, and an Ethernet link, which no plan
 //! makes, is written `add-link NAME ethernet ADDRESS`.
-ghost use Rattle.std.specs.Prelude.{◌≡◌, IfOk, IfSome};
+ghost use Rattle.std.specs.Prelude.{◌≡◌, IfSome};
 
+use crate::networks::of_family;
 use crate::options::{bond, bridge, port};
-use crate::reading::{addr, given, mac, maybe_name, name, number, prefix, word, words};
-use anyhow::{Result, anyhow};
-use net_model::{
-    Addr, BondMode, Call, Dns, Domain, Items, Kind, Prefix, Proto, Route, Rule, Subnet, TableId,
-    Target, VlanId,
+use crate::reading::{
+    behind, given, mac_at, maybe_name, name_at, number, number_at, number_behind, prefix_at,
+    table_at, word, words,
 };
-use net_text::{read_family, read_mode, read_proto};
+use net_model::{
+    Addr, Call, Dns, Domain, Items, Kind, Proto, Route, Rule, Subnet, TableId, Target, VlanId,
+};
+use net_text::{read_addr, read_family, read_mode, read_prefix, read_proto};
 use std::alloc::Global;
 
-fn mode(word: &str) -> Result<BondMode> {
-    match read_mode(word) {
-        Some(mode) => Ok(mode),
-        None => Err(anyhow!("no mode")),
-    }
+fn vlan_id_at(words: &[&str], at: usize) -> Option<VlanId> {
+    VlanId::of(word(words, at)?.parse::<u16>().ok()?)
 }
 
-fn proto(word: &str) -> Result<Proto> {
-    match read_proto(word) {
-        Some(proto) => Ok(proto),
-        None => Err(anyhow!("no protocol")),
-    }
+fn proto_at(words: &[&str], at: usize) -> Option<Proto> {
+    read_proto(word(words, at)?)
 }
 
-fn vlan_id(word: &str) -> Result<VlanId> {
-    let Ok(number) = word.parse::<u16>() else {
-        return Err(anyhow!("no number of a VLAN"));
-    };
-    match VlanId::of(number) {
-        Some(id) => Ok(id),
-        None => Err(anyhow!("no ID of a VLAN")),
-    }
+// `bond MODE`.
+fn bond_kind(words: &[&str]) -> Option<Kind> {
+    let mode = read_mode(word(words, 3)?)?;
+    Some(Kind::Bond { mode })
 }
 
-// `bond MODE`, `bridge`, `vlan BASE ID PROTOCOL`, `vrf TABLE`, `dummy`, `veth PEER`, `ethernet ADDRESS`.
-fn kind(words: &[String]) -> Result<Kind> {
-    match word(words, 2)? {
-        "bond" => Ok(Kind::Bond {
-            mode: mode(word(words, 3)?)?,
-        }),
-        "bridge" => Ok(Kind::Bridge),
-        "vlan" => Ok(Kind::Vlan {
-            base: name(word(words, 3)?)?,
-            id: vlan_id(word(words, 4)?)?,
-            proto: proto(word(words, 5)?)?,
-        }),
-        "vrf" => Ok(Kind::Vrf {
-            table: TableId::of(number(word(words, 3)?)?),
-        }),
-        "dummy" => Ok(Kind::Dummy),
-        "veth" => Ok(Kind::Veth {
-            peer: name(word(words, 3)?)?,
-        }),
-        "ethernet" => Ok(Kind::Ethernet {
-            permanent: mac(word(words, 3)?)?,
-        }),
-        _ => Err(anyhow!("no such kind")),
-    }
-}
-
-fn subnet(word: &str) -> Result<Subnet> {
-    let prefix: Prefix = prefix(word)?;
-    Ok(Subnet::of(prefix))
-}
-
-fn maybe_subnet(word: &str) -> Result<Option<Subnet>> {
-    match given(word) {
-        Some(word) => Ok(Some(subnet(word)?)),
-        None => Ok(None),
-    }
-}
-
-fn gateway(words: &[String]) -> Result<Option<Addr>> {
-    if word(words, 6)? == "via" {
-        return Ok(Some(addr(word(words, 7)?)?));
-    }
-    Ok(None)
-}
-
-// `DESTINATION table TABLE metric METRIC via GATEWAY dev NAME`, or without a gateway.
-fn route(words: &[String]) -> Result<Route> {
-    let gateway = gateway(words)?;
-    let dev = if gateway.is_some() { 9 } else { 7 };
-    Ok(Route {
-        dest: subnet(word(words, 1)?)?,
-        table: TableId::of(number(word(words, 3)?)?),
-        metric: number(word(words, 5)?)?,
-        gateway,
-        dev: name(word(words, dev)?)?,
+// `vlan BASE ID PROTOCOL`.
+fn vlan_kind(words: &[&str]) -> Option<Kind> {
+    Some(Kind::Vlan {
+        base: name_at(words, 3)?,
+        id: vlan_id_at(words, 4)?,
+        proto: proto_at(words, 5)?,
     })
 }
 
-fn target(word: &str) -> Result<Target> {
-    match word {
-        "blackhole" => Ok(Target::Blackhole),
-        "unreachable" => Ok(Target::Unreachable),
-        "prohibit" => Ok(Target::Prohibit),
-        _ => Ok(Target::Table(TableId::of(number(word)?))),
+// `bond MODE`, `bridge`, `vlan BASE ID PROTOCOL`, `vrf TABLE`, `dummy`, `veth PEER`, `ethernet ADDRESS`.
+fn kind(words: &[&str]) -> Option<Kind> {
+    match word(words, 2)? {
+        "bond" => bond_kind(words),
+        "bridge" => Some(Kind::Bridge),
+        "vlan" => vlan_kind(words),
+        "vrf" => Some(Kind::Vrf {
+            table: table_at(words, 3)?,
+        }),
+        "dummy" => Some(Kind::Dummy),
+        "veth" => Some(Kind::Veth {
+            peer: name_at(words, 3)?,
+        }),
+        "ethernet" => Some(Kind::Ethernet {
+            permanent: mac_at(words, 3)?,
+        }),
+        _ => None,
     }
 }
 
-// The value of the part at a place, which is written `KEY=VALUE`.
-fn part<'a>(words: &'a [String], at: usize, key: &str) -> Result<&'a str> {
-    if let Some((found, value)) = word(words, at)?.split_once('=') {
-        if found == key {
-            return Ok(value);
-        }
+// The gateway of a route, or none.
+fn gateway(words: &[&str]) -> Option<Option<Addr>> {
+    if word(words, 6)? != "via" {
+        return Some(None);
     }
-    Err(anyhow!("a part of a rule is missing"))
+    Some(Some(read_addr(word(words, 7)?.as_bytes())?))
 }
 
-fn is_v6(word: &str) -> Result<bool> {
-    match read_family(word) {
-        Some(v6) => Ok(v6),
-        None => Err(anyhow!("no family")),
-    }
+// `DESTINATION table TABLE metric METRIC via GATEWAY dev NAME`, or without a gateway.
+fn route(words: &[&str]) -> Option<Route> {
+    let gateway = gateway(words)?;
+    let dev = if gateway.is_some() { 9 } else { 7 };
+    Some(Route {
+        dest: Subnet::of(prefix_at(words, 1)?),
+        table: table_at(words, 3)?,
+        metric: number_at(words, 5)?,
+        gateway,
+        dev: name_at(words, dev)?,
+    })
 }
 
-// A subnet of the family of a rule, or none.
-fn subnet_of(v6: bool, word: &str) -> Result<Option<Subnet>>
-    ensures { IfOk result (λ subnet. IfSome subnet (λ b. b.addr.v6 ≡ v6)) }
+// What `target=` names.
+fn target(words: &[&str]) -> Option<Target> {
+    Some(match behind(words, 8, "target=")? {
+        "blackhole" => Target::Blackhole,
+        "unreachable" => Target::Unreachable,
+        "prohibit" => Target::Prohibit,
+        table => Target::Table(TableId::of(number(table)?)),
+    })
+}
+
+// The subnet behind a key, of the family of its rule, or none where a dash stands in its place.
+fn subnet_behind(words: &[&str], at: usize, key: &str, v6: bool) -> Option<Option<Subnet>>
+    ensures { IfSome result (λ subnet. IfSome subnet (λ b. b.addr.v6 ≡ v6)) }
 {
-    match maybe_subnet(word)? {
-        Some(subnet) => {
-            if subnet.is_v6() == v6 {
-                Ok(Some(subnet))
-            } else {
-                Err(anyhow!("a subnet of the other family"))
-            }
+    match given(behind(words, at, key)?) {
+        Some(word) => {
+            let prefix = read_prefix(word.as_bytes())?;
+            Some(Some(of_family(Subnet::of(prefix), v6)?))
         }
-        None => Ok(None),
+        None => Some(None),
     }
 }
 
 // `PRIORITY FAMILY from=SUBNET to=SUBNET iif=NAME mark=MARK mask=MASK target=TARGET`.
-fn rule(words: &[String]) -> Result<Rule> {
-    let v6 = is_v6(word(words, 2)?)?;
-    let src = subnet_of(v6, part(words, 3, "from")?)?;
-    let dst = subnet_of(v6, part(words, 4, "to")?)?;
-    Ok(Rule {
-        priority: number(word(words, 1)?)?,
+fn rule(words: &[&str]) -> Option<Rule> {
+    let v6 = read_family(word(words, 2)?)?;
+    Some(Rule {
+        priority: number_at(words, 1)?,
         v6,
-        src,
-        dst,
-        iif: maybe_name(part(words, 5, "iif")?)?,
-        mark: number(part(words, 6, "mark")?)?,
-        mask: number(part(words, 7, "mask")?)?,
-        target: target(part(words, 8, "target")?)?,
+        src: subnet_behind(words, 3, "from=", v6)?,
+        dst: subnet_behind(words, 4, "to=", v6)?,
+        iif: maybe_name(behind(words, 5, "iif=")?)?,
+        mark: number_behind(words, 6, "mark=")?,
+        mask: number_behind(words, 7, "mask=")?,
+        target: target(words)?,
     })
 }
 
-fn servers(alloc: Global, list: &str) -> Result<Vec<Addr>> {
+fn servers(alloc: Global, list: &str) -> Option<Vec<Addr>> {
     let mut all = Vec::new(alloc);
     if list.is_empty() {
-        return Ok(all);
+        return Some(all);
     }
     for word in list.split(',') {
-        all.push(addr(word)?)?;
+        all.push(read_addr(word.as_bytes())?).ok()?;
     }
-    Ok(all)
+    Some(all)
 }
 
-fn domain(alloc: Global, word: &str) -> Result<Domain> {
-    match Domain::of(Vec::from_slice(alloc, word.as_bytes())?) {
-        Some(domain) => Ok(domain),
-        None => Err(anyhow!("no domain")),
-    }
+fn domain(alloc: Global, word: &str) -> Option<Domain> {
+    Domain::of(Vec::from_slice(alloc, word.as_bytes()).ok()?)
 }
 
-fn search(alloc: Global, list: &str) -> Result<Vec<Domain>> {
+fn search(alloc: Global, list: &str) -> Option<Vec<Domain>> {
     let mut all = Vec::new(alloc);
     if list.is_empty() {
-        return Ok(all);
+        return Some(all);
     }
     for word in list.split(',') {
-        all.push(domain(alloc, word)?)?;
+        all.push(domain(alloc, word)?).ok()?;
     }
-    Ok(all)
-}
-
-// What stands behind a key.
-fn behind<'a>(words: &'a [String], at: usize, key: &str) -> Result<&'a str> {
-    match word(words, at)?.strip_prefix(key) {
-        Some(rest) => Ok(rest),
-        None => Err(anyhow!("a key is missing")),
-    }
+    Some(all)
 }
 
 // `servers=ADDRESS,.. search=DOMAIN,..`.
-fn dns(alloc: Global, words: &[String]) -> Result<Dns> {
+fn dns(alloc: Global, words: &[&str]) -> Option<Dns> {
     let servers = servers(alloc, behind(words, 1, "servers=")?)?;
     let search = search(alloc, behind(words, 2, "search=")?)?;
-    Ok(Dns {
+    Some(Dns {
         servers: Items::of(servers),
         search: Items::of(search),
     })
 }
 
 // The calls on addresses, routes, rules and DNS.
-fn on_the_rest(alloc: Global, verb: &str, words: &[String]) -> Result<Call> {
+fn on_the_rest(alloc: Global, verb: &str, words: &[&str]) -> Option<Call> {
     match verb {
-        "add-address" => Ok(Call::AddAddress {
-            name: name(word(words, 1)?)?,
-            addr: prefix(word(words, 2)?)?,
+        "add-address" => Some(Call::AddAddress {
+            name: name_at(words, 1)?,
+            addr: prefix_at(words, 2)?,
         }),
-        "del-address" => Ok(Call::DelAddress {
-            name: name(word(words, 1)?)?,
-            addr: prefix(word(words, 2)?)?,
+        "del-address" => Some(Call::DelAddress {
+            name: name_at(words, 1)?,
+            addr: prefix_at(words, 2)?,
         }),
-        "add-route" => Ok(Call::AddRoute {
+        "add-route" => Some(Call::AddRoute {
             route: route(words)?,
         }),
-        "del-route" => Ok(Call::DelRoute {
+        "del-route" => Some(Call::DelRoute {
             route: route(words)?,
         }),
-        "add-rule" => Ok(Call::AddRule { rule: rule(words)? }),
-        "del-rule" => Ok(Call::DelRule { rule: rule(words)? }),
-        "set-dns" => Ok(Call::SetDns {
+        "add-rule" => Some(Call::AddRule { rule: rule(words)? }),
+        "del-rule" => Some(Call::DelRule { rule: rule(words)? }),
+        "set-dns" => Some(Call::SetDns {
             dns: dns(alloc, words)?,
         }),
-        _ => Err(anyhow!("no such call")),
+        _ => None,
     }
 }
 
 // The calls on ports, and those that set options.
-fn on_options(alloc: Global, verb: &str, words: &[String]) -> Result<Call> {
+fn on_options(alloc: Global, verb: &str, words: &[&str]) -> Option<Call> {
     match verb {
-        "set-bond" => Ok(Call::SetBond {
-            name: name(word(words, 1)?)?,
+        "set-bond" => Some(Call::SetBond {
+            name: name_at(words, 1)?,
             opts: bond(words)?,
         }),
-        "set-bridge" => Ok(Call::SetBridge {
-            name: name(word(words, 1)?)?,
+        "set-bridge" => Some(Call::SetBridge {
+            name: name_at(words, 1)?,
             opts: bridge(words)?,
         }),
-        "set-port" => Ok(Call::SetPort {
-            port: name(word(words, 1)?)?,
+        "set-port" => Some(Call::SetPort {
+            port: name_at(words, 1)?,
             opts: port(words)?,
         }),
-        "attach" => Ok(Call::Attach {
-            port: name(word(words, 1)?)?,
-            controller: name(word(words, 2)?)?,
+        "attach" => Some(Call::Attach {
+            port: name_at(words, 1)?,
+            controller: name_at(words, 2)?,
         }),
-        "detach" => Ok(Call::Detach {
-            port: name(word(words, 1)?)?,
+        "detach" => Some(Call::Detach {
+            port: name_at(words, 1)?,
         }),
         _ => on_the_rest(alloc, verb, words),
     }
 }
 
 // Any call.
-fn on_words(alloc: Global, words: &[String]) -> Result<Call> {
+fn on_words(alloc: Global, words: &[&str]) -> Option<Call> {
     match word(words, 0)? {
-        "add-link" => Ok(Call::AddLink {
-            name: name(word(words, 1)?)?,
+        "add-link" => Some(Call::AddLink {
+            name: name_at(words, 1)?,
             kind: kind(words)?,
         }),
-        "del-link" => Ok(Call::DelLink {
-            name: name(word(words, 1)?)?,
+        "del-link" => Some(Call::DelLink {
+            name: name_at(words, 1)?,
         }),
-        "up" => Ok(Call::Up {
-            name: name(word(words, 1)?)?,
+        "up" => Some(Call::Up {
+            name: name_at(words, 1)?,
         }),
-        "down" => Ok(Call::Down {
-            name: name(word(words, 1)?)?,
+        "down" => Some(Call::Down {
+            name: name_at(words, 1)?,
         }),
-        "set-mtu" => Ok(Call::SetMtu {
-            name: name(word(words, 1)?)?,
-            mtu: number(word(words, 2)?)?,
+        "set-mtu" => Some(Call::SetMtu {
+            name: name_at(words, 1)?,
+            mtu: number_at(words, 2)?,
         }),
-        "set-mac" => Ok(Call::SetMac {
-            name: name(word(words, 1)?)?,
-            mac: mac(word(words, 2)?)?,
+        "set-mac" => Some(Call::SetMac {
+            name: name_at(words, 1)?,
+            mac: mac_at(words, 2)?,
         }),
         verb => on_options(alloc, verb, words),
     }
 }
 
 /// The call of a line.
-pub fn call(alloc: Global, line: &str) -> Result<Call> {
+pub fn call(alloc: Global, line: &str) -> Option<Call> {
     let words = words(alloc, line)?;
     on_words(alloc, &words)
 }

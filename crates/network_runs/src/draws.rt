@@ -1,6 +1,5 @@
 //! Numbers that are drawn, and what they choose.
 
-use anyhow::{Result, anyhow};
 use net_model::{Addr, BondMode, HashPolicy, LacpRate, Name, Prefix, Proto, TableId, VlanId};
 
 /// Numbers that a seed decides, by a linear congruence modulo 2^64 of which the upper half is given.
@@ -33,13 +32,13 @@ impl Draws {
     }
 
     /// The name of one of four devices or of ten other links.
-    pub fn name(&mut self) -> Result<Name> {
+    pub fn name(&mut self) -> Option<Name> {
         let at = self.below(14);
         name_at(at)
     }
 
     /// The name of one of the ten links that aren't devices.
-    pub fn other_name(&mut self) -> Result<Name> {
+    pub fn other_name(&mut self) -> Option<Name> {
         let at = self.below(10);
         name_at(at.wrapping_add(4))
     }
@@ -51,16 +50,13 @@ impl Draws {
         }
     }
 
-    pub fn vlan_id(&mut self) -> Result<VlanId> {
+    pub fn vlan_id(&mut self) -> Option<VlanId> {
         let number = match self.below(3) {
             0 => 1,
             1 => 2,
             _ => 3,
         };
-        match VlanId::of(number) {
-            Some(id) => Ok(id),
-            None => Err(anyhow!("no ID of a VLAN")),
-        }
+        VlanId::of(number)
     }
 
     pub fn proto(&mut self) -> Proto {
@@ -126,34 +122,27 @@ impl Draws {
     }
 
     /// An address with the length of its network.
-    pub fn prefix(&mut self) -> Result<Prefix> {
+    pub fn prefix(&mut self) -> Option<Prefix> {
         if self.once_in(6) {
-            return whole(self.link_local(), 64);
+            return Prefix::of(self.link_local(), 64);
         }
         let v6 = self.once_in(3);
         let addr = self.addr(v6);
         if self.once_in(12) {
-            return whole(addr, if v6 { 128 } else { 32 });
+            return Prefix::of(addr, if v6 { 128 } else { 32 });
         }
-        whole(addr, if v6 { 64 } else { 24 })
+        Prefix::of(addr, if v6 { 64 } else { 24 })
     }
 
     /// A network that routes lead to.
-    pub fn network(&mut self, v6: bool) -> Result<Prefix> {
+    pub fn network(&mut self, v6: bool) -> Option<Prefix> {
         let net = self.below(4);
         match (net, v6) {
-            (0, false) => whole(Addr::v4(0), 0),
-            (0, true) => whole(Addr::v6(0), 0),
-            (net, false) => whole(Addr::v4(0xc0a8_0000 | net << 8), 24),
-            (net, true) => whole(Addr::v6(0xfd01 << 112 | (net as u128) << 64), 64),
+            (0, false) => Prefix::of(Addr::v4(0), 0),
+            (0, true) => Prefix::of(Addr::v6(0), 0),
+            (net, false) => Prefix::of(Addr::v4(0xc0a8_0000 | net << 8), 24),
+            (net, true) => Prefix::of(Addr::v6(0xfd01 << 112 | (net as u128) << 64), 64),
         }
-    }
-}
-
-fn whole(addr: Addr, len: u8) -> Result<Prefix> {
-    match Prefix::of(addr, len) {
-        Some(prefix) => Ok(prefix),
-        None => Err(anyhow!("no prefix")),
     }
 }
 
@@ -177,9 +166,6 @@ fn word_at(at: u32) -> &'static str {
 }
 
 /// The name at a place, the four devices first.
-pub fn name_at(at: u32) -> Result<Name> {
-    match Name::of(word_at(at).as_bytes()) {
-        Some(name) => Ok(name),
-        None => Err(anyhow!("no name")),
-    }
+pub fn name_at(at: u32) -> Option<Name> {
+    Name::of(word_at(at).as_bytes())
 }

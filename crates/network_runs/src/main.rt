@@ -27,25 +27,23 @@ mod reading;
 mod seen;
 
 use crate::cases::Cases;
-use anyhow::{Result, anyhow};
-use std::io::Read;
+use std::alloc::Global;
+use std::io::{self, Read, Write};
 
-fn run(rt: &HostRuntime, text: &str) -> Result<()> {
-    let mut cases = Cases::new(rt.alloc());
+// What comes of all lines, or none where memory ran out.
+fn told(alloc: Global, text: &str) -> Option<String> {
+    let mut cases = Cases::new(alloc);
     for line in text.lines() {
-        cases.take(rt.alloc(), line)?;
+        cases.take(alloc, line)?;
     }
-    cases.finish(rt.alloc())?;
-    let told = cases.told();
-    print!(rt; "{told}")?;
-    Ok(())
+    cases.finish(alloc)
 }
 
-fn main(rt: HostRuntime) -> Result<()> {
-    let mut bytes = Vec::new(rt.alloc());
-    rt.stdin().read_to_end(&mut bytes)?;
-    match str::from_utf8(&bytes) {
-        Ok(text) => run(&rt, text),
-        Err(_) => Err(anyhow!("the input isn't UTF-8")),
+fn main(rt: HostRuntime) -> io::Result<()> {
+    let mut input = String::new(rt.alloc());
+    rt.stdin().read_to_string(&mut input)?;
+    match told(rt.alloc(), input.as_str()) {
+        Some(told) => rt.stdout().write_all(told.as_bytes()),
+        None => rt.stdout().write_all(b"out of memory\n"),
     }
 }

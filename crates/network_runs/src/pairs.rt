@@ -2,32 +2,21 @@
 
 use crate::drawn::call;
 use crate::draws::{Draws, name_at};
+use crate::networks::{of_links, try_call};
 use crate::seen::{count, kind_of_call, shapes};
-use anyhow::{Result, anyhow};
-use kernel_step::{StepFault, step};
 use net_equal::same_net;
-use net_model::{
-    BondOpts, BridgeOpts, Call, DEFAULT_MTU, Dns, Items, Kind, Link, Mac, Net, OutOfMemory,
-    PortOpts,
-};
+use net_model::{BondOpts, BridgeOpts, Call, DEFAULT_MTU, Items, Kind, Link, Mac, Net, PortOpts};
 use plan_core::plan;
 use std::alloc::Global;
 
 /// How many calls are drawn for a network.
 const CALLS: u32 = 160;
 
-fn in_memory<T: Drop>(given: Result<T, OutOfMemory>) -> Result<T> {
-    match given {
-        Ok(given) => Ok(given),
-        Err(OutOfMemory) => Err(anyhow!("out of memory")),
-    }
-}
-
-fn device(alloc: Global, at: u8) -> Result<Link> {
+fn device(alloc: Global, at: u8) -> Option<Link> {
     let mac = Mac {
         bytes: [0x52, 0x54, 0, 0, 0, at],
     };
-    Ok(Link {
+    Some(Link {
         name: name_at(at as u32)?,
         kind: Kind::Ethernet { permanent: mac },
         up: false,
@@ -42,35 +31,19 @@ fn device(alloc: Global, at: u8) -> Result<Link> {
 }
 
 // The network of four devices.
-fn devices(alloc: Global) -> Result<Net> {
+fn devices(alloc: Global) -> Option<Net> {
     let mut links = Vec::new(alloc);
     for at in 0..4_u8 {
-        links.push(device(alloc, at)?)?;
+        links.push(device(alloc, at)?).ok()?;
     }
-    let dns = Dns {
-        servers: Items::of(Vec::new(alloc)),
-        search: Items::of(Vec::new(alloc)),
-    };
-    match Net::new(alloc, links, Vec::new(alloc), Vec::new(alloc), dns) {
-        Ok(net) => Ok(net),
-        Err(_) => Err(anyhow!("no network")),
-    }
+    of_links(alloc, links)
 }
 
-// Makes a call, and answers whether it is refused.
-fn is_refused(net: &mut Net, call: &Call) -> Result<bool> {
-    match step(net, call) {
-        Ok(()) => Ok(false),
-        Err(StepFault::Refused(_)) => Ok(true),
-        Err(StepFault::OutOfMemory) => Err(anyhow!("out of memory")),
-    }
-}
-
-fn calls_between(alloc: Global, from: &Net, to: &Net) -> Result<Vec<Call>> {
+fn calls_between(alloc: Global, from: &Net, to: &Net) -> Option<Vec<Call>> {
     if !from.same_hardware(to) {
-        return Err(anyhow!("other hardware"));
+        return None;
     }
-    in_memory(plan(alloc, from, to))
+    plan(alloc, from, to).ok()
 }
 
 // What was seen of the pairs so far.
@@ -88,8 +61,8 @@ struct Pairs {
 }
 
 impl Pairs {
-    fn new(alloc: Global, draws: Draws) -> Result<Pairs> {
-        Ok(Pairs {
+    fn new(alloc: Global, draws: Draws) -> Option<Pairs> {
+        Some(Pairs {
             draws,
             devices: devices(alloc)?,
             pairs: 0,
@@ -103,22 +76,22 @@ impl Pairs {
     }
 
     // A network that calls make of the devices.
-    fn network(&mut self, alloc: Global) -> Result<Net> {
-        let mut net = in_memory(self.devices.copy())?;
+    fn network(&mut self, alloc: Global) -> Option<Net> {
+        let mut net = self.devices.copy().ok()?;
         for _ in 0..CALLS {
             let call = call(alloc, &mut self.draws)?;
-            is_refused(&mut net, &call)?;
+            try_call(&mut net, &call)?;
         }
-        Ok(net)
+        Some(net)
     }
 
     // Carries out the plan from one to the other, and compares.
-    fn lead(&mut self, alloc: Global, from: &Net, to: &Net) -> Result<()> {
+    fn lead(&mut self, alloc: Global, from: &Net, to: &Net) -> Option<()> {
         let calls = calls_between(alloc, from, to)?;
-        let mut work = in_memory(from.copy())?;
+        let mut work = from.copy().ok()?;
         for call in &calls {
             self.kinds |= kind_of_call(call);
-            if is_refused(&mut work, call)? {
+            if try_call(&mut work, call)?.is_some() {
                 self.refused = self.refused.wrapping_add(1);
             }
         }
@@ -126,19 +99,19 @@ impl Pairs {
             self.differ = self.differ.wrapping_add(1);
         }
         self.calls = self.calls.wrapping_add(calls.len() as u64);
-        Ok(())
+        Some(())
     }
 
     // The plan of a network to itself has no call.
-    fn stay(&mut self, alloc: Global, net: &Net) -> Result<()> {
+    fn stay(&mut self, alloc: Global, net: &Net) -> Option<()> {
         if !calls_between(alloc, net, net)?.is_empty() {
             self.not_empty = self.not_empty.wrapping_add(1);
         }
-        Ok(())
+        Some(())
     }
 
     // Draws a pair, and leads from the one to the other and back.
-    fn next(&mut self, alloc: Global) -> Result<()> {
+    fn next(&mut self, alloc: Global) -> Option<()> {
         let one = self.network(alloc)?;
         let other = self.network(alloc)?;
         self.shapes |= shapes(&one);
@@ -146,11 +119,11 @@ impl Pairs {
         self.lead(alloc, &other, &one)?;
         self.stay(alloc, &one)?;
         self.pairs = self.pairs.wrapping_add(1);
-        Ok(())
+        Some(())
     }
 
     // The counts.
-    fn told(&self, alloc: Global) -> Result<String> {
+    fn told(&self, alloc: Global) -> Option<String> {
         let pairs = self.pairs;
         let calls = self.calls;
         let kinds = count(self.kinds);
@@ -158,15 +131,14 @@ impl Pairs {
         let refused = self.refused;
         let differ = self.differ;
         let not_empty = self.not_empty;
-        let text = format!(in alloc;
+        format!(in alloc;
             "{pairs} pairs, {calls} calls of {kinds} kinds, {shapes} shapes of links, {refused} refused, {differ} differ, {not_empty} not empty"
-        )?;
-        Ok(text)
+        ).ok()
     }
 }
 
 /// What is seen of so many pairs of a seed.
-pub fn led(alloc: Global, seed: u64, count: u32) -> Result<String> {
+pub fn led(alloc: Global, seed: u64, count: u32) -> Option<String> {
     let mut pairs = Pairs::new(alloc, Draws::new(seed))?;
     for _ in 0..count {
         pairs.next(alloc)?;

@@ -1,73 +1,55 @@
 //! Words, and what they stand for.
 
-use anyhow::{Result, anyhow};
-use net_model::{Addr, Mac, Name, Prefix};
-use net_text::{read_addr, read_bool, read_mac, read_prefix};
+use net_model::{Mac, Name, Prefix, TableId};
+use net_text::{read_mac, read_prefix};
 use std::alloc::Global;
 
-pub fn text_of(alloc: Global, part: &str) -> Result<String> {
-    let mut text = String::new(alloc);
-    text.push_str(part)?;
-    Ok(text)
-}
-
 /// The words that single spaces part.
-pub fn words(alloc: Global, line: &str) -> Result<Vec<String>> {
+pub fn words<'a>(alloc: Global, line: &'a str) -> Option<Vec<&'a str>> {
     let mut words = Vec::new(alloc);
     for word in line.split(' ') {
-        words.push(text_of(alloc, word)?)?;
+        words.push(word).ok()?;
     }
-    Ok(words)
+    Some(words)
 }
 
 /// The word at a place, from 0.
-pub fn word(words: &[String], at: usize) -> Result<&str> {
-    match words.get(at) {
-        Some(word) => Ok(word.as_str()),
-        None => Err(anyhow!("a word is missing")),
-    }
+pub fn word<'a>(words: &[&'a str], at: usize) -> Option<&'a str> {
+    words.get(at).copied()
 }
 
-pub fn number(word: &str) -> Result<u32> {
-    match word.parse::<u32>() {
-        Ok(number) => Ok(number),
-        Err(_) => Err(anyhow!("no number")),
-    }
+/// What stands behind a key in the word at a place.
+pub fn behind<'a>(words: &[&'a str], at: usize, key: &str) -> Option<&'a str> {
+    word(words, at)?.strip_prefix(key)
 }
 
-pub fn name(word: &str) -> Result<Name> {
-    match Name::of(word.as_bytes()) {
-        Some(name) => Ok(name),
-        None => Err(anyhow!("no name of a link")),
-    }
+pub fn number(word: &str) -> Option<u32> {
+    word.parse::<u32>().ok()
 }
 
-pub fn prefix(word: &str) -> Result<Prefix> {
-    match read_prefix(word.as_bytes()) {
-        Some(prefix) => Ok(prefix),
-        None => Err(anyhow!("no prefix")),
-    }
+pub fn number_at(words: &[&str], at: usize) -> Option<u32> {
+    number(word(words, at)?)
 }
 
-pub fn addr(word: &str) -> Result<Addr> {
-    match read_addr(word.as_bytes()) {
-        Some(addr) => Ok(addr),
-        None => Err(anyhow!("no address")),
-    }
+/// The number behind a key in the word at a place.
+pub fn number_behind(words: &[&str], at: usize, key: &str) -> Option<u32> {
+    number(behind(words, at, key)?)
 }
 
-pub fn mac(word: &str) -> Result<Mac> {
-    match read_mac(word.as_bytes()) {
-        Some(mac) => Ok(mac),
-        None => Err(anyhow!("no MAC address")),
-    }
+pub fn table_at(words: &[&str], at: usize) -> Option<TableId> {
+    Some(TableId::of(number_at(words, at)?))
 }
 
-pub fn flag(word: &str) -> Result<bool> {
-    match read_bool(word) {
-        Some(flag) => Ok(flag),
-        None => Err(anyhow!("no boolean")),
-    }
+pub fn name_at(words: &[&str], at: usize) -> Option<Name> {
+    Name::of(word(words, at)?.as_bytes())
+}
+
+pub fn prefix_at(words: &[&str], at: usize) -> Option<Prefix> {
+    read_prefix(word(words, at)?.as_bytes())
+}
+
+pub fn mac_at(words: &[&str], at: usize) -> Option<Mac> {
+    read_mac(word(words, at)?.as_bytes())
 }
 
 /// A word, or none where it is a line.
@@ -76,9 +58,9 @@ pub fn given(word: &str) -> Option<&str> {
 }
 
 /// The name, or none where a dash stands in its place.
-pub fn maybe_name(word: &str) -> Result<Option<Name>> {
+pub fn maybe_name(word: &str) -> Option<Option<Name>> {
     match given(word) {
-        Some(word) => Ok(Some(name(word)?)),
-        None => Ok(None),
+        Some(word) => Some(Some(Name::of(word.as_bytes())?)),
+        None => Some(None),
     }
 }

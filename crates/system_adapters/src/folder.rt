@@ -5,7 +5,7 @@ ghost use Rattle.host_core.specs.Faults.{Rose};
 use host_core::{Failed, Folder, NamesFault, StartFault, raised};
 use net_model::Domain;
 use std::alloc::{AllocError, Global};
-use std::fs::{self, File};
+use std::fs::{self, DirEntry, File, ReadDir};
 use std::io::{self, ErrorKind, Read};
 use std::path::{Path, PathBuf};
 use std::str;
@@ -17,13 +17,23 @@ const PENDING: &str = ".yml";
 const MARKED: &str = ".applied";
 
 /// The files of a folder, or of none, whose every call fails.
-#[derive(Drop)]
 pub struct FileFolder<'a> {
     rt: &'a HostRuntime,
     folder: Option<&'a str>,
     // The file that is read.
     file: Option<File>,
     faults: u64,
+}
+
+impl<'a> Drop for FileFolder<'a> {
+    fn drop(self) {
+        let FileFolder {
+            rt: _,
+            folder: _,
+            file: _,
+            faults: _,
+        } = self;
+    }
 }
 
 impl<'a> FileFolder<'a> {
@@ -37,6 +47,13 @@ impl<'a> FileFolder<'a> {
             file: None,
             faults: 0,
         }
+    }
+
+    /// How many of its calls failed.
+    pub fn faults(&self) -> u64
+        ensures { result ≡ (⟦<FileFolder<'a> as Folder>⟧.told self.now).faults }
+    {
+        self.faults
     }
 
     // Counts a fault.
@@ -69,25 +86,29 @@ impl<'a> FileFolder<'a> {
         File::open(self.rt, path)
     }
 
-    // Renames the file of a name, and syncs the folder, so that the file stays marked.
-    fn rename(&self, name: &Domain) -> io::Result<()> {
-        let name = text(name)?;
+    // The path of a file once it is marked.
+    fn marked_path(&self, name: &str) -> io::Result<PathBuf> {
         let marked = marked_name(self.rt.alloc(), name)?;
-        fs::rename(self.rt, self.path(name)?, self.path(marked.as_str())?)?;
+        self.path(marked.as_str())
+    }
+
+    // Syncs the folder, so that its files keep their names.
+    fn sync(&self) -> io::Result<()> {
         File::open(self.rt, self.folder()?)?.sync_all()
     }
 
-    // The names of the pending files that are domains, in no order.
+    // Renames the file of a name, and syncs the folder, so that the file stays marked.
+    fn rename(&self, name: &Domain) -> io::Result<()> {
+        let name = text(name)?;
+        fs::rename(self.rt, self.path(name)?, self.marked_path(name)?)?;
+        self.sync()
+    }
+
+    // The names of the pending files that are domains, sorted.
     fn listed(&self, alloc: Global) -> io::Result<Vec<Domain>> {
+        let entries = fs::read_dir(self.rt, self.folder()?)?;
         let mut names = Vec::new(alloc);
-        for entry in fs::read_dir(self.rt, self.folder()?)? {
-            match entry {
-                Ok(entry) => push_pending(alloc, entry.file_name(), &mut names)?,
-                // A name that isn't UTF-8 is no domain.
-                Err(error) if error.kind() == ErrorKind::InvalidFilename => {}
-                Err(error) => return Err(error),
-            }
-        }
+        push_all(alloc, entries, &mut names)?;
         names.sort()?;
         Ok(names)
     }
@@ -117,6 +138,27 @@ fn marked_name(alloc: Global, name: &str) -> Result<String, AllocError> {
     let mut marked = String::from_str(alloc, stem)?;
     marked.push_str(MARKED)?;
     Ok(marked)
+}
+
+// Appends the names of the pending files that are domains.
+fn push_all(alloc: Global, entries: ReadDir, names: &mut Vec<Domain>) -> io::Result<()> {
+    for entry in entries {
+        push_entry(alloc, entry, names)?;
+    }
+    Ok(())
+}
+
+fn push_entry(
+    alloc: Global,
+    entry: io::Result<DirEntry>,
+    names: &mut Vec<Domain>,
+) -> io::Result<()> {
+    match entry {
+        Ok(entry) => Ok(push_pending(alloc, entry.file_name(), names)?),
+        // A name that isn't UTF-8 is no domain.
+        Err(error) if error.kind() == ErrorKind::InvalidFilename => Ok(()),
+        Err(error) => Err(error),
+    }
 }
 
 // Appends the name of a pending file, where it is a domain.
@@ -183,137 +225,5 @@ impl<'a> Folder for FileFolder<'a> {
                 Err(Failed)
             }
         }
-    }
-}
-
-#[cfg(test)]
-mod tests {
-    use super::*;
-    use std::test::Fail;
-
-    // The names of the pending files that `make` makes.
-    const MTU: &str = "10-mtu.yml";
-
-    const UP: &str = "20-up.yml";
-
-    fn domain(alloc: Global, name: &str) -> Result<Domain, Fail> {
-        let bytes = Vec::from_slice(alloc, name.as_bytes())?;
-        Ok(Domain::of(bytes).ok_or("no domain")?)
-    }
-
-    // Makes a folder, with files that hold their names.
-    fn make(rt: &HostRuntime, folder: &str) -> Result<(), Fail> {
-        let _ = fs::remove_dir_all(rt, folder);
-        fs::create_dir(rt, folder)?;
-        for name in [UP, MTU, "30 bad.yml", "10-mtu.applied", "x.yaml"] {
-            let path = Path::new(folder).join(rt.alloc(), name)?;
-            fs::write(rt, path, name.as_bytes())?;
-        }
-        Ok(())
-    }
-
-    // Each call stands once in a function without a clause, so that a test that makes it again carries no fact of it.
-
-    // Whether these are the names that the folder gives.
-    fn gives(alloc: Global, files: &mut FileFolder<'_>, names: &[&str]) -> Result<bool, Fail> {
-        let mut domains = Vec::new(alloc);
-        for name in names {
-            domains.push(domain(alloc, name)?)?;
-        }
-        Ok(matches!(files.names(alloc), Ok(given) if given.as_slice() == domains.as_slice()))
-    }
-
-    fn start(files: &mut FileFolder<'_>, name: &Domain) -> Result<(), StartFault> {
-        files.start(name)
-    }
-
-    // How many bytes are read into 16, and these.
-    fn read(files: &mut FileFolder<'_>) -> Result<(u64, [u8; 16]), Failed> {
-        let mut buffer = [0; 16];
-        let count = files.read(&mut buffer)?;
-        Ok((count, buffer))
-    }
-
-    fn mark(files: &mut FileFolder<'_>, name: &Domain) -> Result<(), Failed> {
-        files.mark(name)
-    }
-
-    // Whether the file of this path holds these bytes.
-    fn holds(rt: &HostRuntime, path: &str, bytes: &[u8]) -> Result<bool, Fail> {
-        let held = fs::read(rt, path)?;
-        Ok(held.as_slice() == bytes)
-    }
-
-    #[test]
-    fn a_file_is_begun_and_read_to_its_end(rt: HostRuntime) -> Result<(), Fail> {
-        let folder = "system_adapters_read_test";
-        make(&rt, folder)?;
-        let name = domain(rt.alloc(), MTU)?;
-        let mut files = FileFolder::new(&rt, Some(folder));
-        assert_eq!(rt; read(&mut files), Err(Failed));
-        assert_eq!(rt; start(&mut files, &name), Ok(()));
-        assert_eq!(rt; read(&mut files), Ok((10, *b"10-mtu.yml\0\0\0\0\0\0")));
-        assert_eq!(rt; read(&mut files), Ok((0, [0; 16])));
-        assert_eq!(rt; files.faults, 1);
-        fs::remove_dir_all(&rt, folder)?;
-        Ok(())
-    }
-
-    #[test]
-    fn a_mark_renames_a_file_that_was_listed_and_read(rt: HostRuntime) -> Result<(), Fail> {
-        let folder = "system_adapters_mark_test";
-        make(&rt, folder)?;
-        let name = domain(rt.alloc(), MTU)?;
-        let mut files = FileFolder::new(&rt, Some(folder));
-        assert!(rt; gives(rt.alloc(), &mut files, &[MTU, UP])?);
-        assert_eq!(rt; start(&mut files, &name), Ok(()));
-        assert!(rt; read(&mut files).is_ok());
-        assert_eq!(rt; mark(&mut files, &name), Ok(()));
-        let marked = "system_adapters_mark_test/10-mtu.applied";
-        assert!(rt; holds(&rt, marked, MTU.as_bytes())?);
-        assert!(rt; gives(rt.alloc(), &mut files, &[UP])?);
-        assert_eq!(rt; files.faults, 0);
-        fs::remove_dir_all(&rt, folder)?;
-        Ok(())
-    }
-
-    #[test]
-    fn a_file_that_is_marked_has_no_name(rt: HostRuntime) -> Result<(), Fail> {
-        let folder = "system_adapters_marked_test";
-        make(&rt, folder)?;
-        let name = domain(rt.alloc(), MTU)?;
-        let mut files = FileFolder::new(&rt, Some(folder));
-        assert_eq!(rt; mark(&mut files, &name), Ok(()));
-        assert_eq!(rt; start(&mut files, &name), Err(StartFault::NoSuchName));
-        assert_eq!(rt; mark(&mut files, &name), Err(Failed));
-        assert_eq!(rt; files.faults, 1);
-        fs::remove_dir_all(&rt, folder)?;
-        Ok(())
-    }
-
-    #[test]
-    fn no_name_leads_out_of_the_folder(rt: HostRuntime) -> Result<(), Fail> {
-        let mut files = FileFolder::new(&rt, Some("."));
-        let outside = domain(rt.alloc(), "../x.yml")?;
-        assert_eq!(rt; start(&mut files, &outside), Err(StartFault::NoSuchName));
-        assert_eq!(rt; mark(&mut files, &outside), Err(Failed));
-        assert_eq!(rt; files.faults, 1);
-        Ok(())
-    }
-
-    #[test]
-    fn each_call_fails_without_a_folder(rt: HostRuntime) -> Result<(), Fail> {
-        let alloc = rt.alloc();
-        let name = domain(alloc, MTU)?;
-        let mut none = FileFolder::new(&rt, None);
-        assert!(rt; matches!(none.names(alloc), Err(NamesFault::Failed)));
-        assert_eq!(rt; start(&mut none, &name), Err(StartFault::Failed));
-        assert_eq!(rt; read(&mut none), Err(Failed));
-        assert_eq!(rt; mark(&mut none, &name), Err(Failed));
-        assert_eq!(rt; none.faults, 4);
-        let mut missing = FileFolder::new(&rt, Some("system_adapters_no_such_folder"));
-        assert!(rt; matches!(missing.names(alloc), Err(NamesFault::Failed)));
-        assert_eq!(rt; missing.faults, 1);
-        Ok(())
     }
 }

@@ -1,48 +1,67 @@
 //! What a command is expected to tell.
 
-use crate::reading::{first_word, number, text_of};
+use crate::not_done::NotDone;
+use crate::reading::{first_word, number};
 use crate::runs::Seen;
-use anyhow::Result;
 use std::alloc::Global;
 
-/// How many lines of the output begin with a text.
-#[derive(Drop)]
-struct Counted {
-    times: u64,
-    start: String,
-}
-
 /// The status, what is written, and where the output is long how many lines of it begin in which way.
-#[derive(Drop)]
 pub struct Expected {
     status: u64,
     out: Vec<u8>,
     err: Vec<u8>,
-    counted: Vec<Counted>,
+    counted: Vec<(u64, String)>,
 }
 
-fn push_line(bytes: &mut Vec<u8>, line: &str) -> Result<()> {
+// By hand, so that a proof sees one call where one is dropped, and not a step for each part.
+impl Drop for Expected {
+    fn drop(self) {
+        let Expected {
+            status: _,
+            out: _,
+            err: _,
+            counted: _,
+        } = self;
+    }
+}
+
+fn push_line(bytes: &mut Vec<u8>, line: &str) -> Result<(), NotDone> {
     bytes.extend_from_slice(line.as_bytes())?;
     bytes.push(b'\n')?;
     Ok(())
 }
 
-/// Writes bytes behind a name, where they are text.
-pub fn push_bytes(said: &mut String, name: &str, bytes: &[u8]) -> Result<()> {
-    said.push_str(name)?;
-    said.push_str(": ")?;
-    said.push_str(str::from_utf8(bytes).unwrap_or("no text"))?;
-    said.push('\n')?;
+/// Writes bytes behind a name.
+pub fn push_named(said: &mut Vec<u8>, name: &str, bytes: &[u8]) -> Result<(), NotDone> {
+    said.extend_from_slice(name.as_bytes())?;
+    said.extend_from_slice(b": ")?;
+    said.extend_from_slice(bytes)?;
+    said.push(b'\n')?;
     Ok(())
 }
 
-fn push_both(said: &mut String, name: &str, wanted: &[u8], given: &[u8]) -> Result<()> {
+// Says both where they differ.
+fn push_both(said: &mut Vec<u8>, name: &str, wanted: &[u8], given: &[u8]) -> Result<(), NotDone> {
     if wanted == given {
         return Ok(());
     }
-    said.push_str(name)?;
-    push_bytes(said, ", expected", wanted)?;
-    push_bytes(said, "found", given)
+    said.extend_from_slice(name.as_bytes())?;
+    push_named(said, ", expected", wanted)?;
+    push_named(said, "found", given)
+}
+
+fn push_numbers(
+    alloc: Global,
+    said: &mut Vec<u8>,
+    name: &str,
+    wanted: u64,
+    found: u64,
+) -> Result<(), NotDone> {
+    if wanted != found {
+        let line = format!(in alloc; "{name}: expected {wanted}, found {found}\n")?;
+        said.extend_from_slice(line.as_bytes())?;
+    }
+    Ok(())
 }
 
 fn lines_beginning(bytes: &[u8], start: &str) -> u64 {
@@ -66,7 +85,7 @@ impl Expected {
     }
 
     /// Takes a line of what is expected, or answers that it is none.
-    pub fn take(&mut self, alloc: Global, word: &str, rest: &str) -> Result<bool> {
+    pub fn take(&mut self, alloc: Global, word: &str, rest: &str) -> Result<bool, NotDone> {
         match word {
             ">" => push_line(&mut self.out, rest)?,
             "!" => push_line(&mut self.err, rest)?,
@@ -74,38 +93,31 @@ impl Expected {
             "~" => {
                 let (times, start) = first_word(rest);
                 let times = number(times)?;
-                let start = text_of(alloc, start)?;
-                self.counted.push(Counted { times, start })?;
+                self.counted.push((times, String::from_str(alloc, start)?))?;
             }
             _ => return Ok(false),
         }
         Ok(true)
     }
 
-    fn push_counts(&self, alloc: Global, said: &mut String, out: &[u8]) -> Result<()> {
-        for counted in &self.counted {
-            let found = lines_beginning(out, &counted.start);
-            let wanted = counted.times;
-            if found != wanted {
-                let line = format!(in alloc; "lines, expected {wanted}, found {found}: ")?;
-                push_bytes(said, &line, counted.start.as_bytes())?;
-            }
-        }
-        Ok(())
-    }
-
-    /// Says what differs.
-    pub fn compare(&self, alloc: Global, seen: &Seen, said: &mut String) -> Result<()> {
-        let found = seen.status;
-        let wanted = self.status;
-        if u64::from(found) != wanted {
-            let line = format!(in alloc; "status, expected {wanted}, found {found}\n")?;
-            said.push_str(&line)?;
-        }
+    /// What differs.
+    pub fn differences(&self, alloc: Global, seen: &Seen) -> Result<Vec<u8>, NotDone> {
+        let mut said = Vec::new(alloc);
+        push_numbers(
+            alloc,
+            &mut said,
+            "status",
+            self.status,
+            u64::from(seen.status),
+        )?;
         if self.counted.is_empty() {
-            push_both(said, "output", &self.out, &seen.out)?;
+            push_both(&mut said, "output", &self.out, &seen.out)?;
         }
-        push_both(said, "errors", &self.err, &seen.err)?;
-        self.push_counts(alloc, said, &seen.out)
+        push_both(&mut said, "errors", &self.err, &seen.err)?;
+        for counted in &self.counted {
+            let found = lines_beginning(&seen.out, &counted.1);
+            push_numbers(alloc, &mut said, &counted.1, counted.0, found)?;
+        }
+        Ok(said)
     }
 }

@@ -4,6 +4,7 @@ ghost use Rattle.std.specs.List.{list_any};
 ghost use Rattle.net_model.specs.Name.{same_bytes};
 ghost use Rattle.boot_service.specs.Memory.{differ};
 
+use crate::not_done::NotDone;
 use boot_service::{FolderFile, FolderFuse, MemoryFolder};
 use net_model::Domain;
 use std::alloc::Global;
@@ -27,16 +28,16 @@ fn differ(files: &[FolderFile]) -> bool
     true
 }
 
-/// A folder of these files, at which these calls fail; none where two files have one name.
+/// A folder of these files, at which these calls fail, where no two files have one name.
 pub fn folder(
     alloc: Global,
     files: Vec<FolderFile>,
     fuses: Vec<FolderFuse>,
-) -> Option<MemoryFolder> {
+) -> Result<MemoryFolder, NotDone> {
     if !differ(files.as_slice()) {
-        return None;
+        return Err(NotDone);
     }
-    Some(MemoryFolder::new(alloc, files, fuses))
+    Ok(MemoryFolder::new(alloc, files, fuses))
 }
 
 /// A folder without files.
@@ -44,75 +45,72 @@ pub fn no_files(alloc: Global) -> MemoryFolder {
     MemoryFolder::new(alloc, Vec::new(alloc), Vec::new(alloc))
 }
 
-fn file_of(alloc: Global, name: &str, text: &str, marked: bool) -> Option<FolderFile> {
-    let name = Vec::from_slice(alloc, name.as_bytes()).ok()?;
-    Some(FolderFile {
-        name: Domain::of(name)?,
-        bytes: Vec::from_slice(alloc, text.as_bytes()).ok()?,
-        marked,
-    })
+fn domain_of(alloc: Global, name: &str) -> Result<Domain, NotDone> {
+    match Domain::of(Vec::from_slice(alloc, name.as_bytes())?) {
+        Some(name) => Ok(name),
+        None => Err(NotDone),
+    }
 }
 
 // `NAME=TEXT`, of a marked file `+NAME=TEXT`.
-fn read_file(alloc: Global, word: &str) -> Option<FolderFile> {
-    let (name, text) = word.split_once('=')?;
-    match name.strip_prefix('+') {
-        Some(name) => file_of(alloc, name, text, true),
-        None => file_of(alloc, name, text, false),
-    }
+fn read_file(alloc: Global, word: &str) -> Result<FolderFile, NotDone> {
+    let Some((name, text)) = word.split_once('=') else {
+        return Err(NotDone);
+    };
+    let bytes = Vec::from_slice(alloc, text.as_bytes())?;
+    Ok(FolderFile {
+        name: domain_of(alloc, name.strip_prefix('+').unwrap_or(name))?,
+        bytes,
+        marked: name.starts_with('+'),
+    })
 }
 
 /// Reads `FILE ..`, or `none`.
-pub fn read_files(alloc: Global, words: &str) -> Option<Vec<FolderFile>> {
+pub fn read_files(alloc: Global, words: &str) -> Result<Vec<FolderFile>, NotDone> {
     let mut files = Vec::new(alloc);
     if words == "none" {
-        return Some(files);
+        return Ok(files);
     }
     for word in words.split(' ') {
-        files.push(read_file(alloc, word)?).ok()?;
+        files.push(read_file(alloc, word)?)?;
     }
-    Some(files)
+    Ok(files)
 }
 
-fn copied_file(file: &FolderFile, marked: bool) -> Option<FolderFile> {
-    Some(FolderFile {
-        name: file.name.clone().ok()?,
-        bytes: file.bytes.clone().ok()?,
+fn copied_file(file: &FolderFile, marked: bool) -> Result<FolderFile, NotDone> {
+    let bytes = file.bytes.clone()?;
+    Ok(FolderFile {
+        name: file.name.clone()?,
+        bytes,
         marked,
     })
 }
 
 /// The same files, with the same marks.
-pub fn copied(alloc: Global, files: &[FolderFile]) -> Option<Vec<FolderFile>> {
+pub fn copied(alloc: Global, files: &[FolderFile]) -> Result<Vec<FolderFile>, NotDone> {
     let mut copies = Vec::new(alloc);
     for file in files {
-        copies.push(copied_file(file, file.marked)?).ok()?;
+        copies.push(copied_file(file, file.marked)?)?;
     }
-    Some(copies)
+    Ok(copies)
 }
 
-/// The same files, of which the first so many are marked, and no others.
-pub fn with_marks(alloc: Global, files: &[FolderFile], marked: u64) -> Option<Vec<FolderFile>> {
-    let mut copies = Vec::new(alloc);
-    let mut place = 0u64;
-    for file in files {
-        copies.push(copied_file(file, place < marked)?).ok()?;
-        place = place.saturating_add(1);
-    }
-    Some(copies)
-}
-
-/// The first so many of the files, none of them marked.
-pub fn first_of(alloc: Global, files: &[FolderFile], count: u64) -> Option<Vec<FolderFile>> {
+/// The first so many of the files, of which the first are marked, so many, and no others.
+pub fn first_of(
+    alloc: Global,
+    files: &[FolderFile],
+    count: u64,
+    marked: u64,
+) -> Result<Vec<FolderFile>, NotDone> {
     let mut copies = Vec::new(alloc);
     let mut place = 0u64;
     for file in files {
         if place < count {
-            copies.push(copied_file(file, false)?).ok()?;
+            copies.push(copied_file(file, place < marked)?)?;
         }
         place = place.saturating_add(1);
     }
-    Some(copies)
+    Ok(copies)
 }
 
 /// How many of the files are marked, where these are the first ones.
@@ -132,8 +130,12 @@ pub fn first_marked(files: &[FolderFile]) -> Option<u64> {
 }
 
 /// The file of a name.
-pub fn find<'a>(files: &'a [FolderFile], name: &str) -> Option<&'a FolderFile> {
-    files
+pub fn find<'a>(files: &'a [FolderFile], name: &str) -> Result<&'a FolderFile, NotDone> {
+    let found = files
         .iter()
-        .find(|file| file.name.as_bytes() == name.as_bytes())
+        .find(|file| file.name.as_bytes() == name.as_bytes());
+    match found {
+        Some(file) => Ok(file),
+        None => Err(NotDone),
+    }
 }

@@ -1,58 +1,57 @@
 //! Inputs by their names.
 
-use crate::reading::{first_word, number, text_of};
-use anyhow::{Result, anyhow};
+use crate::not_done::NotDone;
+use crate::reading::{bytes_of_hex, first_word, number, push_times};
 use std::alloc::Global;
 use std::mem;
 
 /// The inputs of a case, behind those of all cases.
-#[derive(Drop)]
 pub struct Inputs {
     inputs: Vec<(String, Vec<u8>)>,
     // How many of them are of all cases.
     shared: usize,
-    // The input that was begun last, with what was added to it.
-    name: Option<String>,
-    begun: Vec<u8>,
-    // What the next command has as standard input.
-    standard: Option<Vec<u8>>,
+    // Whether lines are added to the last of them.
+    is_begun: bool,
+    // What the next command has as standard input, where it has lines.
+    standard: Vec<u8>,
 }
 
-// The text with the number in place of each `%`.
-fn push_numbered(bytes: &mut Vec<u8>, text: &str, digits: &str) -> Result<()> {
-    for byte in text.as_bytes() {
-        if *byte == b'%' {
-            bytes.extend_from_slice(digits.as_bytes())?;
-        } else {
-            bytes.push(*byte)?;
-        }
+// By hand, so that a proof sees one call where one is dropped, and not a step for each part.
+impl Drop for Inputs {
+    fn drop(self) {
+        let Inputs {
+            inputs: _,
+            shared: _,
+            is_begun: _,
+            standard: _,
+        } = self;
     }
-    Ok(())
 }
 
-// The text so many times, each with its number from 1.
-fn push_times(alloc: Global, bytes: &mut Vec<u8>, times: u64, text: &str) -> Result<()> {
-    if !text.contains('%') {
-        for _ in 0..times {
-            bytes.extend_from_slice(text.as_bytes())?;
-        }
-        return Ok(());
-    }
-    for at in 0..times {
-        let at = at.wrapping_add(1);
-        let digits = format!(in alloc; "{at}")?;
-        push_numbered(bytes, text, &digits)?;
-    }
-    Ok(())
+fn copied_input(input: &(String, Vec<u8>)) -> Result<(String, Vec<u8>), NotDone> {
+    Ok((input.0.clone()?, input.1.clone()?))
 }
 
 /// Copies inputs.
-pub fn copied(alloc: Global, inputs: &[(String, Vec<u8>)]) -> Result<Vec<(String, Vec<u8>)>> {
+pub fn copied(
+    alloc: Global,
+    inputs: &[(String, Vec<u8>)],
+) -> Result<Vec<(String, Vec<u8>)>, NotDone> {
     let mut copy = Vec::new(alloc);
     for input in inputs {
-        copy.push((input.0.clone()?, input.1.clone()?))?;
+        copy.push(copied_input(input)?)?;
     }
     Ok(copy)
+}
+
+/// These bytes as standard input, and nothing else.
+pub fn standard_input(alloc: Global, bytes: &[u8]) -> Result<Vec<(String, Vec<u8>)>, NotDone> {
+    let mut inputs = Vec::new(alloc);
+    inputs.push((
+        String::from_str(alloc, "-")?,
+        Vec::from_slice(alloc, bytes)?,
+    ))?;
+    Ok(inputs)
 }
 
 impl Inputs {
@@ -60,86 +59,76 @@ impl Inputs {
         Inputs {
             inputs: Vec::new(alloc),
             shared: 0,
-            name: None,
-            begun: Vec::new(alloc),
-            standard: None,
+            is_begun: false,
+            standard: Vec::new(alloc),
         }
     }
 
-    // Ends the input that was begun last.
-    fn end(&mut self, alloc: Global) -> Result<()> {
-        let bytes = mem::replace(&mut self.begun, Vec::new(alloc));
-        if let Some(name) = self.name.take() {
-            self.inputs.push((name, bytes))?;
+    /// Begins an input with a name and these bytes.
+    pub fn begin(&mut self, alloc: Global, name: &str, bytes: Vec<u8>) -> Result<(), NotDone> {
+        self.inputs.push((String::from_str(alloc, name)?, bytes))?;
+        self.is_begun = true;
+        Ok(())
+    }
+
+    // Appends to the input that was begun last.
+    fn append(&mut self, given: &[u8]) -> Result<(), NotDone> {
+        match self.inputs.last_mut() {
+            Some(input) if self.is_begun => Ok(input.1.extend_from_slice(given)?),
+            _ => Err(NotDone),
         }
-        Ok(())
     }
 
-    /// Begins an input with a name, of no bytes.
-    pub fn begin(&mut self, alloc: Global, name: &str) -> Result<()> {
-        self.end(alloc)?;
-        self.name = Some(text_of(alloc, name)?);
-        Ok(())
-    }
-
-    /// Adds a line to the input that was begun last.
-    pub fn line(&mut self, line: &str) -> Result<()> {
-        self.bytes(line.as_bytes())?;
-        self.begun.push(b'\n')?;
-        Ok(())
-    }
-
-    /// Adds bytes to the input that was begun last.
-    pub fn bytes(&mut self, given: &[u8]) -> Result<()> {
-        if self.name.is_none() {
-            return Err(anyhow!("no input is begun"));
-        }
-        self.begun.extend_from_slice(given)?;
-        Ok(())
-    }
-
-    /// `TIMES TEXT`: adds the text so many times, with the number of the time for each `%` in it.
-    pub fn repeated(&mut self, alloc: Global, line: &str) -> Result<()> {
+    // `TIMES TEXT`: appends the text so many times, with the number of the time for each `%` in it.
+    fn repeat(&mut self, alloc: Global, line: &str) -> Result<(), NotDone> {
         let (times, text) = first_word(line);
-        let times = number(times)?;
-        push_times(alloc, &mut self.begun, times, text)
+        let mut bytes = Vec::new(alloc);
+        push_times(number(times)?, text, '%', &mut bytes)?;
+        self.append(&bytes)
     }
 
-    /// Adds a line to what the next command has as standard input.
-    pub fn standard_line(&mut self, alloc: Global, line: &str) -> Result<()> {
-        let mut bytes = match self.standard.take() {
-            Some(bytes) => bytes,
-            None => Vec::new(alloc),
-        };
-        bytes.extend_from_slice(line.as_bytes())?;
-        bytes.push(b'\n')?;
-        self.standard = Some(bytes);
-        Ok(())
+    /// Takes a line of an input, or answers that it is none.
+    pub fn take(&mut self, alloc: Global, word: &str, rest: &str) -> Result<bool, NotDone> {
+        match word {
+            "document" => self.begin(alloc, rest, Vec::new(alloc))?,
+            "|" => {
+                self.append(rest.as_bytes())?;
+                self.append(b"\n")?;
+            }
+            "*" => self.repeat(alloc, rest)?,
+            "x" => self.append(&bytes_of_hex(alloc, rest)?)?,
+            "<" => {
+                self.standard.extend_from_slice(rest.as_bytes())?;
+                self.standard.push(b'\n')?;
+            }
+            _ => return Ok(false),
+        }
+        Ok(true)
     }
 
     /// What a source has for a command: the inputs that its line names, and for a script all of them.
-    pub fn take(&mut self, alloc: Global, line: &str) -> Result<Vec<(String, Vec<u8>)>> {
-        self.end(alloc)?;
+    pub fn given(&mut self, alloc: Global, line: &str) -> Result<Vec<(String, Vec<u8>)>, NotDone> {
+        self.is_begun = false;
         let mut given = Vec::new(alloc);
         for input in &self.inputs {
             if line.contains("script") || line.contains(input.0.as_str()) {
-                given.push((input.0.clone()?, input.1.clone()?))?;
+                given.push(copied_input(input)?)?;
             }
         }
-        if let Some(standard) = self.standard.take() {
-            given.push((text_of(alloc, "-")?, standard))?;
+        if !self.standard.is_empty() {
+            let standard = mem::replace(&mut self.standard, Vec::new(alloc));
+            given.push((String::from_str(alloc, "-")?, standard))?;
         }
         Ok(given)
     }
 
     /// Ends a case: what it added goes. What was added before the first case stays for all of them.
-    pub fn end_case(&mut self, alloc: Global, is_first: bool) -> Result<()> {
-        self.end(alloc)?;
+    pub fn end_case(&mut self, is_first: bool) {
         if is_first {
             self.shared = self.inputs.len();
         }
         self.inputs.truncate(self.shared);
-        self.standard = None;
-        Ok(())
+        self.standard.clear();
+        self.is_begun = false;
     }
 }

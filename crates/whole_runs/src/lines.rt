@@ -2,8 +2,8 @@
 ghost use Rattle.std.specs.Prelude.{◌≡◌};
 ghost use Rattle.net_text.specs.Line.{has_line};
 
-use base_model::OutOfMemory;
-use ip_batch::{BatchFault, read_batch, write_batch};
+use crate::not_done::NotDone;
+use ip_batch::{read_batch, write_batch};
 use net_model::{Call, Kind};
 use net_text::write_call_line;
 use std::alloc::Global;
@@ -18,7 +18,7 @@ fn has_line(call: &Call) -> bool
     }
 }
 
-fn push_call(call: &Call, out: &mut Vec<u8>) -> Result<(), OutOfMemory> {
+fn push_call(call: &Call, out: &mut Vec<u8>) -> Result<(), NotDone> {
     if has_line(call) {
         write_call_line(call, out)?;
     }
@@ -27,7 +27,7 @@ fn push_call(call: &Call, out: &mut Vec<u8>) -> Result<(), OutOfMemory> {
 }
 
 /// Calls as `plan` prints them.
-pub fn plan_text(alloc: Global, calls: &[Call]) -> Result<Vec<u8>, OutOfMemory> {
+pub fn plan_text(alloc: Global, calls: &[Call]) -> Result<Vec<u8>, NotDone> {
     let mut out = Vec::new(alloc);
     for call in calls {
         push_call(call, &mut out)?;
@@ -36,43 +36,27 @@ pub fn plan_text(alloc: Global, calls: &[Call]) -> Result<Vec<u8>, OutOfMemory> 
 }
 
 /// Calls as `plan --batch` prints them.
-pub fn lines_text(alloc: Global, calls: &Vec<Call>) -> Result<Vec<u8>, OutOfMemory> {
+pub fn lines_text(alloc: Global, calls: &Vec<Call>) -> Result<Vec<u8>, NotDone> {
     let mut out = Vec::new(alloc);
     write_batch(calls, &mut out)?;
     Ok(out)
 }
 
-// The calls of lines, or none where they are no lines of calls.
-fn calls_of(alloc: Global, lines: &[u8]) -> Result<Option<Vec<Call>>, OutOfMemory> {
-    match read_batch(alloc, lines) {
-        Ok(calls) => Ok(Some(calls)),
-        Err(BatchFault::OutOfMemory) => Err(OutOfMemory),
-        Err(_) => Ok(None),
-    }
+// The calls of lines, with nothing said of them.
+fn calls_of(alloc: Global, lines: &[u8]) -> Option<Vec<Call>> {
+    read_batch(alloc, lines).ok()
 }
 
-// Whether the calls are those of a plan, and are written as these lines again.
-fn are_the_calls(
-    alloc: Global,
-    calls: &Vec<Call>,
-    plan: &[u8],
-    lines: &[u8],
-) -> Result<bool, OutOfMemory> {
-    let own = plan_text(alloc, calls)?;
-    let again = lines_text(alloc, calls)?;
-    Ok(own.as_slice() == plan && again.as_slice() == lines)
-}
-
-/// How many calls lines are read back as, or none where these aren't the calls of the plan that was printed so.
-pub fn read_back(alloc: Global, plan: &[u8], lines: &[u8]) -> Result<Option<u64>, OutOfMemory> {
-    let Some(calls) = calls_of(alloc, lines)? else {
+/// How many calls lines are read back as, or none where these aren't the calls of the plan that was printed so, or aren't written
+/// as these lines again.
+pub fn read_back(alloc: Global, plan: &[u8], lines: &[u8]) -> Result<Option<u64>, NotDone> {
+    let Some(calls) = calls_of(alloc, lines) else {
         return Ok(None);
     };
-    if are_the_calls(alloc, &calls, plan, lines)? {
-        Ok(Some(calls.len() as u64))
-    } else {
-        Ok(None)
-    }
+    let own = plan_text(alloc, &calls)?;
+    let again = lines_text(alloc, &calls)?;
+    let is_read = own.as_slice() == plan && again.as_slice() == lines;
+    Ok(is_read.then_some(calls.len() as u64))
 }
 
 /// How many lines a text has.

@@ -14,24 +14,20 @@
 
 // The lines of the cases of commands, and what comes of each.
 mod cases;
-// One command on a machine in memory.
-mod devices;
 // What a command is expected to tell.
 mod expected;
 // The files of a folder, as cases write them.
 mod files;
-// Hosts between two runs of the program, of both kinds.
-mod hosts;
 // Inputs by their names.
 mod inputs;
 // The lines of plans, and the calls that they are read back as.
 mod lines;
 // Hosts at rest, between two commands.
 mod machine;
+// What isn't done.
+mod not_done;
 // Plans, part by part.
 mod parts;
-// The program on a host, and what it tells.
-mod program;
 // Numbers, words and bytes as lines write them.
 mod reading;
 // One command on a host, and what is seen of it.
@@ -50,14 +46,20 @@ mod sweeps;
 mod tally;
 // Texts as plans write them.
 mod texts;
+// What is told of the cases of commands.
+mod told;
 // The plan of a document or a policy, and the plan back, each beside its lines.
 mod trial;
 
 use crate::cases::Cases;
-use crate::machine::{Kind, in_memory};
+use crate::machine::Kind;
+use crate::not_done::NotDone;
+use crate::parts::push_plans;
 use crate::service_cases::Services;
-use anyhow::{Result, anyhow};
-use std::io::{Read, Write};
+use crate::told::Told;
+use case_table::report;
+use std::alloc::Global;
+use std::io::{self, Read, Write};
 
 // What stands below a heading, up to the next one.
 fn part<'a>(input: &'a str, heading: &str) -> &'a str {
@@ -66,42 +68,35 @@ fn part<'a>(input: &'a str, heading: &str) -> &'a str {
     part
 }
 
-// Runs all cases on hosts of one kind, and gives how many there were and how many differ.
-fn run_kind(rt: &HostRuntime, kind: Kind, text: &str) -> Result<(u32, u32)> {
-    let mut cases = Cases::new(rt.alloc(), kind)?;
+// Runs all cases on hosts of one kind, behind what was told before.
+fn run_kind(alloc: Global, kind: Kind, text: &str, told: Told) -> Result<Told, NotDone> {
+    let mut cases = Cases::new(alloc, kind, told);
     for line in text.lines() {
-        cases.take(rt.alloc(), line)?;
+        cases.take(alloc, line)?;
     }
-    cases.finish(rt.alloc())?;
-    let told = cases.told();
-    print!(rt; "{told}")?;
-    Ok(cases.counts())
+    cases.finish(alloc)
 }
 
-fn run_commands(rt: &HostRuntime, text: &str) -> Result<()> {
-    let (in_memory, memory_differ) = run_kind(rt, Kind::Memory, text)?;
-    let (on_disks, disks_differ) = run_kind(rt, Kind::Disk, text)?;
-    let count = in_memory.wrapping_add(on_disks);
-    let differ = memory_differ.wrapping_add(disks_differ);
-    println!(rt; "{count} cases, {differ} differ")?;
-    Ok(())
+fn push_commands(alloc: Global, text: &str, out: &mut Vec<u8>) -> Result<(), NotDone> {
+    let in_memory = run_kind(alloc, Kind::Memory, text, Told::new(alloc))?;
+    let both = run_kind(alloc, Kind::Disk, text, in_memory)?;
+    both.push(out)
 }
 
-fn run(rt: &HostRuntime, input: &str) -> Result<()> {
-    run_commands(rt, part(input, "=== commands\n"))?;
-    let plans = in_memory(parts::report(rt.alloc(), part(input, "=== plans\n")))?;
-    rt.stdout().write_all(&plans)?;
-    let services = part(input, "=== services\n");
-    let services = in_memory(case_table::report::<Services>(rt.alloc(), services))?;
-    rt.stdout().write_all(&services)?;
-    Ok(())
+fn whole(alloc: Global, input: &str) -> Result<Vec<u8>, NotDone> {
+    let mut out = Vec::new(alloc);
+    push_commands(alloc, part(input, "=== commands\n"), &mut out)?;
+    push_plans(alloc, part(input, "=== plans\n"), &mut out)?;
+    let services = report::<Services>(alloc, part(input, "=== services\n"))?;
+    out.extend_from_slice(&services)?;
+    Ok(out)
 }
 
-fn main(rt: HostRuntime) -> Result<()> {
-    let mut bytes = Vec::new(rt.alloc());
-    rt.stdin().read_to_end(&mut bytes)?;
-    match str::from_utf8(&bytes) {
-        Ok(input) => run(&rt, input),
-        Err(_) => Err(anyhow!("the input isn't UTF-8")),
+fn main(rt: HostRuntime) -> io::Result<()> {
+    let mut input = String::new(rt.alloc());
+    rt.stdin().read_to_string(&mut input)?;
+    match whole(rt.alloc(), input.as_str()) {
+        Ok(told) => rt.stdout().write_all(&told),
+        Err(NotDone) => rt.stdout().write_all(b"out of memory\n"),
     }
 }

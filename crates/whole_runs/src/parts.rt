@@ -4,19 +4,21 @@
 //! policies, that are applied one after another, with ` then ` between them, to a machine that has these devices alone. A line
 //! without any text and one that begins with `// ` are passed over.
 
-use crate::devices::machine;
-use crate::tally::{Tally, push_tally};
+use crate::machine::{Kind, Machine};
+use crate::not_done::NotDone;
+use crate::tally::Tally;
 use crate::texts::bytes_of;
 use crate::trial::try_document;
-use base_model::OutOfMemory;
-use host_memory::MemoryHost;
 use std::alloc::Global;
 
-fn try_each(alloc: Global, host: &mut MemoryHost, line: &str) -> Result<Tally, OutOfMemory> {
+fn try_each(alloc: Global, hardware: &[u8], line: &str) -> Result<Tally, NotDone> {
+    let made = Machine::bare(alloc, Kind::Memory).ask(alloc, "init", hardware)?;
+    let mut machine = made.into_machine();
     let mut tally = Tally::none();
     for text in line.split(" then ") {
-        let document = bytes_of(alloc, text)?;
-        tally = tally.with(try_document(alloc, host, &document)?);
+        let (after, tried) = try_document(alloc, &machine, &bytes_of(alloc, text)?)?;
+        machine = after;
+        tally = tally.with(tried);
     }
     Ok(tally)
 }
@@ -27,44 +29,36 @@ fn read_line(
     hardware: &[u8],
     line: &str,
     out: &mut Vec<u8>,
-) -> Result<Tally, OutOfMemory> {
+) -> Result<Tally, NotDone> {
     if line.is_empty() || line.starts_with("// ") {
         return Ok(Tally::none());
     }
-    let mut host = machine(alloc, hardware)?;
-    let tally = try_each(alloc, &mut host, line)?;
+    let tally = try_each(alloc, hardware, line)?;
     if tally.differ > 0 {
-        push_tally(line, tally, out)?;
+        tally.push(alloc, line, out)?;
     }
     Ok(tally)
 }
 
-fn read_part(
-    alloc: Global,
-    title: &str,
-    body: &str,
-    out: &mut Vec<u8>,
-) -> Result<Tally, OutOfMemory> {
+fn read_part(alloc: Global, title: &str, body: &str, out: &mut Vec<u8>) -> Result<Tally, NotDone> {
     let (hardware, lines) = body.split_once('\n').unwrap_or((body, ""));
     let hardware = bytes_of(alloc, hardware)?;
     let mut tally = Tally::none();
     for line in lines.lines() {
         tally = tally.with(read_line(alloc, &hardware, line, out)?);
     }
-    push_tally(title, tally, out)?;
+    tally.push(alloc, title, out)?;
     Ok(tally)
 }
 
-/// A line for each line of documents of which something differs, and the counts of each part and of all.
-pub fn report(alloc: Global, input: &str) -> Result<Vec<u8>, OutOfMemory> {
-    let mut out = Vec::new(alloc);
+/// Appends a line for each line of documents of which something differs, and the counts of each part and of all.
+pub fn push_plans(alloc: Global, input: &str, out: &mut Vec<u8>) -> Result<(), NotDone> {
     let mut tally = Tally::none();
     let parts = input.strip_prefix("== ").unwrap_or(input);
     for part in parts.split("\n== ") {
         if let Some((title, body)) = part.split_once('\n') {
-            tally = tally.with(read_part(alloc, title, body, &mut out)?);
+            tally = tally.with(read_part(alloc, title, body, out)?);
         }
     }
-    push_tally("all", tally, &mut out)?;
-    Ok(out)
+    tally.push(alloc, "all", out)
 }

@@ -1,39 +1,50 @@
 //! Numbers, words and bytes as lines write them.
 
-use anyhow::{Result, anyhow};
+use crate::not_done::NotDone;
+use base_model::push_decimal;
 use std::alloc::Global;
 
-pub fn text_of(alloc: Global, part: &str) -> Result<String> {
-    let mut text = String::new(alloc);
-    text.push_str(part)?;
-    Ok(text)
-}
-
-pub fn number(word: &str) -> Result<u64> {
+pub fn number(word: &str) -> Result<u64, NotDone> {
     match word.parse::<u64>() {
         Ok(number) => Ok(number),
-        Err(_) => Err(anyhow!("no number")),
+        Err(_) => Err(NotDone),
     }
 }
 
 /// The first word of a line, and what follows the space behind it.
 pub fn first_word(line: &str) -> (&str, &str) {
-    match line.split_once(' ') {
-        Some((word, rest)) => (word, rest),
-        None => (line, ""),
-    }
+    line.split_once(' ').unwrap_or((line, ""))
 }
 
 /// The words that single spaces part; an empty text has none.
-pub fn words(alloc: Global, line: &str) -> Result<Vec<String>> {
+pub fn words(alloc: Global, line: &str) -> Result<Vec<String>, NotDone> {
     let mut words = Vec::new(alloc);
     if line.is_empty() {
         return Ok(words);
     }
     for word in line.split(' ') {
-        words.push(text_of(alloc, word)?)?;
+        words.push(String::from_str(alloc, word)?)?;
     }
     Ok(words)
+}
+
+// The text with the number for each mark.
+fn push_numbered(text: &str, mark: char, number: u64, out: &mut Vec<u8>) -> Result<(), NotDone> {
+    for (i, piece) in text.split(mark).enumerate() {
+        if i > 0 {
+            push_decimal(number, out)?;
+        }
+        out.extend_from_slice(piece.as_bytes())?;
+    }
+    Ok(())
+}
+
+/// Appends a text so many times, with the number of the time, from 1, for each mark in it.
+pub fn push_times(times: u64, text: &str, mark: char, out: &mut Vec<u8>) -> Result<(), NotDone> {
+    for i in 0..times {
+        push_numbered(text, mark, i.saturating_add(1), out)?;
+    }
+    Ok(())
 }
 
 fn digit(byte: u8) -> Option<u8> {
@@ -45,7 +56,7 @@ fn digit(byte: u8) -> Option<u8> {
 }
 
 /// The bytes of hexadecimal digits, of which two are a byte; all else is passed over.
-pub fn bytes_of_hex(alloc: Global, line: &str) -> Result<Vec<u8>> {
+pub fn bytes_of_hex(alloc: Global, line: &str) -> Result<Vec<u8>, NotDone> {
     let mut bytes = Vec::new(alloc);
     let mut high: Option<u8> = None;
     for byte in line.as_bytes() {
@@ -63,7 +74,7 @@ pub fn bytes_of_hex(alloc: Global, line: &str) -> Result<Vec<u8>> {
     Ok(bytes)
 }
 
-pub fn hex_of_bytes(alloc: Global, bytes: &[u8]) -> Result<String> {
+pub fn hex_of_bytes(alloc: Global, bytes: &[u8]) -> Result<String, NotDone> {
     let mut text = String::new(alloc);
     for byte in bytes {
         let digits = format!(in alloc; "{byte:02x}")?;

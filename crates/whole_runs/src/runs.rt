@@ -1,68 +1,53 @@
 //! One command on a host, and what is seen of it.
 
-use crate::machine::copied_net;
+use crate::files::no_files;
+use crate::not_done::NotDone;
 use crate::reading::{first_word, number, words};
-use anyhow::Result;
+use boot_service::MemoryFolder;
 use host_core::Host;
 use host_memory::{FixedClock, Fuse, MemorySink, MemorySource, Refusal};
 use net_model::Net;
 use nmstate_top::{Cause, Report, Step, run_at, run_command, run_script};
+use program_top::run_program;
 use std::alloc::Global;
 
-/// Which public call is made.
-#[derive(Clone, Copy)]
-pub enum EntryPoint {
-    Command,
-    At,
-    Script,
+/// What is run: words at a moment, by `run_command`, by `run_at` or by `run_program`, or the steps of a script, by `run_script`.
+pub enum Run {
+    Command(Step),
+    At(Step),
+    Script(Vec<Step>),
+    Program(Step),
 }
 
-/// What is asked of it: words at a moment, or the steps of a script.
-#[derive(Drop)]
-pub struct Run {
-    entry: EntryPoint,
-    now: u64,
-    words: Vec<String>,
-    steps: Vec<Step>,
+// By hand, so that a proof sees one call where one is dropped, and not a step for each part.
+impl Drop for Run {
+    fn drop(self) {
+        match self {
+            Run::Command(_) | Run::At(_) | Run::Script(_) | Run::Program(_) => {}
+        }
+    }
 }
 
-fn step(alloc: Global, line: &str) -> Result<Step> {
+/// `MOMENT WORDS`.
+pub fn step_of(alloc: Global, line: &str) -> Result<Step, NotDone> {
     let (moment, rest) = first_word(line);
+    let at = number(moment)?;
     Ok(Step {
-        at: number(moment)?,
+        at,
         words: words(alloc, rest)?,
     })
 }
 
-impl Run {
-    /// `MOMENT WORDS`, at the prompt or as one command.
-    pub fn of(alloc: Global, entry: EntryPoint, line: &str) -> Result<Run> {
-        let step = step(alloc, line)?;
-        Ok(Run {
-            entry,
-            now: step.at,
-            words: step.words,
-            steps: Vec::new(alloc),
-        })
+/// `MOMENT WORDS; MOMENT WORDS ..`.
+pub fn steps_of(alloc: Global, line: &str) -> Result<Vec<Step>, NotDone> {
+    let mut steps = Vec::new(alloc);
+    for part in line.split(';') {
+        steps.push(step_of(alloc, part.trim())?)?;
     }
-
-    /// `MOMENT WORDS; MOMENT WORDS ..`, as the steps of a script.
-    pub fn script_of(alloc: Global, line: &str) -> Result<Run> {
-        let mut steps = Vec::new(alloc);
-        for part in line.split(';') {
-            steps.push(step(alloc, part.trim())?)?;
-        }
-        Ok(Run {
-            entry: EntryPoint::Script,
-            now: 0,
-            words: Vec::new(alloc),
-            steps,
-        })
-    }
+    Ok(steps)
 }
 
 /// The calls that are to fail in one command, and whether its host lies or refuses calls of its own.
-#[derive(Drop)]
 pub struct Faults {
     pub host: Vec<Fuse>,
     pub source: Vec<Fuse>,
@@ -70,6 +55,20 @@ pub struct Faults {
     pub err: Vec<Fuse>,
     pub lies: bool,
     pub refusals: Vec<Refusal>,
+}
+
+// By hand, as that of `Run`.
+impl Drop for Faults {
+    fn drop(self) {
+        let Faults {
+            host: _,
+            source: _,
+            out: _,
+            err: _,
+            lies: _,
+            refusals: _,
+        } = self;
+    }
 }
 
 impl Faults {
@@ -83,10 +82,48 @@ impl Faults {
             refusals: Vec::new(alloc),
         }
     }
+
+    // `OBJECT N`, or `OBJECT N done`.
+    fn fail(&mut self, rest: &str) -> Result<(), NotDone> {
+        let (object, rest) = first_word(rest);
+        let (call, how) = first_word(rest);
+        let fuse = Fuse {
+            call: number(call)?,
+            done: how == "done",
+        };
+        match object {
+            "host" => self.host.push(fuse)?,
+            "source" => self.source.push(fuse)?,
+            "out" => self.out.push(fuse)?,
+            "err" => self.err.push(fuse)?,
+            _ => return Err(NotDone),
+        }
+        Ok(())
+    }
+
+    // `CALL NUMBER`.
+    fn refuse(&mut self, rest: &str) -> Result<(), NotDone> {
+        let (call, refusal) = first_word(rest);
+        let call = number(call)?;
+        match refusal.parse::<u8>() {
+            Ok(number) => Ok(self.refusals.push(Refusal { call, number })?),
+            Err(_) => Err(NotDone),
+        }
+    }
+
+    /// Takes a line that says what is to fail, or answers that it is none.
+    pub fn take(&mut self, word: &str, rest: &str) -> Result<bool, NotDone> {
+        match word {
+            "fail" => self.fail(rest)?,
+            "lying" => self.lies = true,
+            "refuses" => self.refuse(rest)?,
+            _ => return Ok(false),
+        }
+        Ok(true)
+    }
 }
 
 /// What is seen of a command: its status, what it wrote, and the network that didn't verify.
-#[derive(Drop)]
 pub struct Seen {
     pub status: u8,
     pub out: Vec<u8>,
@@ -94,71 +131,167 @@ pub struct Seen {
     pub found: Option<Net>,
 }
 
-// The three calls, with nothing said of what they do.
-
-fn command<H: Host>(
-    alloc: Global,
-    run: &Run,
-    host: &mut H,
-    src: &mut MemorySource,
-    out: &mut MemorySink,
-    err: &mut MemorySink,
-) -> Report {
-    let mut clock = FixedClock::new(run.now);
-    run_command(alloc, &run.words, host, src, out, err, &mut clock)
+// By hand, as that of `Run`.
+impl Drop for Seen {
+    fn drop(self) {
+        let Seen {
+            status: _,
+            out: _,
+            err: _,
+            found: _,
+        } = self;
+    }
 }
 
-fn at_moment<H: Host>(
-    alloc: Global,
-    run: &Run,
-    host: &mut H,
-    src: &mut MemorySource,
-    out: &mut MemorySink,
-    err: &mut MemorySink,
-) -> Report {
-    run_at(alloc, &run.words, host, src, out, err, run.now)
+impl Seen {
+    /// Nothing was run.
+    pub fn none(alloc: Global) -> Seen {
+        Seen {
+            status: 0,
+            out: Vec::new(alloc),
+            err: Vec::new(alloc),
+            found: None,
+        }
+    }
 }
 
-fn script<H: Host>(
-    alloc: Global,
-    run: &Run,
-    host: &mut H,
-    src: &mut MemorySource,
-    out: &mut MemorySink,
-    err: &mut MemorySink,
-) -> Report {
-    run_script(alloc, &run.steps, host, src, out, err)
+/// Copies a network, or none.
+pub fn copied_net(net: Option<&Net>) -> Result<Option<Net>, NotDone> {
+    match net {
+        Some(net) => Ok(Some(net.copy()?)),
+        None => Ok(None),
+    }
 }
 
-fn make_seen(report: Report, out: &MemorySink, err: &MemorySink) -> Result<Seen> {
-    let Report { status, cause } = report;
-    let found = match &cause {
-        Cause::NotVerified(net, _) => copied_net(Some(net))?,
-        _ => None,
-    };
-    Ok(Seen {
-        status,
-        out: out.bytes().clone()?,
-        err: err.bytes().clone()?,
-        found,
-    })
+// The network that didn't verify.
+fn found(cause: &Cause) -> Result<Option<Net>, NotDone> {
+    match cause {
+        Cause::NotVerified(net, _) => copied_net(Some(net)),
+        _ => Ok(None),
+    }
 }
 
-/// Runs on a host, with these inputs.
-pub fn run_on<H: Host>(
-    alloc: Global,
-    run: &Run,
-    faults: &Faults,
-    inputs: Vec<(String, Vec<u8>)>,
-    host: &mut H,
-) -> Result<Seen> {
-    let mut src = MemorySource::new(alloc, inputs, faults.source.clone()?);
-    let mut out = MemorySink::new(alloc, faults.out.clone()?);
-    let mut err = MemorySink::new(alloc, faults.err.clone()?);
-    let report = match run.entry {
-        EntryPoint::Command => command(alloc, run, host, &mut src, &mut out, &mut err),
-        EntryPoint::At => at_moment(alloc, run, host, &mut src, &mut out, &mut err),
-        EntryPoint::Script => script(alloc, run, host, &mut src, &mut out, &mut err),
-    };
-    make_seen(report, &out, &err)
+/// What a command has beside its host: inputs, a folder, and what it writes to.
+pub struct World {
+    src: MemorySource,
+    pub folder: MemoryFolder,
+    out: MemorySink,
+    err: MemorySink,
+}
+
+// By hand, as that of `Run`.
+impl Drop for World {
+    fn drop(self) {
+        let World {
+            src: _,
+            folder: _,
+            out: _,
+            err: _,
+        } = self;
+    }
+}
+
+impl World {
+    /// These inputs, and a folder without files.
+    pub fn new(
+        alloc: Global,
+        inputs: Vec<(String, Vec<u8>)>,
+        faults: &Faults,
+    ) -> Result<World, NotDone> {
+        let source = faults.source.clone()?;
+        let out = faults.out.clone()?;
+        let err = faults.err.clone()?;
+        Ok(World {
+            src: MemorySource::new(alloc, inputs, source),
+            folder: no_files(alloc),
+            out: MemorySink::new(alloc, out),
+            err: MemorySink::new(alloc, err),
+        })
+    }
+
+    /// No input, and this folder.
+    pub fn over(alloc: Global, folder: MemoryFolder) -> World {
+        World {
+            src: MemorySource::new(alloc, Vec::new(alloc), Vec::new(alloc)),
+            folder,
+            out: MemorySink::new(alloc, Vec::new(alloc)),
+            err: MemorySink::new(alloc, Vec::new(alloc)),
+        }
+    }
+
+    /// What is seen of a command that ended with this report.
+    pub fn seen(&self, report: &Report) -> Result<Seen, NotDone> {
+        let out = self.out.bytes().clone()?;
+        let err = self.err.bytes().clone()?;
+        Ok(Seen {
+            status: report.status,
+            out,
+            err,
+            found: found(&report.cause)?,
+        })
+    }
+}
+
+// The calls, with nothing said of what they do.
+
+fn command<H: Host>(alloc: Global, step: &Step, host: &mut H, world: &mut World) -> Report {
+    let mut clock = FixedClock::new(step.at);
+    run_command(
+        alloc,
+        &step.words,
+        host,
+        &mut world.src,
+        &mut world.out,
+        &mut world.err,
+        &mut clock,
+    )
+}
+
+fn at_moment<H: Host>(alloc: Global, step: &Step, host: &mut H, world: &mut World) -> Report {
+    run_at(
+        alloc,
+        &step.words,
+        host,
+        &mut world.src,
+        &mut world.out,
+        &mut world.err,
+        step.at,
+    )
+}
+
+fn script<H: Host>(alloc: Global, steps: &Vec<Step>, host: &mut H, world: &mut World) -> Report {
+    run_script(
+        alloc,
+        steps,
+        host,
+        &mut world.src,
+        &mut world.out,
+        &mut world.err,
+    )
+}
+
+fn program<H: Host + Drop>(alloc: Global, step: &Step, host: &mut H, world: &mut World) -> Report {
+    let mut nodes: Vec<H> = Vec::new(alloc);
+    let mut clock = FixedClock::new(step.at);
+    run_program(
+        alloc,
+        &step.words,
+        host,
+        &mut nodes,
+        &mut world.src,
+        &mut world.folder,
+        &mut world.out,
+        &mut world.err,
+        &mut clock,
+    )
+}
+
+/// Runs on a host.
+pub fn run_on<H: Host + Drop>(alloc: Global, run: &Run, host: &mut H, world: &mut World) -> Report {
+    match run {
+        Run::Command(step) => command(alloc, step, host, world),
+        Run::At(step) => at_moment(alloc, step, host, world),
+        Run::Script(steps) => script(alloc, steps, host, world),
+        Run::Program(step) => program(alloc, step, host, world),
+    }
 }

@@ -1,6 +1,7 @@
 //! How many documents, lines and calls there were.
 
-use base_model::{OutOfMemory, push_decimal};
+use crate::not_done::NotDone;
+use std::alloc::Global;
 
 /// How many documents there were, lines of plans, calls that these were read back as, and plans of which something differs.
 #[derive(Clone, Copy)]
@@ -31,20 +32,19 @@ impl Tally {
             differ: self.differ.saturating_add(other.differ),
         }
     }
-}
 
-fn push_number(number: u64, what: &str, out: &mut Vec<u8>) -> Result<(), OutOfMemory> {
-    push_decimal(number, out)?;
-    out.extend_from_slice(what.as_bytes())?;
-    Ok(())
-}
-
-/// Appends a line with the counts under a title.
-pub fn push_tally(title: &str, tally: Tally, out: &mut Vec<u8>) -> Result<(), OutOfMemory> {
-    out.extend_from_slice(title.as_bytes())?;
-    out.extend_from_slice(b": ")?;
-    push_number(tally.documents, " documents, ", out)?;
-    push_number(tally.lines, " lines, read back as ", out)?;
-    push_number(tally.calls, " calls, ", out)?;
-    push_number(tally.differ, " plans differ\n", out)
+    /// Appends a line with the counts under a title.
+    pub fn push(self, alloc: Global, title: &str, out: &mut Vec<u8>) -> Result<(), NotDone> {
+        let Tally {
+            documents,
+            lines,
+            calls,
+            differ,
+        } = self;
+        let counts = format!(in alloc;
+            "{title}: {documents} documents, {lines} lines, read back as {calls} calls, {differ} plans differ\n"
+        )?;
+        out.extend_from_slice(counts.as_bytes())?;
+        Ok(())
+    }
 }
