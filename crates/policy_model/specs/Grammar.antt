@@ -1,4 +1,4 @@
--- The texts of expressions, as a grammar by cases, apart from any reading. No contract names it yet.
+-- The texts of expressions, as a grammar by cases, apart from any reading. Of it clauses name `bar` alone.
 use Rattle.std.specs.Prelude.{◌≡◌, ◌≢◌, ℕ, ◌==◌, IsTrue, false, List, [], ◌∷◌, ◌++◌, Option, Some, None, replicate, codes, if◌then◌else◌}
 use Rattle.std.specs.List.{list_all, list_any}
 use Rattle.std.specs.Str.Parse.{signed_digits_value}
