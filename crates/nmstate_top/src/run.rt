@@ -147,8 +147,8 @@ fn run_words<H: Host, S: Source, W: Sink>(
     }
 }
 
-/// Does all that the program does: asks the clock once, and is `run_at` at that moment for every command but `script`,
-/// whose lines have moments of their own. The words are those after the program's name.
+/// Does all that the program does, but for services and rollouts: asks the clock once, and is `run_at` at that moment for
+/// every command but `script`, whose lines have moments of their own. The words are those after the program's name.
 pub fn run_command<H: Host, S: Source, W: Sink, C: Clock>(
     alloc: Global,
     words: &Vec<String>,
