@@ -55,7 +55,8 @@ fn tell<W: Sink>(notes: &[u8], cause: Cause, text: &[u8], out: &mut W, err: &mut
 
 /// Tells that a command is done: the notes to `err`, then what it says to `out`, and makes the report. It takes no memory.
 ///
-/// An empty text isn't written at all, so that a sink that would fail isn't asked.
+/// An empty text isn't written at all, so that a sink that would fail isn't asked. Where a write fails, the report is
+/// `WriteFault` of the status of the answer.
 pub fn tell_done<W: Sink>(notes: &[u8], text: &[u8], out: &mut W, err: &mut W) -> Report
     ensures told { Spoken W.tells Done text.now (notes.now ++ error_line Done) (W.told out.old) (W.told out.new) (W.told err.old) (W.told err.new) result }
     // No count of faults falls.
@@ -66,7 +67,7 @@ pub fn tell_done<W: Sink>(notes: &[u8], text: &[u8], out: &mut W, err: &mut W) -
 }
 
 /// Tells why a command isn't done: the notes to `err`, then the line of the cause, and makes the report. It takes no
-/// memory, and writes nothing to `out`.
+/// memory, and writes nothing to `out`. Where a write fails, the report is `WriteFault` of the status of the cause.
 pub fn tell_refused<W: Sink>(notes: &[u8], cause: Cause, out: &mut W, err: &mut W) -> Report
     ensures told { Spoken W.tells cause [] (notes.now ++ error_line cause) (W.told out.old) (W.told out.new) (W.told err.old) (W.told err.new) result }
     // No count of faults falls.

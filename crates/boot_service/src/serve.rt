@@ -32,8 +32,8 @@ fn defaults() -> ApplyOpts
 /// document is one that the readers give, and where the folder tells its files, the file is there, isn't marked and has a
 /// name that ends in `.yml`. The moment is in seconds.
 ///
-/// It answers `Apply` of the fault where the change wasn't made, as `apply` does, and `NotMarked` where the change was committed and
-/// the folder failed.
+/// It answers `Apply` of the fault that `apply` answers, also where the change is made and its commit is in doubt, and
+/// `NotMarked` where the change was committed and the folder failed.
 pub fn serve_one<H: Host, F: Folder>(
     host: &mut H,
     alloc: Global,

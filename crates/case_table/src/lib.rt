@@ -2,7 +2,7 @@
 //!
 //! The input is parts, each with a heading `== KIND TITLE`, and below it a case a line: the case, ` => `, and its answer. A line
 //! without any text and one that begins with `# ` are passed over. In a case and in an answer `%n` stands for a line's end,
-//! `%HH` for the byte with these hexadecimal digits, and `%*N<TEXT>` for a text N times.
+//! `%HH` for the byte with these hexadecimal digits, in capitals, and `%*N<TEXT>` for a text N times.
 #![tactic(auto)]
 
 // How many cases answer as written.

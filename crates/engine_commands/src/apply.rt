@@ -54,7 +54,8 @@ fn apply_noted<H: Host, S: Source, W: Sink>(
 }
 
 /// `apply` of a document: makes the change that it wants, tells what came of it, after the notes of the document, and
-/// answers the report. The memory of the notes is taken before any call on the host, so that what is done can be told.
+/// answers the report. The moment is in seconds. The memory of the notes is taken before any call on the host, so that what
+/// is done can be told.
 ///
 /// It answers the cause of the fault that `engine_core::apply` gives, `OutOfMemory` where there is none for the notes, and
 /// `WriteFault` where a sink fails.

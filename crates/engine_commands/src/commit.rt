@@ -22,7 +22,8 @@ fn commit_cause(fault: CommitFault) -> Cause
     }
 }
 
-/// `commit`: ends a change that waits and isn't due, tells what came of it, and answers the report. It takes no memory.
+/// `commit`: ends a change that waits and isn't due, tells what came of it, and answers the report. The moment is in
+/// seconds. It takes no memory.
 ///
 /// It answers the cause of the fault that `engine_core::commit` gives, and `WriteFault` where a sink fails.
 pub fn commit_run<H: Host, S: Source, W: Sink>(

@@ -217,7 +217,7 @@ fn apply_recovered<H: Host, S: Source, W: Sink>(
 }
 
 /// `apply` of a policy: makes the change that it wants on the network as it is once what is due is taken back, tells what
-/// came of it, after the notes of the document that the policy is there, and answers the report.
+/// came of it, after the notes of the document that the policy is there, and answers the report. The moment is in seconds.
 ///
 /// It answers `Pending` where a change waits, `DocRefused` where the policy is no document on that network, the causes of
 /// the faults that `engine_core::recover`, a dump and `engine_core::apply` give, `OutOfMemory` where there is none for the

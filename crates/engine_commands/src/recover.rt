@@ -9,7 +9,8 @@ use host_core::{Host, Sink, Source};
 use std::alloc::Global;
 use top_model::Report;
 
-/// `recover`: takes back a change that is being made or is due, tells what came of it, and answers the report.
+/// `recover`: takes back a change that is being made or is due, tells what came of it, and answers the report. The moment is
+/// in seconds.
 ///
 /// It answers the cause of the fault that `engine_core::recover` gives, and `WriteFault` where a sink fails.
 pub fn recover_run<H: Host, S: Source, W: Sink>(

@@ -278,7 +278,7 @@ fn unsettled(fault: BackFault) -> ApplyFault
     }
 }
 
-/// Settles, and makes the change that a document wants, whole or not at all.
+/// Settles, and makes the change that a document wants, whole or not at all. The moment is in seconds.
 pub fn settle_and_change<H: Host>(
     host: &mut H,
     alloc: Global,

@@ -26,6 +26,10 @@ use std::alloc::Global;
 
 /// Makes the change that a document wants, whole or not at all. The document is one that the readers give. The moment is
 /// in seconds. A change that is being made or is due is taken back first.
+///
+/// It answers `Pending` where a change waits, `MergeRefused` where the document breaks a rule of the merge, `NotVerified`
+/// where what was found after the change isn't what was wanted, `InDoubt` where the change is made and the host failed when
+/// its checkpoint was cleared, and the faults of `rollback` but `NoCheckpoint`, of the change or of taking one back.
 pub fn apply<H: Host>(
     host: &mut H,
     alloc: Global,
@@ -80,6 +84,9 @@ pub fn apply<H: Host>(
 }
 
 /// Ends a change that waits and isn't due. The moment is in seconds. It takes no memory.
+///
+/// It answers `NoCheckpoint` where there is none, `Unfinished` where the change is being made, `Expired` where it is due,
+/// `HostFault` where the host failed before that was seen, and `InDoubt` where it failed when the checkpoint was cleared.
 pub fn commit<H: Host>(host: &mut H, now: u64) -> Result<(), CommitFault>
     // What is answered on every host.
     ensures answer { CommitAnswers H.tells now (H.told host.old) (H.told host.new) result }

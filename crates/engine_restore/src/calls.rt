@@ -17,6 +17,10 @@ use host_core::Host;
 use std::alloc::Global;
 
 /// Takes back a change, whether it waits or is being made.
+///
+/// It answers `NoCheckpoint` where there is none, `Damaged` where the checkpoint has no whole image or there is no network,
+/// `HardwareDiffers` where the saved network is of other devices, `KernelRefused` where the kernel refuses a call on the way
+/// back, `HostFault` where the host failed, and `OutOfMemory`.
 pub fn rollback<H: Host>(host: &mut H, alloc: Global) -> Result<(), BackFault>
     ensures says { BackSays H.tells (rollback (standing (H.told host.old).state)).answer (H.told host.old) (H.told host.new) result }
     ensures answer { WhereSound H.honest (H.told host.old) (BackAnswers (HasSet (standing (H.told host.old).state).cell) (rollback (standing
@@ -47,7 +51,9 @@ pub fn rollback<H: Host>(host: &mut H, alloc: Global) -> Result<(), BackFault>
     }
 }
 
-/// Takes back a change that is being made or is due.
+/// Takes back a change that is being made or is due. The moment is in seconds.
+///
+/// It answers the faults of `rollback`, but never `NoCheckpoint`.
 pub fn recover<H: Host>(host: &mut H, alloc: Global, now: u64) -> Result<Recovered, BackFault>
     ensures says { BackSays H.tells (recover now (standing (H.told host.old).state)).answer (H.told host.old) (H.told host.new) result }
     ensures answer { WhereSound H.honest (H.told host.old) (BackAnswers (HasTaken now (standing (H.told host.old).state).cell) (recover now (standing
@@ -102,7 +108,8 @@ fn due_at(done: Recovered) -> Option<u64>
     }
 }
 
-/// Takes back a change that is being made or is due, and answers when one that waits is due.
+/// Takes back a change that is being made or is due, and answers when one that waits is due. Moments are in seconds. The
+/// faults are those of `recover`.
 pub fn settle<H: Host>(host: &mut H, alloc: Global, now: u64) -> Result<Option<u64>, BackFault>
     ensures says { BackSays H.tells (settle now (standing (H.told host.old).state)).answer (H.told host.old) (H.told host.new) result }
     ensures answer { WhereSound H.honest (H.told host.old) (BackAnswers (HasTaken now (standing (H.told host.old).state).cell) (settle now (standing

@@ -67,9 +67,9 @@ fn compared(
 }
 
 /// Says whether the commands can work with what is stored: how many links the network has and what the checkpoint is, or
-/// why they can't. `HostFault` comes where the host failed, `Damaged(1)` where the checkpoint is open and has no whole
-/// image, `Damaged(0)` where there is no network, and `HardwareDiffers` where the checkpoint is of other devices; in this
-/// order. Nothing is changed.
+/// why they can't. `Damaged(1)` comes where the checkpoint is open and has no whole image, then `Damaged(0)` where there is
+/// no network, then `HardwareDiffers` where the checkpoint is of other devices; before each, `HostFault` where the host
+/// failed, and `OutOfMemory`. Nothing is changed.
 pub fn check<H: Host>(host: &mut H, alloc: Global) -> Result<Checked, CheckFault>
     // What is answered: on every host, and on an honest one.
     ensures says { CheckSays H.tells (H.told host.old) (H.told host.new) result }

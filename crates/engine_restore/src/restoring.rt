@@ -166,7 +166,7 @@ fn restore<H: Host>(host: &mut H, alloc: Global, phase: Phase) -> Result<(), Bac
 }
 
 #[tactic(auto, using(engine_model::proofs::lemmas::Leading::same_state))]
-/// Takes back whatever change is set, and says whether one was.
+/// Takes back whatever change is set, and says whether one was. It never answers `NoCheckpoint`.
 pub fn go_back<H: Host>(host: &mut H, alloc: Global) -> Result<bool, BackFault>
     ensures cleared { H.tells → OnOk result (Holds None (H.told host.new)) }
     ensures empty { H.tells → IfOk result (λ was. was ≡ false → cell_of (H.told host.old).state.cell ≡ None) }
@@ -227,7 +227,7 @@ fn waits(phase: Phase, made: u64, deadline: u64, now: u64) -> bool
 }
 
 #[tactic(auto, using(engine_model::proofs::lemmas::Leading::same_state))]
-/// Takes back a change that is being made or is due.
+/// Takes back a change that is being made or is due. The moment is in seconds. It never answers `NoCheckpoint`.
 pub fn take_back<H: Host>(host: &mut H, alloc: Global, now: u64) -> Result<Recovered, BackFault>
     ensures cleared { H.tells → IfOk result (λ done. IsClear done → Holds None (H.told host.new)) }
     ensures nothing { H.tells → result ≡ Ok Recovered.Nothing → cell_of (H.told host.old).state.cell ≡ None }

@@ -13,14 +13,17 @@ use kernel_laws::step_laws;
 use net_model::Call;
 use std::alloc::Global;
 
+/// Why not all calls were made.
 #[derive(Drop)]
 pub enum RunFault {
+    /// The kernel refused a call: the number of the refusal, and the number of the call from 1.
     Refused(u8, u64),
+    /// The host failed.
     Failed,
     OutOfMemory,
 }
 
-/// Makes the calls in turn.
+/// Makes the calls in turn, up to the first that isn't done.
 pub fn run<H: Host>(host: &mut H, alloc: Global, calls: &[Call]) -> Result<(), RunFault>
     requires { (H.told host.old).settled }
     ensures reached { H.honest → (from to : NetData) → (H.told host.old).state.net ≡ Some from

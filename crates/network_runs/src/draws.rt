@@ -121,7 +121,7 @@ impl Draws {
         Addr::v6(0xfe80 << 112 | host as u128)
     }
 
-    /// An address with the length of its network.
+    /// An address with the length of its network, or alone.
     pub fn prefix(&mut self) -> Option<Prefix> {
         if self.once_in(6) {
             return Prefix::of(self.link_local(), 64);

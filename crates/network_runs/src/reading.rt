@@ -52,7 +52,7 @@ pub fn mac_at(words: &[&str], at: usize) -> Option<Mac> {
     read_mac(word(words, at)?.as_bytes())
 }
 
-/// A word, or none where it is a line.
+/// A word, or none where it is a dash.
 pub fn given(word: &str) -> Option<&str> {
     if word == "-" { None } else { Some(word) }
 }

@@ -97,7 +97,7 @@ pub(crate) fn tree_of(alloc: Global, bytes: &[u8]) -> Result<Tree, Cause>
     }
 }
 
-/// The document that a tree is.
+/// The document that a tree is, or `DocRefused` where it is none. It also answers `OutOfMemory`.
 pub fn document_of(alloc: Global, tree: &Tree) -> Result<Doc, Cause>
     ensures read { Answers itself (with_fault Schema (document_of_tree (shape tree.now))) result }
     ensures right { IfOk result (λ doc. is_document doc && has_short_doc doc ≡ true) }
@@ -108,7 +108,7 @@ pub fn document_of(alloc: Global, tree: &Tree) -> Result<Doc, Cause>
     }
 }
 
-/// The document that the bytes are.
+/// The document that the bytes are, in JSON or YAML, or `DocRefused` where they are none. It also answers `OutOfMemory`.
 pub fn document_in(alloc: Global, bytes: &[u8]) -> Result<Doc, Cause>
     ensures read { Answers itself (document bytes.now) result }
     ensures right { IfOk result (λ doc. is_document doc && has_short_doc doc ≡ true) }

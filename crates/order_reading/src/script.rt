@@ -62,7 +62,8 @@ fn push_step(alloc: Global, line: &[u8], steps: &mut Vec<Step>) -> Result<bool, 
 }
 
 /// The steps of a script's lines, or `BadLine` with the number, from 1, of the first line that is none: one that is no
-/// moment with words, or one that reaches past the limit of bytes. Empty lines and those that begin with `#` are skipped.
+/// moment with words, or one that reaches past the limit of bytes. Empty lines and those that begin with `#` are skipped. It
+/// also answers `OutOfMemory`.
 pub fn steps_of(alloc: Global, bytes: &[u8]) -> Result<Vec<Step>, Cause>
     ensures { Answers seen (as_steps (steps_of bytes.now)) result }
 {
@@ -95,7 +96,8 @@ pub fn script_file(alloc: Global, words: &[String]) -> Result<Option<Option<Str>
     }
 }
 
-/// The steps of the script in a FILE, or why none of them is run: `NoSuchName`, `ReadFault` or `BadLine`.
+/// The steps of the script in a FILE, or why none of them is run: `NoSuchName`, `ReadFault` or `BadLine`; out of memory may
+/// come at any place. A FILE that is missing is standard input.
 pub fn read_script<S: Source>(
     alloc: Global,
     file: &Option<Str>,

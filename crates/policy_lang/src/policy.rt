@@ -100,7 +100,8 @@ fn desired_in(alloc: Global, tree: &Tree) -> Result<Tree, OutOfMemory>
     }
 }
 
-/// The policy that a tree is, or its first fault: `WrongShape`, `BadExpression`, `UnknownCapture` or `CaptureCycle`.
+/// The policy that a tree is, or its first fault: `WrongShape`, `BadExpression`, `UnknownCapture` or `CaptureCycle`. It also
+/// answers `OutOfMemory`.
 #[tactic(auto, unfolding(policy_model::specs::Policies::policy_of_tree))]
 pub fn policy_of(alloc: Global, tree: &Tree) -> Result<Policy, PolicyFault>
     requires distinct { is_distinct (shape tree.now) ≡ true }

@@ -7,8 +7,8 @@ use std::alloc::{AllocError, AllocFailed};
 /// first place: captures in the order of the tree, then the strings under `desired` in order.
 #[derive(Drop)]
 pub enum PolicyFault {
-    /// At the top another key than `capture` and `desired`, or no `desired`; `capture` is no map of strings, or has more
-    /// than [`MAX_CAPTURES`](crate::MAX_CAPTURES).
+    /// The tree is no map; at the top another key than `capture` and `desired`, or no `desired`; `capture` is no map of
+    /// strings, or has more than [`MAX_CAPTURES`](crate::MAX_CAPTURES).
     WrongShape(Path),
     /// A capture or a place is no expression.
     BadExpression(Path),
@@ -16,7 +16,7 @@ pub enum PolicyFault {
     UnknownCapture(Path),
     /// A capture that its own value would be made of.
     CaptureCycle(Path),
-    /// A path leads nowhere.
+    /// A path leads nowhere, that of a step to no list, or the reference of a step to no string, number or boolean.
     NoValue(Path),
     /// The value has more than [`MAX_LEVELS`](doc_tree::MAX_LEVELS) levels.
     TooDeep,

@@ -118,8 +118,9 @@ fn filled_or(
     within_limits(alloc, captures, table, desired)
 }
 
-/// The tree that a policy wants on the tree of a running state, or why there is none: `NoValue` with the first capture or
-/// place whose path leads nowhere, `TooDeep` or `TooLarge`.
+/// The tree that a policy wants on the tree of a running state, or why there is none: `NoValue` with the first capture that
+/// has no value though all that it names have one, or else with the first place that leads nowhere, then `TooDeep`, then
+/// `TooLarge`. It also answers `OutOfMemory`.
 pub fn value_of(alloc: Global, running: &Tree, policy: &Policy) -> Result<Tree, PolicyFault>
     requires distinct { is_distinct (shape running.now) ≡ true }
     requires short { has_short_lists (shape running.now) ≡ true }

@@ -52,6 +52,7 @@ fn run_folders<H: Host, S: Source, F: Folder, W: Sink, C: Clock>(
 
 /// Does all that the program does: a service over `folder` for `service DIR`, a rollout over `nodes` for
 /// `rollout LIMIT FILE DIR..`, and `run_command` over `host` for all other words. The words are those after the program's name.
+/// A rollout is `Usage` where there aren't as many nodes as DIRs.
 pub fn run_program<H: Host, S: Source, F: Folder, W: Sink, C: Clock>(
     alloc: Global,
     words: &Vec<String>,

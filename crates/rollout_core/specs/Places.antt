@@ -14,7 +14,7 @@ use Rattle.rollout_model.specs.declared.node.NodeState.{NodeState}
 use Rattle.rollout_model.specs.declared.node.NodeState.TheVariants.{Fresh, Starting, Opened, Probed, Committed, Restored, Doubt}
 use Rattle.rollout_core.specs.Did.{change}
 
--- nobody else changes the network of a node, and no checkpoint stands there
+-- the host of a node is sound, and no checkpoint stands there
 pub record Clean (host : HostView) : Type 0 where
   pub sound : Sound host
   pub empty : (s : State) → host.stops.may_leave s → cell_of s.cell ≡ None

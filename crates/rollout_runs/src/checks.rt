@@ -217,7 +217,7 @@ pub enum Stops {
     None,
 }
 
-/// What is compared of a rollout: the nodes, what stood on them, and the moment of the recoveries.
+/// What is compared of a rollout: the nodes, what stood on them, its events, and the moment of the recoveries.
 #[derive(Drop)]
 pub struct Left {
     pub nodes: Vec<Node>,

@@ -21,7 +21,7 @@ pub const SECOND: &str = "hardware:\n- name: eth2\n  mac-address: 52:54:00:00:00
 /// The MTU of the first device.
 const MTU: &str = "interfaces:\n- name: eth1\n  mtu: 9000\n";
 
-/// A bridge over the first device, both up: several calls.
+/// A bridge over the first device, and the second device with another MTU, both up: several calls.
 const BRIDGE: &str =
     "interfaces:\n- name: br0\n  type: linux-bridge\n  state: up\n  bridge:\n    port:\n    - name: eth1\n- name: eth2\n  state: up\n  mtu: 9000\n";
 
@@ -50,7 +50,7 @@ fn read(alloc: Global, tree: &Tree) -> Option<Doc>
     }
 }
 
-/// A document by its name.
+/// The document `mtu`, or that of the bridge by any other name.
 pub fn document(alloc: Global, name: &str) -> Option<Doc>
     ensures { MatchOption result (Unit {0}) (λ doc. is_document doc ≡ true) }
 {

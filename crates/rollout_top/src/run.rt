@@ -88,9 +88,10 @@ fn roll_document<H: Host, W: Sink, C: Clock>(
 /// The notes of the document are written to `err` before the first step, a line for each event to `out` as it comes, and at the
 /// end how many nodes ended how. After a write that fails nothing more is written, and the rollout goes on.
 ///
-/// The causes: `NoSuchName`, `ReadFault` and `DocRefused` as for a FILE of `apply`, with no call on a node; `OutOfMemory` before
-/// the first call, or where memory ran out on a node and that halted the rollout; `Halted` with the first event that halted it;
-/// `Done` where nothing did and each node is committed; and `WriteFault` with the status of the answer that wasn't written whole.
+/// The causes: `NoSuchName`, `ReadFault` and `DocRefused` as for a FILE of `apply`, but also for a policy, with no call on a
+/// node; `OutOfMemory` before the first call, or where memory ran out on a node and that halted the rollout; `Halted` with
+/// the first event that halted it; `Done` where nothing did and each node is committed; and `WriteFault` with the status of
+/// the answer that wasn't written whole.
 pub fn run_rollout<H: Host, S: Source, W: Sink, C: Clock>(
     alloc: Global,
     limit: u32,

@@ -9,7 +9,7 @@ mod first;
 mod hardware;
 // The trees of a workload.
 mod inputs;
-// Lists of trees, one or two for each device.
+// Lists of trees, one for each device.
 mod lists;
 // The names and addresses of a device.
 mod names;

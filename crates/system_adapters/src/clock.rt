@@ -8,7 +8,7 @@ use std::rt::Clock as Ticks;
 use std::time::{SystemTime, UNIX_EPOCH};
 
 /// The system's clock, in seconds since the beginning of 1970. It tells nothing of the moments to come, and counts the
-/// times at which it couldn't be read.
+/// times at which it couldn't be read, or stood before 1970.
 #[derive(Drop)]
 pub struct SystemClock<R> {
     rt: R,
@@ -23,14 +23,14 @@ impl<R> SystemClock<R> {
         SystemClock { rt, faults: 0 }
     }
 
-    /// How many times it couldn't be read.
+    /// How many times it couldn't be read, or stood before 1970.
     pub fn faults(&self) -> u64
         ensures { result ≡ self.now.faults }
     {
         self.faults
     }
 
-    // Counts that the clock couldn't be read, and gives the moment that stands for that.
+    // Counts that the clock gave no moment, and gives the one that stands for that.
     fn unread(&mut self) -> u64
         ensures rose { Rose self.old.faults self.new.faults }
         ensures zero { result ≡ 0 }
@@ -52,7 +52,7 @@ impl<R: Ticks> Clock for SystemClock<R> {
 
     ghost coming = { λ _. [] };
 
-    /// It gives 0 where the clock can't be read.
+    /// It gives 0 where the clock can't be read, or stands before 1970.
     fn now(&mut self) -> u64
         ensures ticks { ⊥ → Ticks [] result [] }
         ensures counted { (self.new.faults ≡ self.old.faults) ⊎ (Rose self.old.faults self.new.faults × (result ≡ 0)) }

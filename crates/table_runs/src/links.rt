@@ -1,5 +1,5 @@
-//! Links from words: `NAME KIND`, and what isn't at its default: `down`, `mtu=N`, `controller=NAME`, `address=PREFIX`,
-//! `addresses=N`, `updelay=N` with `miimon` 100, `hello-time=N`.
+//! Links from words: `NAME KIND`, and what isn't at its default: `down`, `id=N` of a VLAN, `mtu=N`, `controller=NAME`,
+//! `address=PREFIX`, `addresses=N`, `updelay=N` with `miimon` 100, `hello-time=N`.
 
 use crate::reading::{first_word, name, number, prefix};
 use net_model::{

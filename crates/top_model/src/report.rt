@@ -51,13 +51,13 @@ pub enum Cause {
     FolderFault,
     /// A rollout was halted by this event. A single command never ends so.
     Halted(Event),
-    /// A change waits until this moment.
+    /// A change waits until this moment, in seconds.
     Pending(u64),
     /// There is no checkpoint.
     NoCheckpoint,
-    /// A change that is being made, with its making and its deadline.
+    /// A change that is being made, with its making and its deadline, in seconds.
     Unfinished(u64, u64),
-    /// A change that is due, with its making and its deadline.
+    /// A change that is due, with its making and its deadline, in seconds.
     Expired(u64, u64),
     /// There is a network already.
     Exists,

@@ -1,7 +1,7 @@
 //! Whole runs of the program, in three parts of the standard input, each under a heading `=== ..`.
 //!
-//! `commands` are run on a host in memory and on a host over a disk in memory, and a line is printed for each case that says
-//! whether all was told and left as it is expected.
+//! `commands` are run on a host in memory, on a host over a disk in memory, or on both, as their cases say, and a line is
+//! printed for each case that says whether all was told and left as it is expected.
 //!
 //! `plans` are documents and policies that are applied one after another to machines in memory. The plan of each, and the plan
 //! back, are held against their lines in the manner of ip(8), which are read back and tried out. It is said how many there were,

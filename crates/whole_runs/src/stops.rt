@@ -125,7 +125,7 @@ impl Course {
         Ok(is_told && is_marked && is_net)
     }
 
-    // Whether no checkpoint is left, and a recovery left the network of the documents that are marked, or of one more.
+    // Whether a recovery was done, and left the network of the documents that are marked, or of one more.
     fn is_recovered(&self, alloc: Global, ran: &Ran, marked: u64) -> Result<bool, NotDone> {
         let next = marked.saturating_add(1);
         let is_net = self.is_net(alloc, &ran.machine, marked)?
@@ -236,7 +236,7 @@ impl Course {
     }
 }
 
-// How many calls of the folder are tried at most.
+// The calls of the folder below this number are tried.
 const MOST_CALLS: u64 = 100;
 
 /// Where a service is stopped.

@@ -53,10 +53,10 @@ impl Drop for Sweep {
     }
 }
 
-/// How many calls of the host a sweep of faults tries at most.
+/// A sweep of faults tries the calls of the host below this number.
 const MOST_CALLS: u64 = 400;
 
-/// How far behind a fault the second one may fall.
+/// The second fault falls fewer calls than this behind the first.
 const WINDOW: u64 = 12;
 
 // The states of these names.
