@@ -14,7 +14,8 @@ use Rattle.disk_host.specs.declared.kept.Kept.{Kept}
 use Rattle.disk_host.specs.declared.changing.Missed.{Missed}
 use Rattle.disk_host.specs.declared.changing.Missed.TheVariants.{Refused, Failed, Damaged}
 
--- the call was made, or it wasn't for the reason that is given; what is kept after it is right
+-- the call was made, or it wasn't for the reason that is given, but for `Failed`, which leaves open whether it was; what is
+-- kept after it is right
 pub record Changes (tells : Type 0) (call : Call) (old new : DiskView) (kept : Option Kept) (result : Result (Unit {0}) Missed) : Type 0 where
   pub known : tells → IsKnown kept new.areas.kernel
   pub accepted : tells → OnOk result (Accepts call (kernel_net old.areas.kernel) (kernel_net new.areas.kernel))

@@ -10,7 +10,8 @@ use Rattle.call_journal.specs.Area.{kernel_net}
 use Rattle.disk_host.specs.Slots.{IsShut, AreasMade}
 use Rattle.disk_host.specs.Writes.{IsMadeOf}
 
--- the first network is stored behind a closed checkpoint, or it isn't for the reason that is given
+-- the first network is stored behind a closed checkpoint, or it isn't for the reason that is given, but for `Failed`, which
+-- leaves open how much of that was done
 pub record Establishes (tells : Type 0) (first : NetData) (old new : DiskView) (result : Result (Unit {0}) MakeFault) : Type 0 where
   pub exists : tells → IsErrOf result Exists → IsSome (kernel_net old.areas.kernel)
   pub met : tells → OnOk result (kernel_net old.areas.kernel ≡ None)

@@ -1,4 +1,4 @@
--- What a kernel call writes to the kernel area.
+-- What a kernel call writes to the kernel area, and what the making of a first network leaves there.
 use Rattle.std.specs.Prelude.{◌≡◌, ◌+◌, ℕ, List, [], ◌∷◌, ◌++◌, length, not, Option, Some, None}
 use Rattle.net_model.specs.NetData.{NetData}
 use Rattle.net_model.specs.declared.call.Call.{Call}

@@ -46,7 +46,8 @@ fn close<D: Disk>(disk: &mut D) -> Result<(), Failed>
     Ok(())
 }
 
-/// The slot to write. Where it would be past the end, the selector is set to it first.
+/// Whether the slot to write, which isn't selected, is the second. Where that would lie past the end, it is selected first,
+/// so that the first slot is written.
 fn free_slot<D: Disk>(disk: &mut D) -> Result<bool, Failed>
     requires sure { D.tells → HasArea 0 (D.told disk.old).areas.kernel (D.told disk.old) }
     requires none { D.tells → kernel_net (D.told disk.old).areas.kernel ≡ None }
@@ -89,7 +90,7 @@ fn fill<D: Disk>(disk: &mut D, first: &Net, image: &[u8], slot: &[u8]) -> Result
     store(disk, second, first, image, slot)
 }
 
-/// Stores the first network, where there is none, and closes the checkpoint.
+/// Where there is no network, closes the checkpoint and then stores the first one.
 pub fn establish<D: Disk>(disk: &mut D, alloc: Global, first: &Net) -> Result<(), MakeFault>
     ensures { Establishes D.tells first.now (D.told disk.old) (D.told disk.new) result }
 {

@@ -1,4 +1,4 @@
-//! The commands of the tool, over any host.
+//! The calls of the engine, over any host: a change is made, committed, tested, taken back.
 #![tactic(auto)]
 
 // Why a change that was begun didn't come to its end.

@@ -4,7 +4,7 @@ use std::alloc::AllocError;
 use std::io;
 use thiserror::Error;
 
-/// What the file system or a refused growth stood in the way of. No disk says which: it answers that it failed.
+/// Why a call on the files of a disk failed. No disk says which: it answers that it failed.
 #[derive(Debug, Drop, Error)]
 pub enum FileFault {
     /// The file system refused a call.
@@ -16,7 +16,7 @@ pub enum FileFault {
     /// The files couldn't be opened or made when the disk was.
     #[error("the files of the folder aren't open")]
     NotOpen,
-    /// The folder couldn't be locked at the first call: another program works on it.
+    /// The folder couldn't be locked at the first call: another program works on it, or its file system has no locks.
     #[error("the folder is in use")]
     InUse,
     /// A write took none of its bytes.

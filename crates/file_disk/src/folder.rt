@@ -69,7 +69,8 @@ fn open_all(rt: &HostRuntime, folder: &str) -> Result<Opened, FileFault> {
 impl WholeDisk<Folder> {
     /// A disk over the files of this folder. Where the folder isn't there, or its files can't be opened or made, each
     /// call on the disk fails, and this counts as a first one that did. The first call on the disk locks the folder without
-    /// waiting, and the lock is held as long as the disk lives; where another holds it, that call and each later one fails.
+    /// waiting, and the lock is held as long as the disk lives; where another holds it, or the file system has no locks,
+    /// that call and each later one fails.
     pub fn open(rt: &HostRuntime, folder: &str) -> FileDisk
         ensures { (⟦<WholeDisk<Folder> as Disk>⟧.told result).faults ≤ 1 }
     {

@@ -104,14 +104,14 @@ impl MemoryHost {
         &self.cell
     }
 
-    /// How many kernel calls, writes and syncs it has recorded, which is the moment.
+    /// How many changes of its network, writes and syncs it has recorded, which is the moment.
     pub fn calls(&self) -> u64
         ensures { result ≡ (⟦<MemoryHost as Host>⟧.told self.now).stops.moment }
     {
         self.events.len() as u64
     }
 
-    /// The host after a stop behind so many kernel calls, writes and syncs, with the network of that moment, nothing in
+    /// The host after a stop behind so many of these changes, writes and syncs, with the network of that moment, nothing in
     /// doubt and no call that is to fail. The pick says which of what may be left of the checkpoint area: 0 the bytes of
     /// its last sync, 1 the bytes as they read then, 2 these with each byte 7 in a range that was written since, 3 the
     /// same in the second half of each range.
@@ -189,7 +189,7 @@ fn gate(cell: &[u8]) -> u8
     cell.first().copied().unwrap_or(1)
 }
 
-// The bytes behind a closed gate and what closing it does: a sync and, where the gate is open or there is none, its
+// The bytes with the gate closed and what closing it does: a sync and, where the gate is open or there is none, its
 // write and another sync.
 fn closing(alloc: Global, cell: &[u8]) -> Result<(Vec<u8>, Vec<HostEvent>), AllocError>
     ensures { IfOk result (λ both. IsClosing cell.now both.0.items both.1.items) }

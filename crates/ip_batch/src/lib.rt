@@ -1,5 +1,5 @@
-//! Kernel calls as lines in the manner of ip(8), which `ip -batch` reads: the line of each call, and the calls of a text of
-//! lines.
+//! Kernel calls as lines in the manner of ip(8), as `ip -batch` reads lines: the line of each call, and the calls of a text
+//! of lines.
 #![tactic(auto)]
 
 // What is wrong with a text, and its limit.

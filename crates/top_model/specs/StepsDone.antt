@@ -1,4 +1,4 @@
--- The steps of a script that were run so far, as proofs speak of them, and the line of the status behind a step, which clauses name.
+-- The steps of a script that were run so far, for proofs, and the line of the status behind a step, which clauses name.
 use Rattle.std.specs.Prelude.{◌≡◌, ◌≤◌, ℕ, Bool, true, false, List, ◌++◌, codes, decimal}
 use Rattle.host_core.specs.Faults.{Rose}
 use Rattle.host_core.specs.Streams.{SinkView, Appends}
