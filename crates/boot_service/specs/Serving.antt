@@ -65,7 +65,7 @@ Marks untouched tells name old new (Err (Apply fault)) = untouched
 
 -- ---- the host
 
--- of the host all is as after an apply with this answer
+-- of the host it is as after an apply with this answer, but for what is said of moments before its begin
 pub record Applies (honest tells : Type 0) (a : Asked) (old new : HostView) (result : Result Applied ApplyFault) : Type 0 where
   -- what is answered: on every host, with the calls that every host counts, on an honest host that is sound, and on an honest host
   -- that needn't be
@@ -105,7 +105,7 @@ Comes honest tells doc name host host_after folder folder_after result =
 -- All that is said of the serving of a document. The folder that is named untouched is the very same.
 pub record Serves (honest tells folder_tells : Type 0) (doc : Doc) (name : List ℕ) (now : ℕ) (host host_after : HostView) (folder folder_after : FolderView) (untouched : Type 0) (result : Result ⊤ ServeFault)
     : Type 0 where
-  -- of the host all that an apply with the defaults says
+  -- of the host what an apply with the defaults says
   pub applies : Applies honest tells (asked_of doc now) host host_after (as_applied result)
   -- the folder is asked once the change is committed, and for nothing but the mark
   pub marks : Marks untouched folder_tells name folder folder_after result

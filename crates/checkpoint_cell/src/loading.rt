@@ -14,9 +14,11 @@ use net_image::{ImageFault, decode};
 use net_model::Net;
 use std::alloc::Global;
 
+/// Why a checkpoint wasn't loaded.
 #[derive(Drop)]
 pub enum CellFault {
     Failed,
+    /// The gate is open, and no image stands behind it.
     Damaged,
     OutOfMemory,
 }
@@ -32,7 +34,7 @@ impl From<Failed> for CellFault {
     }
 }
 
-/// A checkpoint with its network.
+/// A checkpoint with its network. The moments are in seconds.
 #[derive(Drop)]
 pub struct Pending {
     pub phase: Phase,

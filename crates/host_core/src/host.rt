@@ -45,12 +45,13 @@ pub trait Host {
     /// Whether the host tells what it holds.
     ghost tells: { Type 0 };
 
-    /// Whether the network changes by accepted calls alone, and a dump gives it. No call changes it.
+    /// Whether the network, once it is made, changes by accepted calls alone, and a dump gives it. No call changes
+    /// whether it does.
     ghost honest: { Type 0 };
 
     ghost told: { Self → HostView };
 
-    /// Closes the checkpoint, where it is open or its area is empty, and then stores the first network, where there is none.
+    /// Where there is no network, closes the checkpoint, if it is open or its area is empty, and then stores the first one.
     fn make(&mut self, alloc: Global, first: &Net) -> Result<(), MakeFault>
         requires { IsFirst first.now }
         ensures exists { tells → IsErrOf result MakeFault.Exists → IsSome (told self.old).state.net }

@@ -9,7 +9,7 @@ mod places;
 mod refuse;
 // Rules and DNS.
 mod rest;
-// Routes: what is on-link, and routes that come and go.
+// Routes that come and go.
 mod routes;
 // One call on a network.
 mod stepping;

@@ -1,4 +1,4 @@
-//! Routes: what is on-link, and routes that come and go.
+//! Routes that come and go.
 ghost use Rattle.std.specs.Prelude.{◌≡◌, true, false, OnOk, OnErr};
 ghost use Rattle.std.specs.List.{list_any};
 ghost use Rattle.net_model.specs.Words.{rises};

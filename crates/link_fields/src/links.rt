@@ -35,7 +35,7 @@ fn merged_link(
     })
 }
 
-/// The merged links, by rank.
+/// The merged links, by rank. The error is that memory is out.
 pub fn merged_links(alloc: Global, members: &Members) -> Result<Vec<Link>, AllocError>
     ensures { IfOk result (λ links. links.items ≡ merged_links members.now) }
 {

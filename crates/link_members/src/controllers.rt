@@ -153,7 +153,7 @@ fn with_controller<'a>(members: &Members<'a>, member: &Member<'a>) -> Member<'a>
     member.under(merged_controller(members, member))
 }
 
-/// The links with their controllers.
+/// The links with their controllers. The error is that memory is out.
 pub fn with_controllers<'a>(
     alloc: Global,
     members: &Members<'a>,

@@ -149,7 +149,7 @@ fn lifted(alloc: Global, members: &[Member]) -> Result<Vec<bool>, AllocError>
     Ok(marks)
 }
 
-/// The links with whether they are lifted.
+/// The links, whose names differ, with whether they are lifted. The error is that memory is out.
 pub fn with_lifted<'a>(alloc: Global, members: &[Member<'a>]) -> Result<Vec<Member<'a>>, AllocError>
     requires { apart same_bytes (map (λ (m : Member). m.name) members.now) ≡ true }
     ensures { IfOk result (λ raised. raised.items ≡ with_lifted members.now) }

@@ -18,7 +18,7 @@ use std::collections::{BTreeMap, BTreeSet};
 use std::marker::Model;
 
 /// The links of the merged state by rank, with an index of their names, one of each stated list of ports, one of the
-/// names in all of these lists, and the merged ports of each controller.
+/// names in all of these lists, those that the lists of two links have, and the merged ports of each controller.
 pub struct Members<'a> {
     list: Vec<Member<'a>>,
     index: Index,

@@ -45,7 +45,7 @@ fn list_by(alloc: Global, kind: &Kind, entry: &LinkEntry) -> Result<Vec<Name>, A
     }
 }
 
-/// The stated list of ports, empty where none is stated.
+/// The stated list of ports, empty where none is stated. The error is that memory is out.
 pub fn stated_ports(alloc: Global, member: &Member) -> Result<Vec<Name>, AllocError>
     ensures { IfOk result (λ list. list.items ≡ unwrap_or (stated_ports member.now) []) }
 {

@@ -101,7 +101,8 @@ fn merge_entries<'a>(
     Ok(merged.into_links())
 }
 
-/// The merged links by rank, or the least of rules 1 to 17 that the document breaks, at its first place.
+/// The merged links by rank, or the least of rules 1 to 17 that the document breaks, at its first place. It may run out of
+/// memory at any time.
 pub fn merge_links(alloc: Global, net: &Net, doc: &Doc) -> Result<Vec<Link>, MergeFault>
     ensures { MergesLinks net.now doc.now result }
 {

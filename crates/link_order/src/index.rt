@@ -45,7 +45,7 @@ pub fn first_place(places: &BTreeMap<Name, usize>, name: &Name) -> Option<usize>
     places.get(name).copied()
 }
 
-/// Takes the place of the name, unless the name has one.
+/// Takes the place of the name, unless the name has one. The error is that memory is out.
 pub fn note(places: &mut BTreeMap<Name, usize>, name: Name, at: usize) -> Result<(), AllocError>
     ensures { OnOk result ((q : List ℕ) → get name_cmp places.new q ≡ option_or (get name_cmp places.old q) (if same_bytes name q then Some at else None)) }
 {

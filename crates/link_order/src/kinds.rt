@@ -106,7 +106,7 @@ fn table_of(kind: &Kind) -> Option<TableId>
     }
 }
 
-/// The kind of the running network's link of this name.
+/// The kind of a link of the running network, if there is one.
 pub fn kind_of<'a>(old: Option<&'a Link>) -> Option<&'a Kind>
     ensures { option_copied result ≡ option_map (λ l. l.kind) (option_copied old.entry) }
 {
@@ -261,7 +261,7 @@ fn word_by(stated: Option<KindWord>, now: Option<&Kind>) -> Option<KindWord>
     }
 }
 
-/// The kind of the merged link, where no detail is missing.
+/// The kind of the merged link, where neither its type nor a detail is missing.
 pub fn merged_kind(entry: &LinkEntry, now: Option<&Kind>) -> Option<Kind>
     ensures { result ≡ merged_kind entry.now (option_copied now.entry) }
 {

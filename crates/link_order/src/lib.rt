@@ -14,8 +14,8 @@ mod kinds;
 mod member;
 // The links of the merged state, before their fields: which they are, and of what kind.
 mod ranking;
-// Arrows between places: drawing them, what they lead to, and whether they lead round; with a refused allocation as the
-// merge answers one.
+// Arrows between places: drawing them, what they lead to, and whether they lead round; with a refused allocation as this
+// crate's calls answer one.
 mod reached;
 // What an entry states of a link's state and of a family of addresses.
 mod stated;

@@ -317,7 +317,7 @@ fn stated<'a>(
 }
 
 /// The links of the merged state by rank: in the order of the entries, then the implied ones, then the unmentioned ones
-/// by name.
+/// by name. The error is that memory is out.
 pub fn members_by_rank<'a>(
     alloc: Global,
     net: &'a Net,

@@ -7,7 +7,7 @@ ghost use Rattle.reach.specs.Cycle.{Decides};
 use net_model::Items;
 use std::alloc::{AllocError, Global};
 
-/// No arrows between so many places.
+/// No arrows between so many places. The error is that memory is out.
 pub fn no_arrows(alloc: Global, len: usize) -> Result<Vec<Items<usize>>, AllocError>
     ensures { IfOk result (λ arrows. arrows.items ≡ replicate len []) }
 {
@@ -18,7 +18,7 @@ pub fn no_arrows(alloc: Global, len: usize) -> Result<Vec<Items<usize>>, AllocEr
     Ok(arrows)
 }
 
-/// Adds an arrow from one place to another, behind those from there.
+/// Adds an arrow from one place to another, behind those from there. The error is that memory is out.
 pub fn add_arrow(arrows: &mut [Items<usize>], from: usize, to: usize) -> Result<(), AllocError>
     requires { from < length arrows.old }
     ensures { OnOk result (arrows.new ≡ set arrows.old from (get_or arrows.old from [] ++ to ∷ [])) }
@@ -29,7 +29,7 @@ pub fn add_arrow(arrows: &mut [Items<usize>], from: usize, to: usize) -> Result<
     }
 }
 
-/// The places that are reachable from the sources.
+/// Which places are reachable from the sources, in one step or more. The error is that memory is out.
 pub fn closure(
     alloc: Global,
     arrows: &[Items<usize>],
@@ -45,7 +45,7 @@ pub fn closure(
     }
 }
 
-/// Whether the arrows lead round in a cycle.
+/// Whether the arrows lead round in a cycle. The error is that memory is out.
 pub fn has_cycle(alloc: Global, arrows: &[Items<usize>]) -> Result<bool, AllocError>
     requires { IsGraph arrows.now }
     ensures { IfOk result (λ cycle. Decides cycle arrows.now) }

@@ -9,7 +9,7 @@ use Rattle.kernel_model.specs.Addresses.{has_block}
 use Rattle.plan_model.specs.Undisturbed.{has_route}
 use Rattle.link_planner.specs.Kept.{is_kept}
 
--- what has become of a link k: it has lost some of what it had, and is else the same
+-- what has become of a link k: it has lost some of what it had, and has its kind, MTU and MAC; of options nothing is said
 pub record IsLess (k l : Link) : Type 0 where
   pub kind : l.kind ≡ k.kind
   pub mtu : l.mtu ≡ k.mtu
@@ -68,7 +68,7 @@ pub record Joins (start target : NetData) (k t : Link) : Type 0 where
 abbrev pub HasBonds : NetData → NetData → Link → Link → Type 0
 HasBonds start target k t = (c : List ℕ) (b : Link) → t.controller ≡ Some c → find_link c target.links ≡ Some b → is_bond b.kind ≡ true → (k.controller ≡ Some c) × (is_kept start target c ≡ true)
 
--- the link of this name is kept and up, and is down in target or has such a bond there
+-- the link of this name is up, was there at the start, and is down in target or has such a bond there
 pub record MustFall (start target net : NetData) (n : List ℕ) : Type 0 where
   pub link : Link
   pub found : find_link n net.links ≡ Some link

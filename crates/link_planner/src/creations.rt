@@ -232,8 +232,8 @@ fn create_next(draft: &Draft, creations: &mut Creations, name: &Name) -> Result<
     }
 }
 
-/// Carries out the phase in which links are made, for the names, one after the other. The calls are those of the loop over
-/// all phases, but the links are put into the network together, so that none behind them has to move for each.
+/// Carries out the phase in which links are made, for the names, one after the other. The calls are those of `run`, but the
+/// links are put into the network together, so that none behind them has to move for each.
 pub fn create_links(alloc: Global, draft: &mut Draft, names: &[Name]) -> Result<(), OutOfMemory>
     requires stands { Stands (builds Phase.CreateLinks) (rank Phase.CreateLinks) draft.old }
     requires order { IsOrder Phase.CreateLinks draft.old names.now }

@@ -1,4 +1,5 @@
-//! Links that are deleted together: each deletion is noted, and the links are taken out of the network at the end.
+//! Links that are deleted together: each deletion is noted, and the links are taken out of the network at the end, or as
+//! soon as one is next over which a VLAN stays.
 ghost use Rattle.std.specs.Prelude.{◌≡◌, ◌||◌, true, false, ℕ, List, MatchOption, IfOk, OnOk};
 ghost use Rattle.std.specs.List.{list_all};
 ghost use Rattle.std.specs.Option.{option_map_or};
@@ -198,8 +199,8 @@ fn delete_next(
     }
 }
 
-/// Carries out the phase in which links are deleted, for the names, one after the other. The calls are those of the loop
-/// over all phases, but the links are taken out of the network together, so that none behind them has to move for each.
+/// Carries out the phase in which links are deleted, for the names, one after the other. The calls are those of `run`, but
+/// the links are taken out of the network together, so that none behind them has to move for each.
 pub fn delete_links(alloc: Global, draft: &mut Draft, names: &[Name]) -> Result<(), OutOfMemory>
     requires stands { Stands (builds Phase.DeleteLinks) (rank Phase.DeleteLinks) draft.old }
     requires order { IsOrder Phase.DeleteLinks draft.old names.now }

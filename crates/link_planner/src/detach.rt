@@ -7,7 +7,7 @@ use crate::draft::Draft;
 use crate::phase::Phase;
 use net_model::{Call, Name};
 
-// Whether the port has a controller that is kept, and another in the target.
+// Whether the port is kept, and has a controller that is kept and isn't the one in the target.
 fn must_leave(draft: &Draft, name: &Name) -> bool
     ensures yes { OnTrue result (MustLeave draft.now.start draft.now.target draft.now.net name.now) }
     ensures no { OnFalse result (IsFree draft.now.start draft.now.target draft.now.net name.now) }

@@ -16,9 +16,9 @@ use net_model::{Call, Name, OutOfMemory};
 /// The phases, in their order.
 #[derive(Clone, Copy)]
 pub enum Phase {
-    /// Kept ports leave a kept controller that is another in the target.
+    /// Kept ports leave a kept controller that isn't theirs in the target.
     DetachPorts,
-    /// Kept links fall that are down in the target, or move to another bond.
+    /// Kept links fall that are down in the target, or have a bond there that isn't their controller or isn't kept.
     TakeLinksDown,
     /// Virtual links go that aren't kept.
     DeleteLinks,

@@ -1,4 +1,4 @@
--- The rules 1 to 17 of the merge in three groups, and the least of two names.
+-- The rules 1 to 17 of the merge in three groups, the lesser of two names, and the order of addresses.
 use Rattle.std.specs.Prelude.{ℕ, List, [], ◌∷◌, Option, Some, None, if◌then◌else◌}
 use Rattle.std.specs.declared.cmp.Ordering.{Ordering}
 use Rattle.std.specs.Ordering.{is_lt, on}

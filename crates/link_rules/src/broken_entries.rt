@@ -153,7 +153,7 @@ fn first_without_detail<'a>(net: &Net, entries: &'a [LinkEntry]) -> Option<&'a L
     entries.iter().find(|entry| lacks_detail(net, entry))
 }
 
-/// The place of rule 5: a bond has no mode, a VLAN no base or number, a VRF no table.
+/// The place of rule 5: a bond has no mode, a VLAN no base or number, a VRF no table, a veth no peer.
 pub(crate) fn missing_detail(net: &Net, entries: &[LinkEntry]) -> Option<Place>
     ensures { result ≡ missing_detail net.now.links entries.now }
 {

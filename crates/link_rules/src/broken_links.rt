@@ -1,4 +1,4 @@
-//! The rules 9 to 17 of the merge, which are asked of the merged links, mentioned or not.
+//! The rules 9, 10, 13, 14 and 16 of the merge, which are asked of the merged links, mentioned or not.
 ghost use Rattle.std.specs.Prelude.{◌≡◌, ◌&&◌, ◌||◌, ◌<◌, [], not, true, false, nat_le, find, option_copied};
 ghost use Rattle.std.specs.Option.{option_map_or, unwrap_or};
 ghost use Rattle.net_model.specs.Words.{is_empty};

@@ -8,7 +8,7 @@ mod bonds;
 mod broken;
 // The rules 1 to 5 of the merge, which are asked of the entries of links.
 mod broken_entries;
-// The rules 9 to 17 of the merge, which are asked of the merged links, mentioned or not.
+// The rules 9, 10, 13, 14 and 16 of the merge, which are asked of the merged links, mentioned or not.
 mod broken_links;
 // The merged links, found by their names.
 mod merged;

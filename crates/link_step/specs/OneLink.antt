@@ -1,4 +1,4 @@
--- What a call writes on the link that it names, but for one that attaches it.
+-- What a call on links writes on the link that it names, where it changes that link alone and nothing that an index reads.
 use Rattle.net_model.specs.declared.Link.{Link}
 use Rattle.net_model.specs.declared.Call.{Call}
 use Rattle.net_model.specs.declared.Call.TheVariants.{Up, SetMac, SetBond, SetBridge, SetPort}

@@ -4,7 +4,7 @@ use Rattle.std.specs.List.{list_any}
 use Rattle.net_model.specs.Words.{bool_eq}
 use Rattle.net_model.specs.Address.{Address, Block, block_size}
 
--- in fe80::/10
+-- in fe80::/10 (RFC 4291, section 2.5.6)
 abbrev pub is_link_local : Address → Bool
 is_link_local a = a.v6 && (a.bits / 2 ^ 118 == 0x3fa)
 

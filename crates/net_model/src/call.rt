@@ -9,7 +9,7 @@ use crate::options::{BondOpts, BridgeOpts, PortOpts};
 use crate::route::Route;
 use crate::rule::Rule;
 
-/// What the kernel is asked to change.
+/// What the kernel is asked to change. An MTU is in bytes.
 pub enum Call {
     AddLink { name: Name, kind: Kind },
     DelLink { name: Name },

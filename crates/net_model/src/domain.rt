@@ -7,7 +7,7 @@ use crate::limits::MAX_DOMAIN_LEN;
 use std::cmp::Ordering;
 use std::marker::Model;
 
-/// A DNS search domain: 1 to 253 printable ASCII bytes, none of them a comma.
+/// A DNS search domain: 1 to 253 bytes from `!` to `~` in ASCII, none of them a comma.
 /// Contracts see its bytes. Domains are ordered by their bytes.
 #[derive(Clone, Drop)]
 pub struct Domain {

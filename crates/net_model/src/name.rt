@@ -7,7 +7,7 @@ use crate::limits::MAX_NAME_LEN;
 use std::cmp::Ordering;
 use std::marker::Model;
 
-/// The name of a link: 1 to 15 printable ASCII bytes, none of them `/` or `:`, and neither `.` nor `..` nor `-`.
+/// The name of a link: 1 to 15 bytes from `!` to `~` in ASCII, none of them `/` or `:`, and neither `.` nor `..` nor `-`.
 /// Contracts see its bytes. Names are ordered by their bytes.
 #[derive(Clone, Copy, Hash)]
 pub struct Name {

@@ -135,7 +135,7 @@ impl Net {
         parts
     }
 
-    /// The network without links. It takes no memory.
+    /// The empty network: no links, routes, rules, DNS servers or search domains. It takes no memory.
     pub fn empty(alloc: Global) -> Net
         ensures { result ≡ net_of [] [] [] no_dns }
     {
@@ -144,7 +144,7 @@ impl Net {
         }
     }
 
-    /// Takes the lists out, and leaves the network without links. It takes no memory.
+    /// Takes the lists out, and leaves the empty network. It takes no memory.
     pub fn take(&mut self) -> Parts
         ensures parts { result ≡ self.old }
         ensures net { IsNet self.old }

@@ -96,7 +96,7 @@ impl Parts {
         })
     }
 
-    /// The lists of the network without links. It takes no memory.
+    /// The lists of the empty network. It takes no memory.
     pub fn empty(alloc: Global) -> Parts
         ensures { result ≡ net_of [] [] [] no_dns }
     {

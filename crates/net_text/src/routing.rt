@@ -59,7 +59,7 @@ fn push_bytes(bytes: &[u8], line: &mut Vec<u8>) -> Result<(), OutOfMemory>
     Ok(())
 }
 
-// What a rule looks at.
+// The priority of a rule, and what it looks at but for the mark.
 fn push_selector(rule: &Rule, line: &mut Vec<u8>) -> Result<(), OutOfMemory>
     ensures { OnOk result (line.new.items ≡ line.old.items ++ selector_words rule.now) }
 {

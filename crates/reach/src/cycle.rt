@@ -1,4 +1,4 @@
-//! Whether arrows lead round in a cycle: a depth-first walk, in as many steps as there are places and arrows.
+//! Whether arrows lead round in a cycle: a depth-first walk, in time linear in the places and arrows.
 ghost use Rattle.std.specs.Prelude.{◌≡◌, ◌<◌, false, true, length, slice_get, IfOk, OnOk, ◌-◌};
 ghost use Rattle.reach.specs.Cycle.{Decides};
 ghost use Rattle.reach.specs.Reach.{IsGraph};
@@ -63,8 +63,8 @@ impl Walk {
         self.stack.pop();
     }
 
-    // Looks at one arrow of the place that was entered last, and says whether it leads to a place that isn't settled
-    // yet. An arrow to a place that is new is followed; where no arrow is left, the place is settled.
+    // Looks at one arrow of the place that was entered last, and says whether it leads to a place that is entered and
+    // not settled. An arrow to a place that is new is followed; where no arrow is left, the place is settled.
     fn step(&mut self, arrows: &[Items<usize>], top: usize) -> Result<bool, OutOfMemory>
         requires graph { IsGraph arrows.now }
         requires walks { AtWork arrows.now self.old }
@@ -120,7 +120,7 @@ impl Walk {
 }
 
 /// Whether the arrows lead round in a cycle. Where they don't, the places have ranks that fall along each arrow. It takes
-/// as many steps as there are places and arrows.
+/// time linear in the places and arrows.
 pub fn has_cycle(alloc: Global, arrows: &[Items<usize>]) -> Result<bool, OutOfMemory>
     requires { IsGraph arrows.now }
     ensures { IfOk result (λ cycle. Decides cycle arrows.now) }

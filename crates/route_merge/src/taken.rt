@@ -119,7 +119,7 @@ impl Taken {
     }
 
     // Takes a rule without a priority, unless one that equals it in all but the priority was taken. It gets the least free
-    // number; where none is free, there is no memory for it.
+    // number; where none is free, that is answered as out of memory.
     pub(crate) fn take_unnumbered(mut self, rule: &Rule) -> Result<Taken, AllocError>
         ensures { IfOk result (λ taken. taken ≡ take_unnumbered self rule.now) }
     {

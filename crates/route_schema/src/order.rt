@@ -4,8 +4,8 @@ ghost use Rattle.route_schema.specs.Dns.{dns_config_table, dns_table};
 ghost use Rattle.route_schema.specs.Routes.{route_table, routes_table};
 ghost use Rattle.route_schema.specs.Rules.{rule_table, rules_table};
 
-/// Supplies laws; has no effect at run time: two maps with the same value under each key are read as the same, whatever
-/// the order of their pairs.
+/// Supplies laws; has no effect at run time: two maps of distinct keys with the same value under each key are read as the
+/// same entry or are both refused, whatever the order of their pairs.
 pub fn order_laws()
     ensures route { IsReadInAnyOrder route_table }
     ensures routes { IsReadInAnyOrder routes_table }

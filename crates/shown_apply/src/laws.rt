@@ -8,8 +8,8 @@ use yaml_read::reading_laws;
 use yaml_text::printing_laws;
 
 /// Supplies the laws of a printed state that is read and merged again; has no effect at run time. They speak of networks
-/// whose links have no address in fe80::/10, and MACs with an even first byte that aren't all zero, and of texts within the
-/// limit of a document.
+/// whose numbers are in the ranges of their types, whose links have no address in fe80::/10, and MACs with an even first byte
+/// that aren't all zero, and of texts within the limit of a document.
 pub fn apply_laws()
     // The YAML text and the line of JSON are read as the document that they show.
     ensures yaml { ReadsAsShown state_text }

@@ -4,7 +4,7 @@ ghost use Rattle.tree_schema.specs.Tables.{needed_at, holds_at};
 
 use crate::{Reader, Reason, Stop};
 
-/// What stands under a key that is needed.
+/// What stands under a key that is needed; where nothing does, `Missing` is answered at the key.
 pub fn needed<T: Drop>(reader: &mut Reader, key: &str, value: Option<T>) -> Result<T, Stop>
     ensures { Answers (needed_at key.now value) reader.old reader.new result }
 {

@@ -12,11 +12,11 @@ pub enum Reason {
     UnknownKey,
     /// The value has a type that can't stand there.
     WrongType,
-    /// A value of the right type is outside its words, range or form.
+    /// A value of the right type is outside its words, range or form, or doesn't agree with another.
     OutOfRange,
     /// A key that is needed isn't there.
     Missing,
-    /// The value is known, and isn't supported.
+    /// The key isn't supported, or what its value asks for isn't.
     Unsupported,
 }
 

@@ -74,7 +74,8 @@ fn read_item<I: Item>(
     Ok(value)
 }
 
-/// Reads the items of a list, in order. A list of 2^31 items or more is answered as out of memory.
+/// Reads the items of a list, in order. What is no list is `WrongType`. A list of 2^31 items or more is answered as out of
+/// memory.
 pub fn read_list<I: Item>(
     item: &I,
     reader: &mut Reader,

@@ -68,8 +68,8 @@ fn read_pairs<S: Section>(
     Ok(())
 }
 
-/// Reads the pairs of a map into an entry, in the order of the tree. Needed keys, and checks between keys, are for the
-/// caller to look at after all pairs.
+/// Reads the pairs of a map into an entry, in the order of the tree. What is no map is `WrongType`. Needed keys, and checks
+/// between keys, are for the caller to look at after all pairs.
 pub fn read_map<S: Section>(
     section: &S,
     reader: &mut Reader,

@@ -73,6 +73,6 @@ entry_is_open bs =
 unfoldable pub entry_of : List ℕ → List ℕ
 entry_of line = let bs = skip_spaces line in if is_dash bs then skip_spaces (tail bs) else bs
 
--- a sequence begins behind the dash of a sequence
+-- behind the dash of a sequence another begins, with a dash and a space
 unfoldable pub has_two_dashes : List ℕ → Bool
 has_two_dashes line = is_dash (skip_spaces line) && begins_with (codes "- ") (entry_of line)

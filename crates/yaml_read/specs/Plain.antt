@@ -42,14 +42,15 @@ is_text (text s) = true
 is_text (list ts) = false
 is_text (mapping ps) = false
 
--- A plain scalar begins here: with none of the signs, nor with a dash, a question mark or a colon before a gap.
+-- A plain scalar begins here: with none of the signs, nor with a dash, a question mark or a colon before a gap, nor in flow
+-- with a colon before a sign.
 abbrev pub begins_plain : Style → List ℕ → Bool
 begins_plain style [] = false
 begins_plain style (b ∷ bs) =
     (not (is_indicator b) && not (((b == dash) || (b == question)) && at_gap bs)) && not ((b == colon) && at_break style bs)
 
 -- A plain scalar ends before this byte, which has this text behind it: before a comment, before a colon and a gap, and in
--- flow before a sign. spaced: a space comes before.
+-- flow before a sign, or a colon and a sign. spaced: a space comes before.
 abbrev pub ends_plain : Style → Bool → ℕ → List ℕ → Bool
 ends_plain style spaced b bs = ((spaced && (b == hash)) || ((b == colon) && at_break style bs)) || (is_flow style && is_sign b)
 

@@ -1,5 +1,6 @@
--- Rows stand for a tree: a relation by cases on rows and columns, apart from any reading. The rows of a map or a sequence
--- split into those of its first entry and the rest.
+-- Rows stand for a tree: a relation by cases on rows and columns, apart from the function that reads rows. What stands on
+-- one line is what its reading gives (`own_key`, `own_dash`, `entry_on_line`). The rows of a map or a sequence split into
+-- those of its first entry and the rest.
 use Rattle.std.specs.Prelude.{◌≡◌, ◌≢◌, ℕ, suc, ◌+◌, ◌⊎◌, length, List, [], ◌∷◌, ◌++◌, Bool, true, false, Some, None, Ok}
 use Rattle.doc_tree.specs.declared.limits.TheConstants.{MAX_LEVELS}
 use Rattle.doc_tree.specs.Shape.{Shape, nothing, truth, whole, text, list, mapping, Shapes, no_shapes, more, Pairs, no_pairs, pair}

@@ -199,7 +199,7 @@ fn begins_item(text: &[u8]) -> bool
     matches!(text, [b'-', b' ', ..])
 }
 
-/// Whether a sequence begins behind the dash of a sequence.
+/// Whether behind the dash of a sequence another begins, with a dash and a space.
 #[tactic(auto, unfolding(crate::specs::Outside::has_two_dashes))]
 pub fn has_two_dashes(line: &[u8]) -> bool
     ensures { result ≡ has_two_dashes line.now }

@@ -18,7 +18,7 @@ use std::alloc::{AllocError, Global};
 pub struct Row {
     /// The number of the line, from 1.
     pub number: u64,
-    /// The spaces before what stands there.
+    /// The bytes of the line before what stands there: spaces, and for the first pair behind a dash the dash too.
     pub column: usize,
     /// What stands there.
     pub text: Vec<u8>,
