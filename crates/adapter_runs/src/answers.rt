@@ -7,11 +7,6 @@ use std::alloc::Global;
 /// The bytes of what a call answered.
 pub type Answer = Result<Vec<u8>, OutOfMemory>;
 
-/// The first word of a line, and what follows it.
-pub fn first_word(line: &str) -> (&str, &str) {
-    line.split_once(' ').unwrap_or((line, ""))
-}
-
 /// A word as it is.
 pub fn word(alloc: Global, word: &str) -> Answer {
     Ok(Vec::from_slice(alloc, word.as_bytes())?)

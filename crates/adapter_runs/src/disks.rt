@@ -2,8 +2,9 @@
 //! `N read AREA AT` of 16 bytes, `N write AREA AT TEXT`, `N sync AREA`, `N faults`.
 ghost use Rattle.std.specs.Prelude.{◌<◌};
 
-use crate::answers::{self, Answer, first_word};
+use crate::answers::{self, Answer};
 use crate::lines::Calls;
+use case_table::first_word;
 use file_disk::FileDisk;
 use host_core::Disk;
 use std::alloc::Global;

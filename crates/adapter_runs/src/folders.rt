@@ -1,8 +1,9 @@
 //! The folder of documents that the heading names, or none: `names`, `start NAME`, `read` of 16 bytes, `mark NAME`, `faults`.
 
-use crate::answers::{self, Answer, first_word};
+use crate::answers::{self, Answer};
 use crate::lines::Calls;
 use base_model::OutOfMemory;
+use case_table::first_word;
 use host_core::{Folder, NamesFault};
 use net_model::Domain;
 use std::alloc::Global;

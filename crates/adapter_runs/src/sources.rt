@@ -1,8 +1,8 @@
 //! A source: `start NAME`, in which `%HH` stands for a byte, `read` of eight bytes, `faults`.
 
-use crate::answers::{self, Answer, first_word};
+use crate::answers::{self, Answer};
 use crate::lines::Calls;
-use case_table::bytes_of;
+use case_table::{bytes_of, first_word};
 use host_core::Source;
 use std::alloc::Global;
 use std::str;

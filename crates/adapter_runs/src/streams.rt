@@ -1,9 +1,9 @@
 //! The standard streams: `output TEXT` and `errors TEXT`, in which `%n` stands for a line's end, `faults output` and
 //! `faults errors`. All that is printed goes by the former.
 
-use crate::answers::{self, Answer, first_word};
+use crate::answers::{self, Answer};
 use crate::lines::Calls;
-use case_table::bytes_of;
+use case_table::{bytes_of, first_word};
 use host_core::Sink;
 use std::alloc::Global;
 use system_adapters::{Stream, StreamSink};

@@ -14,4 +14,4 @@ mod parts;
 
 pub use count::{Count, push_count};
 pub use parts::{Answers, report};
-pub use texts::bytes_of;
+pub use texts::{bytes_of, first_word};

@@ -1,7 +1,7 @@
 //! The parts of the input, and what comes of each.
 
 use crate::count::{Count, push_count};
-use crate::texts::bytes_of;
+use crate::texts::{bytes_of, first_word};
 use base_model::OutOfMemory;
 use std::alloc::Global;
 
@@ -54,7 +54,7 @@ fn read_part<A: Answers>(
     body: &str,
     out: &mut Vec<u8>,
 ) -> Result<Count, OutOfMemory> {
-    let (kind, title) = heading.split_once(' ').unwrap_or((heading, ""));
+    let (kind, title) = first_word(heading);
     let mut count = Count::none();
     for line in body.lines() {
         count = count.with(read_case::<A>(alloc, kind, line, out)?);

@@ -3,6 +3,11 @@
 use base_model::OutOfMemory;
 use std::alloc::Global;
 
+/// The first word of a text, and what follows the space behind it.
+pub fn first_word(text: &str) -> (&str, &str) {
+    text.split_once(' ').unwrap_or((text, ""))
+}
+
 fn digit(byte: u8) -> u8 {
     match byte {
         b'0'..=b'9' => byte - b'0',

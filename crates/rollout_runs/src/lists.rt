@@ -1,8 +1,9 @@
 //! All lists of events up to a length.
 
 use crate::plain::Plain;
-use crate::words::{after, first_word, number, push_events};
+use crate::words::{after, number, push_events};
 use base_model::push_decimal;
+use case_table::first_word;
 use rollout_model::Event;
 use std::alloc::Global;
 

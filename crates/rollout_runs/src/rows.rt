@@ -1,8 +1,9 @@
 //! Rows of events and of answers, each `NODES LIMIT: ..`.
 
 use crate::plain::node_of;
-use crate::words::{begun, event_of, first_word, number, word_of};
+use crate::words::{begun, event_of, number, word_of};
 use base_model::push_decimal;
+use case_table::first_word;
 use rollout_model::{Action, Core, Event, NodeState};
 use std::alloc::Global;
 

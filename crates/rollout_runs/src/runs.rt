@@ -1,8 +1,9 @@
 //! All runs in which what is next is done, with each answer that it may have.
 
 use crate::plain::{Plain, node_of};
-use crate::words::{after, first_word, number};
+use crate::words::{after, number};
 use base_model::push_decimal;
+use case_table::first_word;
 use rollout_model::{Action, Core, Event, NodeState};
 use std::alloc::Global;
 

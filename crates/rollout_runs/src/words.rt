@@ -50,11 +50,6 @@ pub fn push_events(node: u32, events: &mut Vec<Event>) -> Option<()> {
     events.push(Event::Back(node)).ok()
 }
 
-/// The first word, and what follows the space behind it.
-pub fn first_word(line: &str) -> (&str, &str) {
-    line.split_once(' ').unwrap_or((line, ""))
-}
-
 /// A number in digits.
 pub fn number(word: &str) -> Option<u32> {
     word.parse::<u32>().ok()

@@ -2,6 +2,7 @@
 
 use crate::hex::{bytes_of_hex, push_hex};
 use base_model::{OutOfMemory, push_decimal};
+use case_table::first_word;
 use checkpoint_cell::{CellFault, Phase, Seen, barrier, due, load, peek};
 use host_memory::MemoryHost;
 use net_image::encode;
@@ -61,8 +62,8 @@ fn number(word: &str) -> u64 {
 
 /// Appends whether a change is due: `MADE DEADLINE MOMENT`.
 pub fn push_due(case: &str, out: &mut Vec<u8>) -> Result<(), OutOfMemory> {
-    let (made, rest) = case.split_once(' ').unwrap_or((case, ""));
-    let (deadline, moment) = rest.split_once(' ').unwrap_or((rest, ""));
+    let (made, rest) = first_word(case);
+    let (deadline, moment) = first_word(rest);
     let is_due = due(number(made), number(deadline), number(moment));
     out.extend_from_slice(if is_due { b"true".as_slice() } else { b"false" })?;
     Ok(())

@@ -5,16 +5,13 @@
 ghost use Rattle.std.specs.Prelude.{◌<◌};
 
 use base_model::{OutOfMemory, push_decimal};
+use case_table::first_word;
 use host_core::Disk;
 use host_memory::{Fuse, MemoryDisk};
 use std::alloc::Global;
 
 // The last place of a read or a write, and the most bytes of a write.
 const MOST: u64 = 1000;
-
-fn first_word(line: &str) -> (&str, &str) {
-    line.split_once(' ').unwrap_or((line, ""))
-}
 
 fn number(word: &str) -> u64 {
     word.parse::<u64>().unwrap_or(0)

@@ -2,6 +2,7 @@
 
 use crate::trees::push_tree;
 use base_model::{OutOfMemory, push_decimal, write_path};
+use case_table::first_word;
 use doc_tree::{JsonFault, TextFault, Tree, json_of_tree, tree_of_json};
 use std::alloc::Global;
 use yaml_read::{YamlFault, integer_of, is_plain_string};
@@ -116,7 +117,7 @@ fn push_again(alloc: Global, text: &[u8], out: &mut Vec<u8>) -> Result<(), OutOf
 
 // `KEY JSON`: what stands under the key.
 fn push_value(alloc: Global, text: &str, out: &mut Vec<u8>) -> Result<(), OutOfMemory> {
-    let (key, json) = text.split_once(' ').unwrap_or((text, ""));
+    let (key, json) = first_word(text);
     match tree_of_json(alloc, json.as_bytes()) {
         Ok(tree) => match tree.get(key) {
             Some(value) => push_tree(value, out),

@@ -1,7 +1,8 @@
 //! Links from words: `NAME KIND`, and what isn't at its default: `down`, `id=N` of a VLAN, `mtu=N`, `controller=NAME`,
 //! `address=PREFIX`, `addresses=N`, `updelay=N` with `miimon` 100, `hello-time=N`.
 
-use crate::reading::{first_word, name, number, prefix};
+use crate::reading::{name, number, prefix};
+use case_table::first_word;
 use net_model::{
     Addr, BondMode, BondOpts, BridgeOpts, Items, Kind, Link, Mac, Name, PortOpts, Prefix, Proto,
     TableId, VlanId,

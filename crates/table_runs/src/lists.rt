@@ -2,8 +2,9 @@
 //! `rule PRIORITY`, `server`, `domain NAME`. `N x ..` is N of them, each with its number for `#`.
 
 use crate::links::link_of;
-use crate::reading::{addr, first_word, name, number, numbered, prefix};
+use crate::reading::{addr, name, number, numbered, prefix};
 use base_model::push_decimal;
+use case_table::first_word;
 use net_model::{
     Addr, Dns, Domain, Items, Link, Net, NetFault, Route, Rule, Subnet, TableId, Target,
 };

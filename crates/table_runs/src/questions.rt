@@ -1,8 +1,9 @@
 //! What is asked of a network.
 
 use crate::lists::{Lists, rule};
-use crate::reading::{addr, first_word, name, number, prefix};
+use crate::reading::{addr, name, number, prefix};
 use base_model::push_decimal;
+use case_table::first_word;
 use net_model::{
     Addr, Dns, Items, Link, Mac, Name, Net, Parts, Position, RouteKey, Rule, Subnet, TableId,
     bridge_in_range, can_be_base, is_bond, is_bridge, is_default_bond, is_default_bridge,

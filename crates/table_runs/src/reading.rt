@@ -32,8 +32,3 @@ pub fn prefix(word: &str) -> Option<Prefix> {
 pub fn addr(word: &str) -> Option<Addr> {
     read_addr(word.as_bytes())
 }
-
-/// The first word, and what follows the space behind it.
-pub fn first_word(line: &str) -> (&str, &str) {
-    line.split_once(' ').unwrap_or((line, ""))
-}

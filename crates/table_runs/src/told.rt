@@ -2,6 +2,7 @@
 
 use answer_text::{summary_lines, tell_refused, write_status};
 use base_model::{OutOfMemory, push_decimal};
+use case_table::first_word;
 use document_model::{Place, Refused};
 use engine_model::Left;
 use host_memory::MemorySink;
@@ -17,10 +18,6 @@ fn number(word: &str) -> u64 {
 
 fn small(word: &str) -> u8 {
     word.parse::<u8>().unwrap_or(0)
-}
-
-fn first_word(line: &str) -> (&str, &str) {
-    line.split_once(' ').unwrap_or((line, ""))
 }
 
 fn left(word: &str) -> Left {

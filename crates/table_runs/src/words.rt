@@ -1,6 +1,7 @@
 //! Addresses and words of settings, each read and printed again.
 
 use base_model::OutOfMemory;
+use case_table::first_word;
 use net_text::{
     bool_word, family_word, mode_word, policy_word, proto_word, rate_word, read_addr, read_bool,
     read_family, read_mac, read_mode, read_policy, read_prefix, read_proto, read_rate, write_addr,
@@ -65,7 +66,7 @@ fn word_of(kind: &str, text: &str) -> Option<&'static str> {
 
 // `KIND WORD`.
 fn push_word(text: &str, out: &mut Vec<u8>) -> Result<(), OutOfMemory> {
-    let (kind, word) = text.split_once(' ').unwrap_or((text, ""));
+    let (kind, word) = first_word(text);
     let printed = word_of(kind, word).unwrap_or("none");
     Ok(out.extend_from_slice(printed.as_bytes())?)
 }

@@ -1,8 +1,9 @@
 //! What a command is expected to tell.
 
 use crate::not_done::NotDone;
-use crate::reading::{first_word, number};
+use crate::reading::number;
 use crate::runs::Seen;
+use case_table::first_word;
 use std::alloc::Global;
 
 /// The status, what is written, and where the output is long how many lines of it begin in which way.

@@ -1,7 +1,8 @@
 //! Inputs by their names.
 
 use crate::not_done::NotDone;
-use crate::reading::{bytes_of_hex, first_word, number, push_times};
+use crate::reading::{bytes_of_hex, number, push_times};
+use case_table::first_word;
 use std::alloc::Global;
 use std::mem;
 

@@ -11,11 +11,6 @@ pub fn number(word: &str) -> Result<u64, NotDone> {
     }
 }
 
-/// The first word of a line, and what follows the space behind it.
-pub fn first_word(line: &str) -> (&str, &str) {
-    line.split_once(' ').unwrap_or((line, ""))
-}
-
 /// The words that single spaces part; an empty text has none.
 pub fn words(alloc: Global, line: &str) -> Result<Vec<String>, NotDone> {
     let mut words = Vec::new(alloc);

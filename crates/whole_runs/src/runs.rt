@@ -2,8 +2,9 @@
 
 use crate::files::no_files;
 use crate::not_done::NotDone;
-use crate::reading::{first_word, number, words};
+use crate::reading::{number, words};
 use boot_service::MemoryFolder;
+use case_table::first_word;
 use host_core::Host;
 use host_memory::{FixedClock, Fuse, MemorySink, MemorySource, Refusal};
 use net_model::Net;
