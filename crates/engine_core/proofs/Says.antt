@@ -213,16 +213,16 @@ begun_stopped missed.OutOfMemory fault is = cc
 
 pub finished_says : (tells : Type 0) (doc : Doc) (opts : ApplyOpts) (made : ℕ) (start : Start) (from to : NetData) (mid new : HostView) (result : Result Applied ApplyFault) → merge from doc ≡ Ok to → start.faults ≤ mid.faults
     → (tells → opts.no_verify ≡ false → mid.fresh ≡ Some to) → (tells → new.fresh ≡ mid.fresh) → (tells → OnOk result (saved_net new.state.cell ≡ Some from))
-    → IfErr result (λ fault. fault ≡ ap_.InDoubt) → OnErr result (Rose mid.faults new.faults) → Said tells (asked doc opts made) start new result
-finished_says tells doc opts made start from to mid new (Ok applied) merges le verified fresh saved doubt rose = λ told wanted. record {
+    → IfErr result (λ fault. fault ≡ ap_.InDoubt) → OnErr result (Rose mid.faults new.faults) → OnErr result (opts.no_commit ≡ false) → Said tells (asked doc opts made) start new result
+finished_says tells doc opts made start from to mid new (Ok applied) merges le verified fresh saved doubt rose ended = λ told wanted. record {
   saved = from;
   fresh = to;
   is_saved = saved told;
   is_fresh = fresh told ∙ verified told wanted;
   merges = merges;
 }
-finished_says tells doc opts made start from to mid new (Err fault) merges le verified fresh saved doubt rose =
-    subst (λ (f : ApplyFault). Said tells (asked doc opts made) start new (Err f)) (sym doubt) (rose_after start.faults mid.faults new.faults le rose)
+finished_says tells doc opts made start from to mid new (Err fault) merges le verified fresh saved doubt rose ended =
+    subst (λ (f : ApplyFault). Said tells (asked doc opts made) start new (Err f)) (sym doubt) (rose_after start.faults mid.faults new.faults le rose, ended)
 
 pub finished_begun : (result : Result Applied ApplyFault) → IfErr result (λ fault. fault ≡ ap_.InDoubt) → result ≡ Err (ap_.HostFault NotBegun) → ⊥
 finished_begun (Ok applied) doubt is = cc
@@ -292,7 +292,7 @@ module _ (tells : Type 0) (a : Asked) (old new : HostView) where
   said_left result left is says = subst (λ (r : Result Applied ApplyFault). ApplySays tells a old new r) is says
 
   pub said_doubt : (result : Result Applied ApplyFault) → result ≡ Err ap_.InDoubt → ApplySays tells a old new result → Rose old.faults new.faults
-  said_doubt result is says = subst (λ (r : Result Applied ApplyFault). ApplySays tells a old new r) is says
+  said_doubt result is says = (subst (λ (r : Result Applied ApplyFault). ApplySays tells a old new r) is says).0
 
 -- ---- of an earlier moment, too
 

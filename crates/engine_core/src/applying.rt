@@ -141,6 +141,8 @@ fn finish<H: Host>(host: &mut H, no_commit: bool, deadline: u64) -> Result<Appli
     ensures stays { OnOk result (Steps SameNet (H.told host.old).stops (H.told host.new).stops) }
     ensures doubt { IfErr result (λ fault. fault ≡ ApplyFault.InDoubt) }
     ensures fault { OnErr result (Rose (H.told host.old).faults (H.told host.new).faults) }
+    // A change that is to wait isn't ended here.
+    ensures ended { OnErr result (no_commit ≡ false) }
     ensures value { IfOk result (λ applied. applied.deadline ≡ (if no_commit then Some deadline else None)) }
     ensures moment { (H.told host.old).stops.moment ≤ (H.told host.new).stops.moment }
     ensures later { (H.told host.old).faults ≤ (H.told host.new).faults }

@@ -10,7 +10,7 @@ use net_model::{Name, Net};
 pub enum Left {
     /// No kernel call was made and nothing was written to the checkpoint area.
     NotBegun,
-    /// The state from before it.
+    /// The state from before it, or the one that a change was taken back to first.
     RolledBack,
     /// Perhaps a change that stands half way: a recovery leads to the state from before it, or the changed one waits.
     Pending,

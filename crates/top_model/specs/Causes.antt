@@ -129,6 +129,12 @@ IsVerified r (Ok (applying doc opts)) = opts.no_verify ≡ false → Verified (a
 IsVerified r (Ok (applying_policy p opts)) = opts.no_verify ≡ false → (doc : Doc) × IsDocumentOf r (applying_policy p opts) p doc × Verified (asked doc opts r.now) r.host_after
 IsVerified r order = Unit {0}
 
+-- no apply is in doubt whose change is to wait
+abbrev pub IsToStay : Order → Type 0
+IsToStay (applying doc opts) = opts.no_commit ≡ false
+IsToStay (applying_policy p opts) = opts.no_commit ≡ false
+IsToStay order = Unit {0}
+
 -- a commit that is in doubt found a change that waits and isn't due
 abbrev pub IsDoubted : Run → Result Order Cause → Type 0
 IsDoubted r (Ok committing) = expected r (Ok committing) ≡ Ok committed
@@ -415,7 +421,7 @@ Ends r order (Err (DocRefused fault)) = RefusedLate r order fault × LooksOnly r
 Ends r order (Err (MergeRefused refused)) = BrokeRule r order refused
 Ends r order (Err (CallRefused n k)) = IsFirstRefused r order n k × StaysRead r
 Ends r order (Err (HostFault left)) = HostRose r × IsLeft r order left
-Ends r order (Err InDoubt) = HostRose r × (r.host_tells → IsDoubted r (Ok order))
+Ends r order (Err InDoubt) = HostRose r × IsToStay order × (r.host_tells → IsDoubted r (Ok order))
 Ends r order (Err (KernelRefused k n left)) = IsLeftRefused r order left
 Ends r order (Err (NotVerified found left)) = (left ≡ RolledBack) × IsCompared order × LeftSays r.host_tells r.host r.host_after RolledBack × (r.host_tells → IsOther r (Ok order) found)
 Ends r order (Err (Damaged area)) = IsDamage r area

@@ -113,7 +113,7 @@ module _ (r : Run) (doc : Doc) (opts : ApplyOpts) where
   comes (Err (HostFault side)) says exact wants = (says.0, says.1)
   comes (Err (KernelRefused k n side)) says exact wants = (says.0, says.1)
   comes (Err (NotVerified found side)) says exact wants = (says.0, says.1, says.2, λ t. let s = says.4 t in record { doc = doc; saved = s.saved; is_doc = refl; is_saved = s.is_saved; other = s.other })
-  comes (Err InDoubt) says exact wants = (says, λ t. tt)
+  comes (Err InDoubt) says exact wants = (says.0, says.1, λ t. tt)
   comes (Err (Damaged area)) says exact wants = says
   comes (Err (HardwareDiffers names)) says exact wants = says
   comes (Err OutOfMemory) says exact wants = wants

@@ -57,7 +57,7 @@ module _ (r : Run) (is : command_of r.words ≡ Some Commit) (tells_if : r.hones
   comes (Err (Unfinished since deadline)) a = λ t. ap answer_of (a t).answer
   comes (Err (Expired since deadline)) a = λ t. ap answer_of (a t).answer
   comes (Err HostFault) a = (a.0, (a.1, not_rolled))
-  comes (Err InDoubt) a = (a.0, λ t. ap answer_of (a.1 t))
+  comes (Err InDoubt) a = (a.0, tt, λ t. ap answer_of (a.1 t))
 
   expects : (result : Result ⊤ CommitFault) → CommitAnswers r.host_tells r.now r.host r.host_after result → r.host_tells → Expects r (Ok committing) (answer_of result)
   expects (Ok x) a t = record { answer = ap answer_of (a t).answer; after = (a t).after }

@@ -156,7 +156,7 @@ module _ (tells : Type 0) (a : Asked) (back : Left) (old mid new : HostView) (si
     says (Err (fa.HostFault NotBegun)) is damaged = (rose is.0, unbegun back refl is.1, gave_before)
     says (Err (fa.HostFault RolledBack)) is damaged = (rose is.0, is.1, λ rolled told. gave_first (is.2 rolled told))
     says (Err (fa.HostFault Pending)) is damaged = (rose is.0, tt, λ rolled told. gave_first (is.2 rolled told))
-    says (Err fa.InDoubt) is damaged = rose is
+    says (Err fa.InDoubt) is damaged = (rose is.0, is.1)
     says (Err (fa.KernelRefused k n left)) is damaged = (refused_left left is.1 is.0, is.1, is.2)
     says (Err (fa.NotVerified found left)) is damaged = is
     says (Err (fa.Damaged area)) is damaged = λ told. (damaged area refl told, stands_first area (is told).1)
