@@ -15,8 +15,10 @@ use Rattle.engine_model.specs.declared.answers.ApplyFault.{ApplyFault}
 use Rattle.engine_model.specs.declared.answers.BackFault.{BackFault}
 use Rattle.engine_model.specs.declared.answers.Recovered.{Recovered}
 use Rattle.engine_model.specs.declared.answers.Recovered.TheVariants.{Nothing, Waiting as Waits, Restored}
+use Rattle.engine_model.specs.Sound.{Fit}
 use Rattle.boot_service.specs.Serving.{asked_of, done}
 use Rattle.boot_service.specs.Stops.{SettlesTo, IsAt}
+use Rattle.boot_service.proofs.lemmas.Settling.{settles_to}
 
 -- ---- an apply with the defaults is done without a deadline
 
@@ -48,34 +50,36 @@ pub machine_at : (net : NetData) (doc : Doc) (now : ℕ) (host : HostView) → I
 machine_at net doc now host at = ap (apply (asked_of doc now)) at.reads
 
 -- what stands alone there settles to it
-settles_near : (net : NetData) (s : State) (station : Standing) → station ≡ restored_to net → Alike station (standing s) → SettlesTo net s
-settles_near net s station is like = λ now. sym (like now) ∙ ap (settled now) is
+settles_near : (net : NetData) (s : State) (station : Standing) → Fit s → station ≡ restored_to net → Alike station (standing s) → SettlesTo net s
+settles_near net s station fit is like = settles_to net s fit (λ now. sym (like now) ∙ ap (settled now) is)
 
-settles_along : (net : NetData) (r s : State) → SettlesTo net r → Alike (standing r) (standing s) → SettlesTo net s
-settles_along net r s settles like = λ now. sym (like now) ∙ settles now
+settles_along : (net : NetData) (r s : State) → Fit s → SettlesTo net r → Alike (standing r) (standing s) → SettlesTo net s
+settles_along net r s fit settles like = settles_to net s fit (λ now. sym (like now) ∙ settles.settles now)
 
-lands_merged : (net : NetData) (doc : Doc) (now : ℕ) (s : State) (station : Standing) (m : Result NetData Refused) → merge net doc ≡ m → station ≡ (merged_as (asked_of doc now) net m).after → Alike station (standing s) → Lands net doc s
-lands_merged net doc now s station (Ok to) e is like = inr (to, e, settles_near to s station is like)
-lands_merged net doc now s station (Err refused) e is like = inl (settles_near net s station is like)
+lands_merged : (net : NetData) (doc : Doc) (now : ℕ) (s : State) (station : Standing) → Fit s → (m : Result NetData Refused) → merge net doc ≡ m → station ≡ (merged_as (asked_of doc now) net m).after → Alike station (standing s) → Lands net doc s
+lands_merged net doc now s station fit (Ok to) e is like = inr (to, e, settles_near to s station fit is like)
+lands_merged net doc now s station fit (Err refused) e is like = inl (settles_near net s station fit is like)
 
 module _ (net : NetData) (doc : Doc) (now : ℕ) (host host_after : HostView) (here : IsAt net host) where
   abbrev pub Stations : Stands
   Stations = Either (Settled now (entry_of host)) (Only (apply (asked_of doc now) (standing host.state)).after)
 
-  lands_near : (s : State) → Near Stations (standing s) → Lands net doc s
-  lands_near s near = elim near.is [
+  lands_near : (s : State) → Fit s → Near Stations (standing s) → Lands net doc s
+  lands_near s fit near = elim near.is [
     | inl was ↦
         let e : Some (restored_to net) ≡ Some near.station = ap (settled now) (sym here.reads) ∙ was in
         let is : near.station ≡ restored_to net = cc in
-        inl (settles_near net s near.station is near.like)
-    | inr is ↦ lands_merged net doc now s near.station (merge net doc) refl (is ∙ ap (λ (o : Outcome Applied ApplyFault). o.after) (machine_at net doc now host here)) near.like
+        inl (settles_near net s near.station fit is near.like)
+    | inr is ↦ lands_merged net doc now s near.station fit (merge net doc) refl (is ∙ ap (λ (o : Outcome Applied ApplyFault). o.after) (machine_at net doc now host here)) near.like
   ]
 
   lands_from : (r s : State) → host.stops.may_leave r → Leads Stations r s → Lands net doc s
-  lands_from r s may step = elim step.like [
-    | inl same ↦ inl (settles_along net r s (here.left r may) same)
-    | inr near ↦ lands_near s near
-  ]
+  lands_from r s may step =
+      let fit = step.fit (here.left r may).fit in
+      elim step.like [
+        | inl same ↦ inl (settles_along net r s fit (here.left r may) same)
+        | inr near ↦ lands_near s fit near
+      ]
 
   -- each pair that is left since some moment
   pub lands_since : Kept Stations host host_after → (t : ℕ) (s : State) → t ≤ host.stops.moment → host_after.stops.left_since t s → host.stops.left_since t s ⊎ Lands net doc s
@@ -109,7 +113,7 @@ module _ (net : NetData) (doc : Doc) (now : ℕ) (host host_after : HostView) (h
     at = record {
       sound = kept.sound;
       reads = reads;
-      left = λ s left. let near = within (standing s) (s, left, refl) in settles_near to s near.station near.is near.like;
+      left = λ s left. let near = within (standing s) (s, left, refl) in settles_near to s near.station (kept.sound.fit s left) near.is near.like;
     };
   }
   committed_as kept (Err refused) e answer reads within = absurd cc

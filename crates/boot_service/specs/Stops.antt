@@ -11,7 +11,8 @@ use Rattle.host_core.specs.HostView.{State, HostView}
 use Rattle.host_core.specs.Stops.{After}
 use Rattle.checkpoint_cell.specs.Settled.{standing, restored_to, settled}
 use Rattle.merge_model.specs.MergedNet.{merge}
-use Rattle.engine_model.specs.Sound.{Sound}
+use Rattle.engine_model.specs.Machine.{recover}
+use Rattle.engine_model.specs.Sound.{Fit, Sound}
 use Rattle.boot_service.specs.Fold.{Taking, IsStage}
 use Rattle.boot_service.specs.declared.fault.ServeFault.{ServeFault}
 use Rattle.boot_service.specs.declared.fault.ServeFault.TheVariants.{Apply, NotMarked}
@@ -36,9 +37,11 @@ IsTakenAs take file doc = (net : NetData) → take net file ≡ merged_or (merge
 
 -- ---- hosts
 
--- whenever it is recovered, this network is there without a checkpoint
-abbrev pub SettlesTo : NetData → State → Type 0
-SettlesTo net s = (now : ℕ) → settled now (standing s) ≡ Some (restored_to net)
+-- it can be recovered from, and whenever it is recovered, this network is there without a checkpoint
+pub record SettlesTo (net : NetData) (s : State) : Type 0 where
+  pub fit : Fit s
+  pub settles : (now : ℕ) → settled now (standing s) ≡ Some (restored_to net)
+  pub recovers : (now : ℕ) → (recover now (standing s)).after ≡ restored_to net
 
 -- the host is sound, reads as this network without a checkpoint, and a stop leaves nothing that settles to another
 pub record IsAt (net : NetData) (host : HostView) : Type 0 where

@@ -67,6 +67,7 @@ both_cut tells out_text err_text out err err_after e f w = record {
   rose = inr w.cause.failed;
   to_out = λ t. nothing_some out out_text;
   to_err = w.some;
+  stops = inl (λ t. sym (append-nil out.written));
   out_later = omega arith;
   err_later = w.cause.later;
 }
@@ -78,6 +79,7 @@ both_follow tells out_text err_text out out_after err err_after (Err e) first ne
   rose = inl next.cause.failed;
   to_out = next.some;
   to_err = λ t. (length err_text, omega arith, first.all t ∙ ap (λ (bytes : Text). err.written ++ bytes) (sym (take_all (length err_text) err_text (omega arith))));
+  stops = inr first.all;
   out_later = next.cause.later;
   err_later = let x = first.steady in omega (arith, x);
 }
@@ -113,6 +115,10 @@ tells_on tells text cause out out_after err mid err_after report first (inr s) o
     rose = elim s.0.rose [ inl rose ↦ inl rose | inr rose ↦ inr (subst (λ (n : ℕ). Rose n err_after.faults) first.steady rose) ];
     to_out = s.0.to_out;
     to_err = λ t. follow_some text (error_line cause) err mid err_after (first.all t) (s.0.to_err t);
+    stops = elim s.0.stops [
+      | inl none ↦ inl none
+      | inr all ↦ inr (λ t. all t ∙ ap (λ (bytes : Text). bytes ++ error_line cause) (first.all t) ∙ append_assoc err.written text (error_line cause))
+    ];
     out_later = out_later;
     err_later = let x = first.steady in omega (arith, x, err_later);
   };
@@ -128,6 +134,7 @@ tells_cut tells text cause out err err_after report e w is = record {
     rose = inr w.cause.failed;
     to_out = λ t. nothing_some out [];
     to_err = λ t. part text (error_line cause) err err_after (w.some t);
+    stops = inl (λ t. sym (append-nil out.written));
     out_later = omega arith;
     err_later = w.cause.later;
   };

@@ -18,6 +18,7 @@ use Rattle.engine_model.specs.declared.answers.ApplyFault.{ApplyFault}
 use Rattle.engine_model.specs.declared.answers.ApplyFault.TheVariants as af
 use Rattle.boot_service.specs.Serving.{Applies, asked_of}
 use Rattle.boot_service.specs.Stops.{IsAt, merged_or}
+use Rattle.boot_service.proofs.lemmas.Settling.{settles_to}
 use Rattle.top_model.specs.Orders.{Text}
 use Rattle.top_model.specs.declared.report.Cause.{Cause}
 use Rattle.top_model.specs.declared.report.Cause.TheVariants.{DocRefused, BadLine, BatchLine, BatchLarge, NoSuchName, FolderFault, OutOfMemory}
@@ -80,7 +81,9 @@ module _ (net : NetData) (doc : Doc) (now : ℕ) (old new : HostView) (honest te
       record {
         sound = (applies.kept h here.sound).sound;
         reads = reads;
-        left = λ s left. let near = within (standing s) (s, left, refl) in λ at. sym (near.like at) ∙ ap (settled at) (settled_here near.station near.is);
+        left = λ s left.
+            let near = within (standing s) (s, left, refl) in
+            settles_to net s ((applies.kept h here.sound).sound.fit s left) (λ at. sym (near.like at) ∙ ap (settled at) (settled_here near.station near.is));
       }
 
   refused_as : (h : honest) (fault : ApplyFault) → Applies honest tells (asked_of doc now) old new (Err fault) → (m : Result NetData Refused) → merge net doc ≡ m

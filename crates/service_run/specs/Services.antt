@@ -10,7 +10,6 @@ use Rattle.host_core.specs.declared.Host.{Ghosts as HostGhosts}
 use Rattle.host_core.specs.declared.Folder.{Ghosts as FolderGhosts}
 use Rattle.host_core.specs.declared.Sink.{Ghosts as SinkGhosts}
 use Rattle.host_core.specs.declared.Clock.{Ghosts as ClockGhosts}
-use Rattle.checkpoint_cell.specs.Settled.{standing, restored_to, settled}
 use Rattle.boot_service.specs.Fold.{folded, IsStage}
 use Rattle.boot_service.specs.Stops.{pending, IsAt, SettlesAt, LeavesInside}
 use Rattle.boot_service.specs.declared.fault.ServeFault.{ServeFault}
@@ -72,11 +71,7 @@ pub record Enters (r : Service) (first : NetData) (all : List File) : Type 0 whe
   pub files : HasFiles r.folder.files r.folder
   pub stage : IsStage taking first all net (left r)
 
--- whenever a pair that it may be is recovered, the network is one to which services came with the files left that it may be left with,
--- and from there a service enters again
-abbrev pub Resumes : NetData → List File → State → Files → Type 0
-Resumes first all s files = (now : ℕ) → (net : NetData) × (settled now (standing s) ≡ Some (restored_to net)) × IsStage taking first all net (pending files)
-
+-- each pair can be recovered from, and a recovery leads to a network at which, with the documents that are left, a service enters again
 pub record Stays (r : Service) (first : NetData) (all : List File) : Type 0 where
   -- each pair that is left since the entry settles like the fold of a prefix of all documents
   pub during : (s : State) → r.host_after.stops.left_since r.host.stops.moment s → (rest : List File) × SettlesAt taking first all rest s

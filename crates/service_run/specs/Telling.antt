@@ -26,11 +26,12 @@ pub record SpokeAll (tells : Type 0) (out_text err_text : Text) (old new : Sinks
   pub out_steady : new.out.faults ≡ old.out.faults
   pub err_steady : new.err.faults ≡ old.err.faults
 
--- one failed, and each got the beginning of its text
+-- one failed, and each got the beginning of its text: the output nothing, unless the errors got all of theirs
 pub record SpokeSome (tells : Type 0) (out_text err_text : Text) (old new : Sinks) : Type 0 where
   pub rose : Rose old.out.faults new.out.faults ⊎ Rose old.err.faults new.err.faults
   pub to_out : tells → AppendsSome out_text old.out new.out
   pub to_err : tells → AppendsSome err_text old.err new.err
+  pub stops : (tells → Appends [] old.out new.out) ⊎ (tells → Appends err_text old.err new.err)
   pub out_later : old.out.faults ≤ new.out.faults
   pub err_later : old.err.faults ≤ new.err.faults
 
