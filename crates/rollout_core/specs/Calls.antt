@@ -1,9 +1,12 @@
 -- What is known of each call on the host of a node, by what the host tells before it and after it.
-use Rattle.std.specs.Prelude.{◌≡◌, ◌≤◌, ⊤, ℕ, Result}
+use Rattle.std.specs.Prelude.{◌≡◌, ◌≢◌, ◌≤◌, ⊤, ℕ, Some, Result, Ok, Err}
+use Rattle.net_model.specs.NetData.{NetData}
 use Rattle.host_core.specs.Faults.{Rose, RoseTwice}
 use Rattle.host_core.specs.Stops.{Steps, Stays}
-use Rattle.host_core.specs.HostView.{HostView}
-use Rattle.checkpoint_cell.specs.Settled.{standing}
+use Rattle.host_core.specs.HostView.{State, HostView}
+use Rattle.plan_model.specs.Undisturbed.{IsUndisturbed}
+use Rattle.merge_model.specs.MergedNet.{merge}
+use Rattle.checkpoint_cell.specs.Settled.{standing, restored_to}
 use Rattle.engine_model.specs.Machine.{Asked, apply, commit, rollback}
 use Rattle.engine_model.specs.Checks.{check, CheckSays, CheckAnswers, CheckExit}
 use Rattle.engine_model.specs.Sound.{WhereSound}
@@ -13,6 +16,7 @@ use Rattle.engine_model.specs.Refusals.{ApplyCounts, BackCounts}
 use Rattle.engine_model.specs.Faults.{ApplyAnswers, ApplySays, CommitAnswers, BackAnswers, BackSays, HasSet}
 use Rattle.engine_model.specs.declared.answers.Applied.{Applied}
 use Rattle.engine_model.specs.declared.answers.ApplyFault.{ApplyFault}
+use Rattle.engine_model.specs.declared.answers.ApplyFault.TheVariants as ap
 use Rattle.engine_model.specs.declared.answers.CommitFault.{CommitFault}
 use Rattle.engine_model.specs.declared.answers.BackFault.{BackFault}
 use Rattle.engine_model.specs.declared.answers.Checked.{Checked}
@@ -27,6 +31,9 @@ module _ (tells honest : Type 0) (old new : HostView) where
     pub exit : WhereSound honest old (ApplyExit a (entry_of old) (left_by new) (Rose old.faults new.faults) (RoseTwice old.faults new.faults) answer)
     pub reads : WhereSound honest old (ApplyExit a (at (standing old.state)) (Only (standing new.state)) (Rose old.faults new.faults) (RoseTwice old.faults new.faults) answer)
     pub kept : WhereSound honest old (Kept (Either (Settled a.now (entry_of old)) (Only (apply a (standing old.state)).after)) old new)
+    -- where no checkpoint stood and nothing failed, each link that the change needn't touch is left alone on the way
+    pub undisturbed : WhereSound honest old ((from to : NetData) → standing old.state ≡ restored_to from → merge from a.doc ≡ Ok to → (Rose old.faults new.faults → ⊥) → answer ≢ Err ap.OutOfMemory
+        → (s : State) → new.stops.left_since old.stops.moment s → (net : NetData) × (s.net ≡ Some net) × IsUndisturbed from to net)
     pub later : old.faults ≤ new.faults
 
   -- the node was looked at, and nothing of it was changed

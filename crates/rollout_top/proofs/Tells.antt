@@ -64,5 +64,5 @@ pub answered : {H S W C : Type 0} (G : HostGhosts H) (F : SourceGhosts S) (K : C
     → Refuses G F K P limit file old new report ⊎ RollsOut G F K P limit file old new report
 answered G F K P limit file old new report doc read took rolls = elim rolls [
   | inl rolled ↦ inr (record { doc = doc; inputs = read.0; may_read = read.1; read = read.2; took = took; rolled = rolled })
-  | inr unbegun ↦ inl (record { cause = OutOfMemory; why = tt; unbegun = unbegun })
+  | inr unbegun ↦ inl (record { cause = OutOfMemory; why = tt; took = tt; unbegun = unbegun })
 ]

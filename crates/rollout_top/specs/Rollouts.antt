@@ -26,7 +26,7 @@ use Rattle.top_model.specs.declared.report.Report.{Report}
 use Rattle.top_model.specs.declared.report.Cause.{Cause}
 use Rattle.top_model.specs.declared.report.Cause.TheVariants.{Done, WriteFault, Halted, OutOfMemory}
 use Rattle.answer_text.specs.Speaking.{Spoken}
-use Rattle.order_reading.specs.Reading.{Reads, GoesOn, Took, itself}
+use Rattle.order_reading.specs.Reading.{Reads, GoesOn, Took, Takes, itself}
 use Rattle.rollout_top.specs.declared.prepare.Prepared.{Prepared}
 use Rattle.rollout_top.specs.declared.run.TheConstants.{ROLLOUT_TIMEOUT}
 
@@ -35,6 +35,10 @@ use Rattle.rollout_top.specs.declared.run.TheConstants.{ROLLOUT_TIMEOUT}
 -- the document of a FILE, or why there is none
 abbrev pub document_named : Inputs → Option Text → Result Doc Cause
 document_named inputs file = and_then (input false inputs file) document
+
+-- there is none, for this cause
+abbrev pub no_document : Cause → Result Doc Cause
+no_document cause = Err cause
 
 -- ---- why it ended
 
@@ -112,6 +116,8 @@ module _ {H S W C : Type 0} (G : HostGhosts H) (F : SourceGhosts S) (K : ClockGh
   pub record Refuses : Type 0 where
     pub cause : Cause
     pub why : Reads itself (λ inputs. document_named inputs (Some file)) F.tells (F.told old.source) (F.told new.source) (Err cause)
+    -- of a document that is refused no more was taken than the limit and one byte
+    pub took : Takes F.tells (F.told old.source) (F.told new.source) (Some file) (no_document cause)
     pub unbegun : Unbegun P cause old.nodes new.nodes old.clock new.clock old.out new.out old.err new.err report
 
   -- the document of the FILE was rolled out

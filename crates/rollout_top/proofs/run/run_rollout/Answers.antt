@@ -11,5 +11,5 @@ returns-in-Ok g c = record {
 pub returns : goal.returns
 returns g c = record {
   source = c.in-Err.ensures.source;
-  answers = inl (record { cause = c.in-Err.cause; why = c.in-Err.ensures.read; unbegun = record { same_nodes = refl; same_clock = refl; told = c.tell_refused.ensures.told } });
+  answers = inl (record { cause = c.in-Err.cause; why = c.in-Err.ensures.read; took = c.in-Err.ensures.taken; unbegun = record { same_nodes = refl; same_clock = refl; told = c.tell_refused.ensures.told } });
 }
