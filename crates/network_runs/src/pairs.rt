@@ -4,6 +4,7 @@ use crate::drawn::call;
 use crate::draws::{Draws, name_at};
 use crate::networks::{of_links, try_call};
 use crate::seen::{count, kind_of_call, shapes};
+use link_planner::plan_links;
 use net_equal::same_net;
 use net_model::{BondOpts, BridgeOpts, Call, DEFAULT_MTU, Items, Kind, Link, Mac, Net, PortOpts};
 use plan_core::plan;
@@ -44,6 +45,12 @@ fn calls_between(alloc: Global, from: &Net, to: &Net) -> Option<Vec<Call>> {
         return None;
     }
     plan(alloc, from, to).ok()
+}
+
+// Whether the plan for the links of a network to its own links has no call, and leads to the network.
+fn links_stay(alloc: Global, net: &Net) -> Option<bool> {
+    let plan = plan_links(alloc, net, net).ok()?;
+    Some(plan.calls.is_empty() && same_net(&plan.after, net))
 }
 
 // What was seen of the pairs so far.
@@ -102,9 +109,11 @@ impl Pairs {
         Some(())
     }
 
-    // The plan of a network to itself has no call.
+    // The plan of a network to itself has no call, nor has that for its links.
     fn stay(&mut self, alloc: Global, net: &Net) -> Option<()> {
-        if !calls_between(alloc, net, net)?.is_empty() {
+        let calls = calls_between(alloc, net, net)?;
+        let is_still = links_stay(alloc, net)?;
+        if !calls.is_empty() || !is_still {
             self.not_empty = self.not_empty.wrapping_add(1);
         }
         Some(())
