@@ -202,7 +202,7 @@ module _ (r : Run) (p : PolicyData) (opts : ApplyOpts) (doc : Doc) (done : Recov
     leads = ap (λ (o : Outcome Said Cause). o.after) (machine h)
 
     exactly : (result : Result Applied ApplyFault) → ApplyExact (HostRose r) (apply Ask (reads r)) r.host_after result → MayWant r → ExactlyOf r (Ok order) (answer_of result)
-    exactly (Ok done) is wanted = answers_so (Ok done) is.answer
+    exactly (Ok done) is wanted = (answers_so (Ok done) is.answer, is.after ∙ sym leads)
     exactly (Err (Pending deadline)) is wanted = answers_so (Err (Pending deadline)) is.answer
     exactly (Err (MergeRefused refused)) is wanted = answers_so (Err (MergeRefused refused)) is.answer
     exactly (Err (HostFault side)) is wanted = is
@@ -350,4 +350,5 @@ module _ (r : Run) (p : PolicyData) (opts : ApplyOpts) (doc : Doc) (done : Recov
           reads_as = λ a. policy_leaves a.honest (at (reads r)) refl (Only (standing r.host_after.state)) (HostRose r) (HostRoseTwice r) told_result (read_exits_all a.honest a.sound);
           kept = λ a. policy_kept a.honest (kept_all a.honest a.sound);
           spares = λ a. spares a.honest a.sound;
+          looks = tt;
         }

@@ -66,6 +66,12 @@ MayPutHalf r (applying doc opts) = HostRose r
 MayPutHalf r (applying_policy p opts) = HostRose r
 MayPutHalf r order = ⊥
 
+-- where it is done, what stands is what the machine leaves; of a restoring that is said where the host is sound
+abbrev pub StandsAs : Run → Order → Type 0
+StandsAs r rolling_back = Unit {0}
+StandsAs r recovering = Unit {0}
+StandsAs r order = reads_after r ≡ (machine_of r.now (Ok order) (reads r)).after
+
 -- A fault brings the fault answers, and out of memory comes of its own; every other answer is the machine's. A first network's
 -- making is the machine's on each honest host already.
 abbrev pub Exactly : Run → Order → Answer → Type 0
@@ -79,6 +85,7 @@ Exactly r order (Err (NotVerified found left)) = ⊥
 Exactly r order (Err (Damaged area)) = MayPutHalf r order ⊎ (expected r (Ok order) ≡ Err (Damaged area))
 Exactly r order (Err (HardwareDiffers names)) = MayPutHalf r order ⊎ (expected r (Ok order) ≡ Err (HardwareDiffers names))
 Exactly r order (Err OutOfMemory) = MayWant r
+Exactly r order (Ok said) = (expected r (Ok order) ≡ Ok said) × StandsAs r order
 Exactly r order answer = expected r (Ok order) ≡ answer
 
 abbrev pub ExactlyOf : Run → Result Order Cause → Answer → Type 0

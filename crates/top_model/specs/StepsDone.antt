@@ -1,7 +1,7 @@
 -- The steps of a script that were run so far, for proofs, and the line of the status behind a step, which clauses name.
 use Rattle.std.specs.Prelude.{◌≡◌, ◌≤◌, ℕ, Bool, true, false, List, ◌++◌, codes, decimal}
 use Rattle.host_core.specs.Faults.{Rose}
-use Rattle.host_core.specs.Streams.{SinkView, Appends}
+use Rattle.host_core.specs.Streams.{SinkView, Appends, AppendsSome}
 use Rattle.checkpoint_cell.specs.Settled.{Standing}
 use Rattle.engine_model.specs.Sound.{Sound}
 use Rattle.top_model.specs.Said.{line}
@@ -44,9 +44,10 @@ pub record SoFar (done : List Timed) (r : Run) : Type 0 where
   pub inputs : r.source_tells → r.source_after.inputs ≡ r.source.inputs
   pub fold : Alone r → r.source_tells → Quiet r → (SinkRose r → ⊥) → IsSoFar done r
 
--- the status line was written and no count rose, or a sink failed
+-- the status line was written and no count rose, or a sink failed, and a beginning of it was written
 pub record StatusWritten (tells : Type 0) (status : ℕ) (old new : SinkView) (done : Bool) : Type 0 where
   pub all : done ≡ true → tells → Appends (line (codes "= " ++ decimal status)) old new
+  pub some : tells → AppendsSome (line (codes "= " ++ decimal status)) old new
   pub later : old.faults ≤ new.faults
   pub steady : done ≡ true → new.faults ≡ old.faults
   pub failed : done ≡ false → Rose old.faults new.faults

@@ -119,7 +119,7 @@ module _ (r : Run) (doc : Doc) (opts : ApplyOpts) where
   comes (Err OutOfMemory) says exact wants = wants
 
   exactly : (result : Result Applied ApplyFault) → ApplyExact (HostRose r) (apply Ask (reads r)) r.host_after result → MayWant r → ExactlyOf r (Ok (applying doc opts)) (answer_of result)
-  exactly (Ok done) is wants = ap answer_of is.answer
+  exactly (Ok done) is wants = (ap answer_of is.answer, is.after)
   exactly (Err (Pending deadline)) is wants = ap answer_of is.answer
   exactly (Err (MergeRefused refused)) is wants = ap answer_of is.answer
   exactly (Err (HostFault side)) is wants = is
@@ -176,4 +176,5 @@ module _ (r : Run) (doc : Doc) (opts : ApplyOpts) where
       reads_as = λ a. leaves Ask (at (reads r)) (Only (standing r.host_after.state)) (HostRose r) (HostRoseTwice r) result (read_exits a.honest a.sound);
       kept = λ a. kept a.honest a.sound;
       spares = λ a from to stood merges quiet other. undisturbed a.honest a.sound from to stood merges quiet (λ memory. other (ap answer_of memory));
+      looks = tt;
     }

@@ -188,12 +188,12 @@ module _ (r : Run) (nothing : ChangesNothing r.host_tells r.host r.host_after) w
   comes lawful (Err (HardwareDiffers names)) says sound wants = λ t. has_other names t (other r.host_after.fresh (cell_of r.host.state.cell) names (says t).1)
   comes lawful (Err OutOfMemory) says sound wants = wants refl
 
-  exactly : (result : Outcome) → CheckAnswers (check (reads r)) r.host r.host_after result → (IsErrOf result OutOfMemory → MayWant r) → ExactlyOf r (Ok checking) (answer_of result)
-  exactly (Ok seen) is wants = ap answer_of is
-  exactly (Err HostFault) is wants = is
-  exactly (Err (Damaged area)) is wants = inr (ap answer_of is)
-  exactly (Err (HardwareDiffers names)) is wants = inr (ap answer_of is)
-  exactly (Err OutOfMemory) is wants = wants refl
+  exactly : r.host_tells → (result : Outcome) → CheckAnswers (check (reads r)) r.host r.host_after result → (IsErrOf result OutOfMemory → MayWant r) → ExactlyOf r (Ok checking) (answer_of result)
+  exactly t (Ok seen) is wants = (ap answer_of is, same_reads r nothing t)
+  exactly t (Err HostFault) is wants = is
+  exactly t (Err (Damaged area)) is wants = inr (ap answer_of is)
+  exactly t (Err (HardwareDiffers names)) is wants = inr (ap answer_of is)
+  exactly t (Err OutOfMemory) is wants = wants refl
 
   expects : r.host_tells → (result : Outcome) → CheckAnswers (check (reads r)) r.host r.host_after result → (IsErrOf result OutOfMemory → MayWant r) → Expects r (Ok checking) (answer_of result)
   expects t (Ok seen) is wants = record { answer = ap answer_of is; after = same_reads r nothing t }
@@ -229,10 +229,11 @@ module _ (r : Run) (nothing : ChangesNothing r.host_tells r.host r.host_after) w
       tried = tt;
       told = told;
       goes_on = goes_on;
-      exactly = λ honest. exactly result (answers honest) wants;
+      exactly = λ honest. exactly (goes_on.tells honest) result (answers honest) wants;
       expects = λ a. expects (goes_on.tells a.honest) result (answers a.honest) wants;
       leaves = λ a. leaves (entry r) (left_at_exit r) result (exits a.honest a.sound);
       reads_as = λ a. read_exit (goes_on.tells a.honest) result;
       kept = λ a. kept_stays _ r.host r.host_after a.sound nothing.stops;
       spares = λ a. tt;
+      looks = record { state = nothing.state; stops = nothing.stops };
     }

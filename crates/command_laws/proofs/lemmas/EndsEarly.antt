@@ -349,6 +349,7 @@ module _ (r : Run) (p : PolicyData) (opts : ApplyOpts) where
           tried = fault_tried goes_on.tells fault first.says first.begun;
           told = told;
           goes_on = goes_on;
+          looks = tt;
           exactly = λ honest. fault_exactly fault never wants first.says (first.exact honest);
           expects = λ a. fault_expects fault never wants (first.answer a.honest a.sound);
           leaves = λ a. fault_leaves (entry r) (left_at_exit r) (HostRose r) (HostRoseTwice r) (machine_of r.now Policy (reads r)).after (back_settled goes_on a) fault never (taken (entry r) refl a)
@@ -371,6 +372,7 @@ module _ (r : Run) (p : PolicyData) (opts : ApplyOpts) where
       tried = tt;
       told = told;
       goes_on = goes_on;
+      looks = tt;
       exactly = λ honest. refused_answer p opts r.now (reads r) (Pending deadline) (when_waiting p opts r.now (reads r) deadline (first.exact honest));
       expects = λ a. refused_outcome p opts r.now (reads r) (Pending deadline) r.host_after (when_waiting p opts r.now (reads r) deadline (first.exact a.honest)) (first.after a.honest);
       leaves = λ a x there. near_wider (Only (recover r.now (reads r)).after) (Settled r.now (entry r)) (back_settled goes_on a) x (first.exit a.honest a.sound x there);
@@ -476,6 +478,7 @@ module _ (r : Run) (p : PolicyData) (opts : ApplyOpts) (inputs : Inputs) (may_re
         tried = tt;
         told = told;
         goes_on = goes_on;
+        looks = tt;
         exactly = λ honest. wanted;
         expects = λ a. wanted;
         leaves = λ a. inr (inr (tt, λ x there. near_wider (Settled r.now (entry r)) _ (λ y back. inl back) x (settled_exit r p opts goes_on done clear mid first state steps a x there)));
@@ -499,6 +502,7 @@ module _ (r : Run) (p : PolicyData) (opts : ApplyOpts) (inputs : Inputs) (may_re
         tried = fail_tried r p opts done clear (only_settled r done clear mid first none) (λ honest. ap (λ (x : Standing). x.net) (reads_back r p opts goes_on done clear mid first state steps honest));
         told = told;
         goes_on = goes_on;
+        looks = tt;
         exactly = λ honest. rose;
         expects = λ a. rose;
         leaves = λ a. fail_leaves r p opts (entry r) (left_at_exit r) (HostRose r) (HostRoseTwice r) (machine_of r.now (Ok (applying_policy p opts)) (reads r)).after done clear
@@ -537,6 +541,7 @@ module _ (r : Run) (p : PolicyData) (opts : ApplyOpts) (inputs : Inputs) (may_re
         tried = tt;
         told = told;
         goes_on = goes_on;
+        looks = tt;
         exactly = λ honest. inr (refused_answer p opts r.now (reads r) (Damaged 0) (refused honest));
         expects = λ a. refused_outcome p opts r.now (reads r) (Damaged 0) r.host_after (refused a.honest) (reads_back r p opts goes_on done clear mid first look.state look.stops a.honest);
         leaves = λ a. unrestored r p opts done clear (unbegun_exit r p opts goes_on done clear mid first look.state look.stops) (unrestored_net a.honest);
@@ -586,6 +591,7 @@ module _ (r : Run) (p : PolicyData) (opts : ApplyOpts) (inputs : Inputs) (may_re
         tried = tt;
         told = told;
         goes_on = goes_on;
+        looks = tt;
         exactly = λ honest. refused_answer p opts r.now (reads r) (DocRefused fault) (refused honest);
         expects = λ a. refused_outcome p opts r.now (reads r) (DocRefused fault) r.host_after (refused a.honest) (reads_back r p opts goes_on done clear mid first look.state look.stops a.honest);
         leaves = λ a. settled_exit r p opts goes_on done clear mid first look.state look.stops a;

@@ -209,7 +209,7 @@ module _ (r : Run) (p : PolicyData) (nothing : ChangesNothing r.host_tells r.hos
   value_may (Err cause) l = absurd l
 
   value_exactly : (answer : Answer) → Looked r.host_tells r.honest values r.host r.host_after answer → Expects r (Ok (evaluating p)) answer → ExactlyOf r (Ok (evaluating p)) answer
-  value_exactly (Ok said) l is = is.answer
+  value_exactly (Ok said) l is = (is.answer, is.after)
   value_exactly (Err (DocRefused fault)) l is = is.answer
   value_exactly (Err (MergeRefused refused)) l is = is.answer
   value_exactly (Err (CallRefused n k)) l is = is.answer
@@ -238,6 +238,7 @@ module _ (r : Run) (p : PolicyData) (nothing : ChangesNothing r.host_tells r.hos
         reads_as = λ a. reads_before r nothing (ran.goes_on.tells a.honest);
         kept = λ a. kept_stays _ r.host r.host_after a.sound nothing.stops;
         spares = λ a. tt;
+        looks = record { state = nothing.state; stops = nothing.stops };
       }
 
 -- ---- a plan for it
@@ -332,7 +333,7 @@ module _ (r : Run) (p : PolicyData) (in_batch : Bool) (nothing : ChangesNothing 
   plan_may (Err cause) l = absurd l
 
   plan_exactly : (answer : Answer) → Looked r.host_tells r.honest plans r.host r.host_after answer → Expects r (Ok (planning_policy p in_batch)) answer → ExactlyOf r (Ok (planning_policy p in_batch)) answer
-  plan_exactly (Ok said) l is = is.answer
+  plan_exactly (Ok said) l is = (is.answer, is.after)
   plan_exactly (Err (DocRefused fault)) l is = is.answer
   plan_exactly (Err (MergeRefused refused)) l is = is.answer
   plan_exactly (Err (CallRefused n k)) l is = is.answer
@@ -362,6 +363,7 @@ module _ (r : Run) (p : PolicyData) (in_batch : Bool) (nothing : ChangesNothing 
         reads_as = λ a. reads_before r nothing (ran.goes_on.tells a.honest);
         kept = λ a. kept_stays _ r.host r.host_after a.sound nothing.stops;
         spares = λ a. tt;
+        looks = record { state = nothing.state; stops = nothing.stops };
       }
 
 -- ---- what is told of it, with the notes of the document

@@ -132,4 +132,5 @@ module _ (r : Run) (devices : List Link) (first second : Doc) where
           reads_as = λ a. reads_before r nothing (ran.goes_on.tells a.honest);
           kept = λ a. kept_stays _ r.host r.host_after a.sound nothing.stops;
           spares = λ a. tt;
+          looks = tt;
         }

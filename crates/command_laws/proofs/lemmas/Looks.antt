@@ -219,7 +219,7 @@ module _ (r : Run) (only : Option Text) (json : Bool) (nothing : ChangesNothing 
   show_may (Err cause) l = absurd l
 
   show_exactly : (answer : Answer) → Looked r.host_tells r.honest shows r.host r.host_after answer → Expects r (Ok (showing only json)) answer → ExactlyOf r (Ok (showing only json)) answer
-  show_exactly (Ok said) l is = is.answer
+  show_exactly (Ok said) l is = (is.answer, is.after)
   show_exactly (Err (DocRefused fault)) l is = is.answer
   show_exactly (Err (MergeRefused refused)) l is = is.answer
   show_exactly (Err (CallRefused n k)) l is = is.answer
@@ -248,6 +248,7 @@ module _ (r : Run) (only : Option Text) (json : Bool) (nothing : ChangesNothing 
         reads_as = λ a. reads_before r nothing (ran.goes_on.tells a.honest);
         kept = λ a. kept_stays _ r.host r.host_after a.sound nothing.stops;
         spares = λ a. tt;
+        looks = record { state = nothing.state; stops = nothing.stops };
       }
 
 -- ---- plan
@@ -297,7 +298,7 @@ module _ (r : Run) (doc : Doc) (in_batch : Bool) (nothing : ChangesNothing r.hos
   plan_may (Err cause) l = absurd l
 
   plan_exactly : (answer : Answer) → Looked r.host_tells r.honest plans r.host r.host_after answer → Expects r (Ok (planning doc in_batch)) answer → ExactlyOf r (Ok (planning doc in_batch)) answer
-  plan_exactly (Ok said) l is = is.answer
+  plan_exactly (Ok said) l is = (is.answer, is.after)
   plan_exactly (Err (DocRefused fault)) l is = is.answer
   plan_exactly (Err (MergeRefused refused)) l is = is.answer
   plan_exactly (Err (CallRefused n k)) l is = is.answer
@@ -326,4 +327,5 @@ module _ (r : Run) (doc : Doc) (in_batch : Bool) (nothing : ChangesNothing r.hos
         reads_as = λ a. reads_before r nothing (ran.goes_on.tells a.honest);
         kept = λ a. kept_stays _ r.host r.host_after a.sound nothing.stops;
         spares = λ a. tt;
+        looks = record { state = nothing.state; stops = nothing.stops };
       }

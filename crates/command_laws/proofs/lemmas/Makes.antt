@@ -276,4 +276,5 @@ module _ (r : Run) (links : List Link) where
         reads_as = λ honest. leaves r links (ran.goes_on.tells honest) (at (reads r)) (Only (standing r.host_after.state)) (read r links (ran.goes_on.tells honest) result m) result m;
         kept = λ honest. kept r links (ran.goes_on.tells honest) result m;
         spares = λ honest. tt;
+        looks = tt;
       }

@@ -94,7 +94,7 @@ module _ (r : Run) where
   tried (Err fault) gave = tt
 
   exactly : (result : Result Recovered BackFault) → Says result → BackExact (recover r.now (reads r)).answer result → (IsErrOf result OutOfMemory → MayWant r) → ExactlyOf r (Ok recovering) (answer_of result)
-  exactly (Ok x) says is wants = ap answer_of is
+  exactly (Ok x) says is wants = (ap answer_of is, tt)
   exactly (Err NoCheckpoint) says is wants = ap answer_of is
   exactly (Err (HostFault side)) says is wants = says.0
   exactly (Err (KernelRefused k n side)) says is wants = is
@@ -139,4 +139,5 @@ module _ (r : Run) where
       reads_as = λ a. leaves (recover r.now (reads r)).after (at (reads r)) (Only (standing r.host_after.state)) result (read_exits a.honest a.sound);
       kept = λ a. kept a.honest a.sound;
       spares = λ a. tt;
+      looks = tt;
     }

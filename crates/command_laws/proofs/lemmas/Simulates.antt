@@ -146,7 +146,7 @@ module _ (r : Run) (calls : List Call) (nothing : ChangesNothing r.host_tells r.
   simulate_may (Err cause) l = absurd l
 
   simulate_exactly : (answer : Answer) → Looked r.host_tells r.honest simulates r.host r.host_after answer → Expects r (Ok (simulating calls)) answer → ExactlyOf r (Ok (simulating calls)) answer
-  simulate_exactly (Ok said) l is = is.answer
+  simulate_exactly (Ok said) l is = (is.answer, is.after)
   simulate_exactly (Err (DocRefused fault)) l is = is.answer
   simulate_exactly (Err (MergeRefused refused)) l is = is.answer
   simulate_exactly (Err (CallRefused n k)) l is = is.answer
@@ -175,6 +175,7 @@ module _ (r : Run) (calls : List Call) (nothing : ChangesNothing r.host_tells r.
         reads_as = λ a. reads_before r nothing (ran.goes_on.tells a.honest);
         kept = λ a. kept_stays _ r.host r.host_after a.sound nothing.stops;
         spares = λ a. tt;
+        looks = record { state = nothing.state; stops = nothing.stops };
       }
 
 -- ---- the text of it

@@ -27,7 +27,7 @@ use Rattle.top_model.specs.Counts.{Counts}
 use Rattle.top_model.specs.Tried.{Tried}
 use Rattle.top_model.specs.Exits.{AtExit, KeptBy, Reaches}
 use Rattle.top_model.specs.Undisturbed.{Spares, LeavesAlone}
-use Rattle.top_model.specs.Answered.{GoesOn, Rests, Answered}
+use Rattle.top_model.specs.Answered.{GoesOn, Unchanged, LooksAlone, Rests, Answered}
 use Rattle.top_model.specs.declared.report.Cause.{Cause}
 use Rattle.top_model.specs.declared.report.Cause.TheVariants.{Usage, ReadFault, OutOfMemory}
 use Rattle.command_laws.proofs.lemmas.Either.{either}
@@ -357,6 +357,25 @@ exactly_unread r (Ok (making links)) rose = tt
 exactly_unread r (Ok (generating devices first second)) rose = tt
 exactly_unread r (Err refusal) rose = tt
 
+looks_still : (r : Run) → Unchanged (still r)
+looks_still r = record { state = λ t. refl; stops = stays r.host.stops }
+
+looks : (r : Run) (order : Result Order Cause) → LooksAlone (still r) order
+looks r (Ok (showing only json)) = looks_still r
+looks r (Ok (planning doc in_batch)) = looks_still r
+looks r (Ok (evaluating p)) = looks_still r
+looks r (Ok (planning_policy p in_batch)) = looks_still r
+looks r (Ok (simulating calls)) = looks_still r
+looks r (Ok (applying doc how)) = tt
+looks r (Ok (applying_policy p how)) = tt
+looks r (Ok committing) = tt
+looks r (Ok rolling_back) = tt
+looks r (Ok recovering) = tt
+looks r (Ok checking) = looks_still r
+looks r (Ok (making links)) = tt
+looks r (Ok (generating devices first second)) = tt
+looks r (Err refusal) = tt
+
 module _ (r : Run) (untouched : r.untouched) (goes_on : GoesOn (still r)) where
   -- memory ran out
   pub out_of_memory : (order : Result Order Cause) → Gives r order → MayWant r → Told (still r) order (Err OutOfMemory) → Answered (still r)
@@ -376,6 +395,7 @@ module _ (r : Run) (untouched : r.untouched) (goes_on : GoesOn (still r)) where
     reads_as = λ rests. exit_memory r.now (at (reads r)) (Only (standing r.host.state)) (λ s is. near_same (Before (at (reads r))) s is) (HostRose (still r)) (HostRoseTwice (still r)) order;
     kept = λ rests. kept r order OutOfMemory (rests_still r order rests);
     spares = λ rests. spares r order (Err OutOfMemory) goes_on.lawful goes_on.tells (rests_still r order rests);
+    looks = looks r order;
   }
 
   -- the input wasn't read
@@ -396,6 +416,7 @@ module _ (r : Run) (untouched : r.untouched) (goes_on : GoesOn (still r)) where
     reads_as = λ rests. exit_unread r.now (at (reads r)) (Only (standing r.host.state)) (λ s is. near_same (Before (at (reads r))) s is) (HostRose (still r)) (HostRoseTwice (still r)) order file;
     kept = λ rests. kept r order ReadFault (rests_still r order rests);
     spares = λ rests. spares r order (Err ReadFault) goes_on.lawful goes_on.tells (rests_still r order rests);
+    looks = looks r order;
   }
 
   -- words or inputs were refused
@@ -416,4 +437,5 @@ module _ (r : Run) (untouched : r.untouched) (goes_on : GoesOn (still r)) where
     reads_as = λ rests s is. near_same (Before (at (reads r))) s is;
     kept = λ rests. kept r (Err c) c (rests_still r (Err c) rests);
     spares = λ rests. tt;
+    looks = tt;
   }

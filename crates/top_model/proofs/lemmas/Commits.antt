@@ -68,7 +68,7 @@ module _ (r : Run) (is : command_of r.words ≡ Some Commit) (tells_if : r.hones
   expects (Err InDoubt) a t = a.0
 
   exactly : (result : Result ⊤ CommitFault) → CommitAnswers r.host_tells r.now r.host r.host_after result → r.host_tells → ExactlyOf r (Ok committing) (answer_of result)
-  exactly (Ok x) a t = ap answer_of (a t).answer
+  exactly (Ok x) a t = (ap answer_of (a t).answer, (a t).after)
   exactly (Err NoCheckpoint) a t = ap answer_of (a t).answer
   exactly (Err (Unfinished since deadline)) a t = ap answer_of (a t).answer
   exactly (Err (Expired since deadline)) a t = ap answer_of (a t).answer
@@ -104,6 +104,7 @@ module _ (r : Run) (is : command_of r.words ≡ Some Commit) (tells_if : r.hones
       reads_as = λ a. leaves (at (reads r)) (Only (standing r.host_after.state)) result (read_exits (tells_if a.honest) a.sound);
       kept = λ a. kept (tells_if a.honest) a.sound;
       spares = λ a. tt;
+      looks = tt;
       goes_on = goes_on;
     }
 

@@ -47,6 +47,7 @@ exact r calls quiet (Err (Damaged area)) (inr is) = inl is
 exact r calls quiet (Err (HardwareDiffers names)) (inl never) = absurd never
 exact r calls quiet (Err (HardwareDiffers names)) (inr is) = inl is
 exact r calls quiet (Err OutOfMemory) is = inr refl
+exact r calls quiet (Ok said) is = inl is.0
 exact r calls quiet answer is = inl is
 
 pub simulated_from : (r : Run) → Answered r → Simulated r
