@@ -4,8 +4,11 @@ use crate::hex::{bytes_of_hex, push_hex};
 use base_model::{OutOfMemory, push_decimal};
 use case_table::first_word;
 use checkpoint_cell::{CellFault, Phase, Seen, barrier, due, load, peek};
+use engine_core::settle;
+use engine_model::BackFault;
 use host_memory::MemoryHost;
 use net_image::encode;
+use net_model::Net;
 use std::alloc::Global;
 
 fn push_seen(seen: Seen, out: &mut Vec<u8>) -> Result<(), OutOfMemory> {
@@ -54,6 +57,39 @@ pub fn push_area(alloc: Global, digits: &str, out: &mut Vec<u8>) -> Result<(), O
     }
     out.extend_from_slice(b", ")?;
     push_loaded(alloc, &mut host, out)
+}
+
+// The network that is saved in an area.
+fn saved(alloc: Global, area: Vec<u8>) -> Result<Option<Net>, OutOfMemory> {
+    let mut host = MemoryHost::new(alloc, None, area, Vec::new(alloc));
+    match load(&mut host, alloc) {
+        Ok(Some(pending)) => Ok(Some(pending.net.copy()?)),
+        Ok(None) => Ok(None),
+        Err(CellFault::OutOfMemory) => Err(OutOfMemory),
+        Err(_) => Ok(None),
+    }
+}
+
+/// Appends what settling answers over the network that is saved in an area, and what the area reads as then: `MOMENT DIGITS`.
+pub fn push_settled(alloc: Global, case: &str, out: &mut Vec<u8>) -> Result<(), OutOfMemory> {
+    let (moment, digits) = first_word(case);
+    let net = saved(alloc, bytes_of_hex(alloc, digits)?)?;
+    let area = bytes_of_hex(alloc, digits)?;
+    let mut host = MemoryHost::new(alloc, net, area, Vec::new(alloc));
+    match settle(&mut host, alloc, number(moment)) {
+        Ok(Some(until)) => {
+            out.extend_from_slice(b"waits ")?;
+            push_decimal(until, out)?;
+        }
+        Ok(None) => out.extend_from_slice(b"settled")?,
+        Err(BackFault::OutOfMemory) => return Err(OutOfMemory),
+        Err(_) => out.extend_from_slice(b"fault")?,
+    }
+    out.extend_from_slice(b", ")?;
+    match peek(&mut host) {
+        Ok(seen) => push_seen(seen, out),
+        Err(_) => Ok(out.extend_from_slice(b"failed")?),
+    }
 }
 
 fn number(word: &str) -> u64 {

@@ -1,6 +1,6 @@
 //! Stored bytes: images, checkpoint areas, and what a disk in memory holds.
 
-use crate::cells::{push_area, push_due};
+use crate::cells::{push_area, push_due, push_settled};
 use crate::disks::push_steps;
 use crate::images::push_image;
 use base_model::OutOfMemory;
@@ -17,6 +17,7 @@ pub fn answer(
         "image" => push_image(alloc, case, out)?,
         "area" => push_area(alloc, case, out)?,
         "due" => push_due(case, out)?,
+        "settled" => push_settled(alloc, case, out)?,
         "disk" => push_steps(alloc, case, out)?,
         _ => return Ok(false),
     }
