@@ -4,6 +4,7 @@ pub mod Rollbacks
 pub mod Recovers
 pub mod Applies
 pub mod EndsEarly
+pub mod EndsUnchanged
 pub mod PolicySeen
 pub mod PolicyAnswers
 pub mod PolicyRefused

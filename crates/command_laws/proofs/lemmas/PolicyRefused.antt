@@ -26,7 +26,8 @@ use Rattle.answer_text.specs.Speaking.{Spoken}
 use Rattle.answer_text.proofs.lemmas.Told.{starved_line, told_refused}
 use Rattle.order_reading.specs.Reading.{Answers, itself}
 use Rattle.command_laws.specs.Begun.{look_cause, Seen}
-use Rattle.command_laws.proofs.lemmas.EndsEarly.{recovery_cause, refused_late, ran_out}
+use Rattle.command_laws.proofs.lemmas.EndsEarly.{recovery_cause}
+use Rattle.command_laws.proofs.lemmas.EndsUnchanged.{refused_late, ran_out}
 use Rattle.command_laws.proofs.lemmas.Evaluates.{document_refused}
 
 -- a refusal was told, with the cause that was made of a fault

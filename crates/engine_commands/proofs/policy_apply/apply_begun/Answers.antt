@@ -6,7 +6,7 @@ use Rattle.top_model.specs.Grounds.{Grounds}
 use Rattle.top_model.specs.Answered.{GoesOn}
 use Rattle.top_model.proofs.lemmas.Taken.{takes_only}
 use Rattle.command_laws.specs.Begun.{Looks, look_cause}
-use Rattle.command_laws.proofs.lemmas.EndsEarly.{failed_look}
+use Rattle.command_laws.proofs.lemmas.EndsUnchanged.{failed_look}
 use Rattle.command_laws.proofs.lemmas.PolicySeen.{later}
 use Rattle.command_laws.proofs.lemmas.PolicyRefused.{told_plain, look_err}
 use Rattle.engine_commands.proofs.policy_apply.apply_begun.Goals as goal

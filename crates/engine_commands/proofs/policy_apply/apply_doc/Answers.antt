@@ -7,7 +7,7 @@ use Rattle.top_model.specs.Answered.{GoesOn}
 use Rattle.top_model.specs.declared.report.Cause.TheVariants.{OutOfMemory}
 use Rattle.top_model.proofs.lemmas.Taken.{takes_only}
 use Rattle.answer_text.proofs.lemmas.Told.{starved_line, told_refused}
-use Rattle.command_laws.proofs.lemmas.EndsEarly.{ran_out}
+use Rattle.command_laws.proofs.lemmas.EndsUnchanged.{ran_out}
 use Rattle.command_laws.proofs.lemmas.PolicySeen.{seen_later}
 use Rattle.engine_commands.proofs.policy_apply.apply_doc.Goals as goal
 

@@ -1,5 +1,5 @@
 use Rattle.doc_tree.specs.Shape.{shape, pair_shape}
-use Rattle.policy_lang.proofs.Walks.{made_on, both_same}
+use Rattle.policy_lang.proofs.lemmas.Walks.{made_on, both_same}
 use Rattle.policy_lang.proofs.copy.+copies.Goals as goal
 
 pub copy_trees-loop-tree-preserved : goal.copy_trees-loop-tree-preserved

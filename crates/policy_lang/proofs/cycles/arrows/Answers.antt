@@ -1,7 +1,7 @@
 use Rattle.std.proofs.Common.{◌∙◌}
 use Rattle.net_model.specs.Words.{positions}
 use Rattle.policy_model.specs.Policies.{names_capture}
-use Rattle.policy_lang.proofs.Walks.{row_on}
+use Rattle.policy_lang.proofs.lemmas.Walks.{row_on}
 use Rattle.policy_lang.proofs.cycles.arrows.Goals as goal
 
 pub loop-capture-preserved : goal.loop-capture-preserved

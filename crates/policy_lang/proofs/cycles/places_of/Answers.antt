@@ -2,7 +2,7 @@ use Rattle.std.proofs.Common.{◌∙◌, ◌+◌, ◌++◌, ◌∷◌, [], ℕ, 
 use Rattle.net_model.specs.Words.{positions}
 use Rattle.policy_model.specs.Policies.{have_name}
 use Rattle.policy_model.specs.declared.Capture.{Capture}
-use Rattle.policy_lang.proofs.Walks.{passed}
+use Rattle.policy_lang.proofs.lemmas.Walks.{passed}
 use Rattle.policy_lang.proofs.cycles.places_of.Goals as goal
 use Rattle.policy_lang.proofs.cycles.places_of.Goals.{then-is_named+in_ok-push, else-is_named}
 

@@ -2,7 +2,8 @@ use Rattle.std.proofs.Common.{◌∙◌, ◌+◌, drop, ◌++◌, ◌∷◌, [],
 use Rattle.policy_model.specs.Keys.{Text}
 use Rattle.policy_model.specs.Reading.{step_of, steps_of, and_step}
 use Rattle.policy_model.specs.declared.Step.{Step}
-use Rattle.policy_lang.proofs.Walks.{passed, settles, all_passed, no_steps_yet, step_on, steps_end}
+use Rattle.policy_lang.proofs.lemmas.Walks.{passed, settles, all_passed}
+use Rattle.policy_lang.proofs.Walks.{no_steps_yet, step_on, steps_end}
 use Rattle.policy_lang.proofs.expression.steps_of.Goals as goal
 
 pub loop-part-init : goal.loop-part-init

@@ -3,7 +3,7 @@ use Rattle.doc_tree.specs.Shape.{shape, pair_shape, pairs_of}
 use Rattle.doc_tree.specs.declared.Tree.{Tree}
 use Rattle.policy_model.specs.Policies.{string_in, captures_of}
 use Rattle.policy_model.specs.declared.Capture.{Capture}
-use Rattle.policy_lang.proofs.Walks.{passed}
+use Rattle.policy_lang.proofs.lemmas.Walks.{passed}
 use Rattle.policy_lang.proofs.shape.captures_of.Goals as goal
 
 pub loop-pair-preserved : goal.loop-pair-preserved

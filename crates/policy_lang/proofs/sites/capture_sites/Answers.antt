@@ -1,5 +1,5 @@
 use Rattle.policy_model.specs.Policies.{capture_site}
-use Rattle.policy_lang.proofs.Walks.{row_on}
+use Rattle.policy_lang.proofs.lemmas.Walks.{row_on}
 use Rattle.policy_lang.proofs.sites.capture_sites.Goals as goal
 
 pub loop-capture-preserved : goal.loop-capture-preserved

@@ -5,7 +5,7 @@ use Rattle.doc_tree.specs.declared.Tree.{Tree}
 use Rattle.policy_model.specs.Places.{filled, filled_among, filled_under}
 use Rattle.policy_values.specs.Tables.{found_in, filler, seen}
 use Rattle.policy_values.proofs.Sized.{no_room}
-use Rattle.policy_lang.proofs.Walks.{passed}
+use Rattle.policy_lang.proofs.lemmas.Walks.{passed}
 use Rattle.policy_values.proofs.Walks.{fits_on}
 use Rattle.policy_values.proofs.filling.+filled_levels.Goals as goal
 

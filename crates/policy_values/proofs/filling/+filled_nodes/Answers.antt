@@ -6,7 +6,7 @@ use Rattle.policy_model.specs.Values.{nodes, nodes_among, nodes_under}
 use Rattle.policy_values.specs.Sizes.{left_behind}
 use Rattle.policy_values.specs.Tables.{found_in, filler, seen}
 use Rattle.policy_values.proofs.Sized.{none_left}
-use Rattle.policy_lang.proofs.Walks.{passed}
+use Rattle.policy_lang.proofs.lemmas.Walks.{passed}
 use Rattle.policy_values.proofs.Walks.{count_on}
 use Rattle.policy_values.proofs.filling.+filled_nodes.Goals as goal
 

@@ -5,7 +5,7 @@ use Rattle.policy_model.specs.Places.{filled, filled_among, filled_under}
 use Rattle.policy_values.specs.Tables.{found_in, filler, seen}
 use Rattle.policy_values.specs.Lists.{filled_pair}
 use Rattle.policy_values.proofs.Listed.{filled_done, filled_pairs_done}
-use Rattle.policy_lang.proofs.Walks.{made_on, both_same}
+use Rattle.policy_lang.proofs.lemmas.Walks.{made_on, both_same}
 use Rattle.policy_values.proofs.filling.+filling.Goals as goal
 
 pub filled_among-loop-tree-preserved : goal.filled_among-loop-tree-preserved

@@ -3,7 +3,7 @@ use Rattle.doc_tree.specs.Shape.{shape, shapes_of, pair_shape, pairs_of}
 use Rattle.doc_tree.specs.declared.Tree.{Tree}
 use Rattle.policy_model.specs.Values.{nodes, nodes_among, nodes_under}
 use Rattle.policy_values.specs.Sizes.{left_behind}
-use Rattle.policy_lang.proofs.Walks.{passed, settles}
+use Rattle.policy_lang.proofs.lemmas.Walks.{passed, settles}
 use Rattle.policy_values.proofs.Walks.{count_on, count_past}
 use Rattle.policy_values.proofs.size.+counting.Goals as goal
 

@@ -2,7 +2,7 @@ use Rattle.std.proofs.Common.{◌∙◌, Bool, List, ℕ, map, sym, ap, false}
 use Rattle.std.specs.Prelude.{nat_le}
 use Rattle.doc_tree.specs.Shape.{shape, shapes_of, pair_shape, pairs_of, levels, shapes_levels, pairs_levels}
 use Rattle.doc_tree.specs.declared.Tree.{Tree}
-use Rattle.policy_lang.proofs.Walks.{passed, settles}
+use Rattle.policy_lang.proofs.lemmas.Walks.{passed, settles}
 use Rattle.policy_values.proofs.Walks.{fits_on, fits_not}
 use Rattle.policy_values.proofs.size.+fitting.Goals as goal
 

@@ -4,7 +4,7 @@ use Rattle.std.specs.Str.{bytes_eq}
 use Rattle.doc_tree.specs.Shape.{shape, shapes_of, pair_shape, pairs_of}
 use Rattle.doc_tree.specs.declared.Tree.{Tree}
 use Rattle.policy_model.specs.Steps.{matches, some_matches, matches_under}
-use Rattle.policy_lang.proofs.Walks.{passed}
+use Rattle.policy_lang.proofs.lemmas.Walks.{passed}
 use Rattle.policy_values.proofs.steps.+matching.Goals as goal
 
 pub some_matches-loop-tree-preserved : goal.some_matches-loop-tree-preserved

@@ -1,5 +1,5 @@
 use Rattle.policy_values.specs.Tables.{names}
-use Rattle.policy_lang.proofs.Walks.{row_on}
+use Rattle.policy_lang.proofs.lemmas.Walks.{row_on}
 use Rattle.policy_values.proofs.values.all_names.Goals as goal
 
 pub loop-capture-preserved : goal.loop-capture-preserved

@@ -1,6 +1,6 @@
 use Rattle.std.proofs.Common.{◌∙◌, ap}
 use Rattle.policy_values.specs.Tables.{found_in, have_values, seen}
-use Rattle.policy_lang.proofs.Walks.{row_on}
+use Rattle.policy_lang.proofs.lemmas.Walks.{row_on}
 use Rattle.policy_values.proofs.values.are_ready.Goals as goal
 
 pub loop-these-preserved : goal.loop-these-preserved

@@ -4,7 +4,7 @@ use Rattle.doc_tree.specs.Shape.{Shape, shape}
 use Rattle.policy_model.specs.Values.{steps_value}
 use Rattle.policy_model.specs.declared.Step.{Step}
 use Rattle.policy_values.specs.Tables.{found_in, seen}
-use Rattle.policy_lang.proofs.Walks.{passed, all_passed}
+use Rattle.policy_lang.proofs.lemmas.Walks.{passed, all_passed}
 use Rattle.policy_values.proofs.values.steps_value.Goals as goal
 
 pub loop-step-preserved : goal.loop-step-preserved
