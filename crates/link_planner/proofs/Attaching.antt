@@ -1,5 +1,6 @@
 -- A port that is attached to the controller that it has in target.
 use Rattle.std.proofs.Common.{◌≡◌, ℕ, true, false, List, [], ◌∷◌, Option, Some, None, Ok, refl, sym, ap, ◌∙◌, lit<}
+use Rattle.std.specs.Prelude.{option_map}
 use Rattle.std.specs.List.{list_any}
 use Rattle.net_model.specs.Address.{Block}
 use Rattle.net_model.specs.Links.{find_link, is_bond, is_bond_or_bridge, takes}
@@ -88,7 +89,7 @@ module _ (d : DraftData) (h : Holds d) (stands : MayBuildUp 9 d) (n c : List ℕ
   pub attach_next : IsNext AttachPorts d n (Attach n c)
   attach_next =
       let e : IsEdit SameController d n (Attach n c) =
-      edited SameController d h n link there pair stands.toward (Attach n c) (attached c) taken refl leads.0 leads.1 (λ same. other (ap (λ (l : Link). l.controller) same ∙ has))
+      edited SameController d h n link there pair stands.toward (Attach n c) (attached c) taken refl (ap (option_map (λ (x : Link). x.controller)) pair.at ∙ ap Some has) leads.0 leads.1 (λ same. other (ap (λ (l : Link). l.controller) same ∙ has))
       (record { kind = way.kind; up = way.up; controller = λ d e. has ∙ e; bond_port = λ u d b h fb bond. sym has ∙ h; addrs = way.addrs })
       (record { mtu = λ h. h; enough_mtu = λ h. h; mac = λ h. h; near_bond = λ h. h; bond = λ h. h; bridge = λ h. h; controller = λ _. sym has; port = λ h. sym plain ∙ h; up = λ h. h }) (sym has) in
       record { safe = e.safe; moves = e.grows; done = e.done; counted = refl }

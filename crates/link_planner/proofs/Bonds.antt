@@ -1,5 +1,6 @@
 -- Options of a bond that are set.
-use Rattle.std.proofs.Common.{◌≡◌, inl, ℕ, true, List, Some, Ok, refl, sym, ap, ◌∙◌, lit<}
+use Rattle.std.proofs.Common.{◌≡◌, inl, inr, ℕ, true, List, Some, None, Ok, refl, sym, ap, ◌∙◌, lit<}
+use Rattle.std.specs.Prelude.{option_map}
 use Rattle.net_model.specs.Links.{is_bond, ports_of}
 use Rattle.net_model.specs.Options.{bond_ok}
 use Rattle.net_model.specs.declared.link.Link.{Link}
@@ -14,6 +15,7 @@ use Rattle.kernel_model.specs.Kernel.{step, after}
 use Rattle.kernel_laws.specs.Frames.{Leads}
 use Rattle.kernel_laws.proofs.lemmas.Leading.{has_frame}
 use Rattle.kernel_laws.proofs.lemmas.Taking.{is_accepted}
+use Rattle.plan_model.specs.Wants.{Wants}
 use Rattle.link_planner.specs.declared.phase.Phase.TheVariants.{AttachPorts, SetBonds, SetPrimaries}
 use Rattle.link_planner.specs.Drafts.{DraftData, Holds}
 use Rattle.link_planner.specs.Pairs.{ArePair}
@@ -50,9 +52,14 @@ module _ (d : DraftData) (h : Holds d) (toward : IsToward d.target d.net) (n : L
   leads : Leads (SetBond n o) d.net (after (SetBond n o) d.net)
   leads = has_frame (SetBond n o) d.net (after (SetBond n o) d.net) h.net taken
 
+  -- these are target's options, or those without the primary
+  wanted : NearBond t.bond o → Wants d.start d.target (SetBond n o)
+  wanted (inl same) = inl (ap (option_map (λ (x : Link). x.bond)) pair.at ∙ ap Some (sym same))
+  wanted (inr without) = inr (ap (option_map (λ (x : Link). record x.bond { primary = None })) pair.at ∙ ap Some (sym without))
+
   bond_edit : (R : Link → Link → Type 0) → R (with_bond o l) t → IsEdit R d n (SetBond n o)
   bond_edit R reached =
-      edited R d h n l t pair toward (SetBond n o) (with_bond o) taken refl leads.0 leads.1 (λ same. other (ap (λ (x : Link). x.bond) same))
+      edited R d h n l t pair toward (SetBond n o) (with_bond o) taken refl (wanted near) leads.0 leads.1 (λ same. other (ap (λ (x : Link). x.bond) same))
       (record { kind = way.kind; up = way.up; controller = way.controller; bond_port = way.bond_port; addrs = way.addrs })
       (record { mtu = λ h. h; enough_mtu = λ h. h; mac = λ h. h; near_bond = λ _. near; bond = stays; bridge = λ h. h; controller = λ h. h; port = λ h. h; up = λ h. h }) reached
 

@@ -1,5 +1,6 @@
 -- Options of a bridge that are set.
 use Rattle.std.proofs.Common.{◌≡◌, ℕ, true, List, Ok, refl, ap, ◌∙◌}
+use Rattle.std.specs.Prelude.{option_map}
 use Rattle.net_model.specs.Links.{is_bridge}
 use Rattle.net_model.specs.declared.link.Link.{Link}
 use Rattle.net_model.specs.declared.call.Call.TheVariants.{SetBridge}
@@ -25,7 +26,7 @@ bridge_next d h n l t pair stands differs =
     let leads : Leads (SetBridge n t.bridge) d.net (after (SetBridge n t.bridge) d.net) = has_frame (SetBridge n t.bridge) d.net (after (SetBridge n t.bridge) d.net) h.net taken in
     let w : IsOnWay d.target l t = way_of d.target d.net stands.toward n l t pair.here pair.at in
     let e : IsEdit SameBridge d n (SetBridge n t.bridge) =
-    edited SameBridge d h n l t pair stands.toward (SetBridge n t.bridge) (with_bridge t.bridge) taken refl leads.0 leads.1 (λ same. differs (ap (λ (x : Link). x.bridge) same))
+    edited SameBridge d h n l t pair stands.toward (SetBridge n t.bridge) (with_bridge t.bridge) taken refl (ap (option_map (λ (x : Link). x.bridge)) pair.at) leads.0 leads.1 (λ same. differs (ap (λ (x : Link). x.bridge) same))
     (record { kind = w.kind; up = w.up; controller = w.controller; bond_port = w.bond_port; addrs = w.addrs })
     (record { mtu = λ h. h; enough_mtu = λ h. h; mac = λ h. h; near_bond = λ h. h; bond = λ h. h; bridge = λ _. refl; controller = λ h. h; port = λ h. h; up = λ h. h }) refl in
     record { safe = e.safe; moves = e.grows; done = e.done; counted = found_passing (λ (x : Link). is_bridge x.kind) d.target.links n t pair.at (ap is_bridge w.kind ∙ bridge) }

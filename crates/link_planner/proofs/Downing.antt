@@ -21,7 +21,7 @@ use Rattle.kernel_model.specs.Addresses.{has_block}
 use Rattle.net_model.specs.Edits.{same_route}
 use Rattle.kernel_model.specs.Kernel.{step, after}
 use Rattle.kernel_laws.specs.Frames.{Leads}
-use Rattle.net_model.proofs.lemmas.ByName.{passing_found, some_same}
+use Rattle.net_model.proofs.lemmas.ByName.{found_passing, passing_found, some_same}
 use Rattle.kernel_laws.proofs.lemmas.Leading.{has_frame}
 use Rattle.kernel_laws.proofs.lemmas.Taking.{is_accepted}
 use Rattle.kernel_laws.proofs.lemmas.StepKeeps.{hangs_on_it}
@@ -130,6 +130,7 @@ module _ (start target net : NetData) (first : IsNet start) (good : IsNet target
   down_safe = record {
     accepted = taken;
     spares = spares_name start target (Down n) n refl touched;
+    wants = found_passing (must_fall start target) start.links n must.old must.old_found root;
     undisturbed = record {
       links = λ m calm. stays m calm ∙ quiet.links m calm;
       routes = λ r calm here there. route_stays r calm (quiet.routes r calm here there);

@@ -23,7 +23,7 @@ begun calm start target devices = record { led = refl; undisturbed = calm start 
 -- and so is one with a safe call more
 pub drafted : OneMore → (call : Call) (d : DraftData) (next : NetData) → IsNet d.net → IsDraft d → IsSafe d.start d.target call d.net → step call d.net ≡ Ok next → IsDraft (draft_of d.start d.target next (d.calls ++ call ∷ []))
 drafted one_more call d next is draft safe stepped = record {
-  led = one_more d.start d.target d.calls call d.start d.net next draft.led stepped safe.spares (subst (IsUndisturbed d.start d.target) (made d.start d.target call d.net next safe stepped) safe.undisturbed);
+  led = one_more d.start d.target d.calls call d.start d.net next draft.led stepped safe.spares safe.wants (subst (IsUndisturbed d.start d.target) (made d.start d.target call d.net next safe stepped) safe.undisturbed);
   undisturbed = subst (IsUndisturbed d.start d.target) (made d.start d.target call d.net next safe stepped) safe.undisturbed;
   devices = (run_keeps (call ∷ []) d.net next is (next, stepped, refl)).1 ∙ draft.devices;
 }

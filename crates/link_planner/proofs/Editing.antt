@@ -12,6 +12,7 @@ use Rattle.kernel_laws.specs.Frames.{ChangesLink, KeepsRest}
 use Rattle.net_model.proofs.lemmas.ByName.{some_same}
 use Rattle.plan_model.specs.Touched.{IsCalm}
 use Rattle.plan_model.specs.Undisturbed.{acts_on, IsUndisturbed, has_route}
+use Rattle.plan_model.specs.Wants.{Wants}
 use Rattle.link_planner.specs.Drafts.{DraftData, Holds, IsSafe, with_call}
 use Rattle.link_planner.specs.Pairs.{ArePair}
 use Rattle.link_planner.specs.Growing.{IsOnWay, IsToward, IsAsNear, IsNearer, Reaches}
@@ -81,12 +82,12 @@ pub record IsEdit (R : Link → Link → Type 0) (d : DraftData) (n : List ℕ) 
   pub grows : Grows d (with_call call d)
   pub done : Reaches R d.target (after call d.net) n
 
-pub edited : (R : Link → Link → Type 0) (d : DraftData) → Holds d → (n : List ℕ) (l t : Link) → ArePair d n l t → IsToward d.target d.net → (call : Call) (change : Link → Link) → step call d.net ≡ Ok (after call d.net) → acts_on call ≡ Some n
+pub edited : (R : Link → Link → Type 0) (d : DraftData) → Holds d → (n : List ℕ) (l t : Link) → ArePair d n l t → IsToward d.target d.net → (call : Call) (change : Link → Link) → step call d.net ≡ Ok (after call d.net) → acts_on call ≡ Some n → Wants d.start d.target call
     → ChangesLink n change d.net (after call d.net) → KeepsRest d.net (after call d.net) → (l ≡ t → ⊥) → IsOnWay d.target (change l) t → IsAsNear t l (change l) → R (change l) t → IsEdit R d n call
-edited R d h n l t pair toward call change taken acts frame rest other way near reached =
+edited R d h n l t pair toward call change taken acts wants frame rest other way near reached =
     let touched : IsCalm d.start d.target n → ⊥ = touched_where_differs d.start d.target d.net h.draft.undisturbed n (λ same. other (some_same l t (sym pair.here ∙ same ∙ pair.at))) in
     record {
-      safe = record { accepted = taken; spares = spares_name d.start d.target call n acts touched; undisturbed = edit_quiet d.target d.net (after call d.net) n change frame rest l t pair.here pair.at d.start touched h.draft.undisturbed };
+      safe = record { accepted = taken; spares = spares_name d.start d.target call n acts touched; wants = wants; undisturbed = edit_quiet d.target d.net (after call d.net) n change frame rest l t pair.here pair.at d.start touched h.draft.undisturbed };
       grows = record {
         toward = edit_toward d.target d.net (after call d.net) n change frame rest l t pair.here pair.at way toward;
         nearer = edit_nearer d.target d.net (after call d.net) n change frame rest l t pair.here pair.at near;

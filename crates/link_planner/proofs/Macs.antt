@@ -1,5 +1,6 @@
 -- A MAC that is set.
 use Rattle.std.proofs.Common.{◌≡◌, ℕ, List, Ok, refl, ap}
+use Rattle.std.specs.Prelude.{option_map}
 use Rattle.net_model.specs.declared.link.Link.{Link}
 use Rattle.net_model.specs.declared.call.Call.TheVariants.{SetMac}
 use Rattle.kernel_model.specs.Settings.{with_mac}
@@ -20,7 +21,7 @@ mac_next d h n l t pair stands differs =
     let leads : Leads (SetMac n t.mac) d.net (after (SetMac n t.mac) d.net) = has_frame (SetMac n t.mac) d.net (after (SetMac n t.mac) d.net) h.net taken in
     let w : IsOnWay d.target l t = way_of d.target d.net stands.toward n l t pair.here pair.at in
     let e : IsEdit SameMac d n (SetMac n t.mac) =
-    edited SameMac d h n l t pair stands.toward (SetMac n t.mac) (with_mac t.mac) taken refl leads.0 leads.1 (λ same. differs (ap (λ (x : Link). x.mac) same))
+    edited SameMac d h n l t pair stands.toward (SetMac n t.mac) (with_mac t.mac) taken refl (ap (option_map (λ (x : Link). x.mac)) pair.at) leads.0 leads.1 (λ same. differs (ap (λ (x : Link). x.mac) same))
     (record { kind = w.kind; up = w.up; controller = w.controller; bond_port = w.bond_port; addrs = w.addrs })
     (record { mtu = λ h. h; enough_mtu = λ h. h; mac = λ _. refl; near_bond = λ h. h; bond = λ h. h; bridge = λ h. h; controller = λ h. h; port = λ h. h; up = λ h. h }) refl in
     record { safe = e.safe; moves = e.grows; done = e.done; counted = refl }

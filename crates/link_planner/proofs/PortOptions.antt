@@ -1,5 +1,6 @@
 -- Options of a bridge's port that are set.
 use Rattle.std.proofs.Common.{◌≡◌, ℕ, true, List, Some, Ok, refl, ap, lit<}
+use Rattle.std.specs.Prelude.{option_map}
 use Rattle.net_model.specs.Links.{is_bridge}
 use Rattle.net_model.specs.declared.link.Link.{Link}
 use Rattle.net_model.specs.declared.call.Call.TheVariants.{SetPort}
@@ -27,7 +28,7 @@ port_next d h n l t pair stands differs =
     let leads : Leads (SetPort n t.port) d.net (after (SetPort n t.port) d.net) = has_frame (SetPort n t.port) d.net (after (SetPort n t.port) d.net) h.net taken in
     let w : IsOnWay d.target l t = way_of d.target d.net stands.toward n l t pair.here pair.at in
     let e : IsEdit SamePort d n (SetPort n t.port) =
-    edited SamePort d h n l t pair stands.toward (SetPort n t.port) (with_port t.port) taken refl leads.0 leads.1 (λ same. differs (ap (λ (x : Link). x.port) same))
+    edited SamePort d h n l t pair stands.toward (SetPort n t.port) (with_port t.port) taken refl (ap (option_map (λ (x : Link). x.port)) pair.at) leads.0 leads.1 (λ same. differs (ap (λ (x : Link). x.port) same))
     (record { kind = w.kind; up = w.up; controller = w.controller; bond_port = w.bond_port; addrs = w.addrs })
     (record { mtu = λ h. h; enough_mtu = λ h. h; mac = λ h. h; near_bond = λ h. h; bond = λ h. h; bridge = λ h. h; controller = λ h. h; port = λ _. refl; up = λ h. h }) refl in
     record { safe = e.safe; moves = e.grows; done = e.done; counted = refl }

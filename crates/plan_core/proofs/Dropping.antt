@@ -24,10 +24,11 @@ use Rattle.kernel_laws.proofs.lemmas.Leading.{has_frame}
 use Rattle.kernel_laws.proofs.lemmas.Taking.{is_accepted}
 use Rattle.plan_model.specs.Touched.{IsCalm}
 use Rattle.plan_model.specs.Undisturbed.{acts_on, Spares, IsUndisturbed, has_route}
+use Rattle.plan_model.specs.Wants.{has_address}
 use Rattle.link_planner.specs.Drafts.{DraftData, Holds, IsSafe}
 use Rattle.link_planner.specs.LinkPlans.{without_addrs}
 use Rattle.link_planner.proofs.lemmas.Advancing.{one_call}
-use Rattle.plan_core.specs.Parts.{has_address, HasAddress, HasRoute, HasRule, IsPartOf, AddressFits, RouteFits, RuleFits}
+use Rattle.plan_core.specs.Parts.{HasAddress, HasRoute, HasRule, IsPartOf, AddressFits, RouteFits, RuleFits}
 use Rattle.plan_core.specs.Steps.{IsTaking}
 use Rattle.plan_core.proofs.Members.{any_kept, any_was, none_left}
 use Rattle.plan_core.proofs.Exact.{one_route}
@@ -50,10 +51,11 @@ touched_by start target net quiet n b v w here there differ calm =
     differ (sym here ∙ ap (λ o. option_map_or (λ (l : Link). has_block b l.addrs) o false) (quiet.links n calm ∙ calm.same) ∙ there)
 
 module _ (start target net : NetData) (is : IsNet net) (quiet : IsUndisturbed start target net) where
-  drop_rule_safe : (r : RuleParts) → HasRule net r → IsSafe start target (DelRule r) net
-  drop_rule_safe r there = record {
+  drop_rule_safe : (r : RuleParts) → HasRule net r → list_any (same_rule r) target.rules ≡ false → IsSafe start target (DelRule r) net
+  drop_rule_safe r there off = record {
     accepted = is_accepted (DelRule r) net is there;
     spares = spares_all start target (DelRule r) refl;
+    wants = off;
     undisturbed = record { links = quiet.links; routes = quiet.routes };
   }
 
@@ -67,6 +69,7 @@ module _ (start target net : NetData) (is : IsNet net) (quiet : IsUndisturbed st
   drop_route_safe r there off = record {
     accepted = is_accepted (DelRoute r) net is there;
     spares = spares_all start target (DelRoute r) refl;
+    wants = off;
     undisturbed = record { links = quiet.links; routes = λ q calm a b. any_kept (same_route q) (λ x. not (same_route r x)) (stays q b) net.routes (quiet.routes q calm a b) };
   }
     where
@@ -102,6 +105,7 @@ module _ (start target net : NetData) (is : IsNet net) (quiet : IsUndisturbed st
     drop_address_safe off = record {
       accepted = taken;
       spares = spares_name start target (DelAddress n b) n refl touched;
+      wants = off;
       undisturbed = record {
         links = λ m calm. elim (same_bytes m n) as (λ v. same_bytes m n ≡ v → find_link m (after (DelAddress n b) net).links ≡ find_link m start.links) [
           | true ↦ λ e. absurd (touched (subst (IsCalm start target) (one_name m n e) calm))
@@ -141,8 +145,8 @@ module _ (start target net : NetData) (is : IsNet net) (quiet : IsUndisturbed st
         absurd cc
 
 -- in a draft
-pub rule_taking : (d : DraftData) → Holds d → (r : RuleParts) → HasRule d.net r → IsTaking (λ x. RuleFits x.target x.net r) d (DelRule r)
-rule_taking d h r there = record { safe = drop_rule_safe d.start d.target d.net h.net h.draft.undisturbed r there; takes = record { advances = one_call d (DelRule r); part = drop_rule_part d.start d.target d.net h.net h.draft.undisturbed r; done = drop_rule_done d.start d.target d.net h.net h.draft.undisturbed r } }
+pub rule_taking : (d : DraftData) → Holds d → (r : RuleParts) → HasRule d.net r → list_any (same_rule r) d.target.rules ≡ false → IsTaking (λ x. RuleFits x.target x.net r) d (DelRule r)
+rule_taking d h r there off = record { safe = drop_rule_safe d.start d.target d.net h.net h.draft.undisturbed r there off; takes = record { advances = one_call d (DelRule r); part = drop_rule_part d.start d.target d.net h.net h.draft.undisturbed r; done = drop_rule_done d.start d.target d.net h.net h.draft.undisturbed r } }
 
 pub route_taking : (d : DraftData) → Holds d → (r : Route) → HasRoute d.net r → has_route r d.target.routes ≡ false → IsTaking (λ x. RouteFits x.target x.net r) d (DelRoute r)
 route_taking d h r there off = record { safe = drop_route_safe d.start d.target d.net h.net h.draft.undisturbed r there off; takes = record { advances = one_call d (DelRoute r); part = drop_route_part d.start d.target d.net h.net h.draft.undisturbed r; done = drop_route_done d.start d.target d.net h.net h.draft.undisturbed r } }
@@ -158,5 +162,6 @@ dns_safe d h dns same =
     record {
       accepted = is_accepted (SetDns dns) d.net h.net (subst (λ (x : Dns). (length x.servers ≤ 16) × (length x.search ≤ 16)) (sym same) (few, searched));
       spares = spares_all d.start d.target (SetDns dns) refl;
+      wants = same;
       undisturbed = record { links = h.draft.undisturbed.links; routes = h.draft.undisturbed.routes };
     }

@@ -6,8 +6,7 @@ use Rattle.net_model.specs.NetData.{NetData}
 use Rattle.net_model.specs.declared.link.Link.{Link}
 use Rattle.net_model.specs.declared.call.Call.{Call}
 use Rattle.plan_model.specs.Laws.{IsRun, IsGentleRun}
-use Rattle.plan_model.specs.Undisturbed.{LeadsCalmly}
-use Rattle.plan_model.specs.Plans.{IsPlan, name_count, part_count, most_calls}
+use Rattle.plan_model.specs.Plans.{LeadsCalmly, IsPlan, name_count, part_count, most_calls}
 use Rattle.link_planner.specs.Drafts.{DraftData, Holds, Advances, draft_of}
 use Rattle.link_planner.specs.LinkPlans.{IsReady, ReachesLinks}
 use Rattle.link_planner.proofs.lemmas.Advancing.{advances_least, advances_more, of_ends}

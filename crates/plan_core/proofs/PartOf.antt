@@ -15,10 +15,11 @@ use Rattle.net_model.proofs.lemmas.FactsHold.{facts}
 use Rattle.net_model.proofs.lemmas.Grounded.{found_named}
 use Rattle.net_model.proofs.lemmas.Parts.{le_of, not_le}
 use Rattle.kernel_model.specs.Addresses.{has_block}
+use Rattle.plan_model.specs.Wants.{has_address}
 use Rattle.link_planner.specs.Kept.{is_kept}
 use Rattle.link_planner.specs.Shrinking.{IsLess, IsShrunk, KeepsPorts}
 use Rattle.link_planner.specs.LinkPlans.{without_addrs, IsReady}
-use Rattle.plan_core.specs.Parts.{has_address, HasAddress, IsPartOf, EachLink, EachRoute, EachRule, LinkFits, LinkIsFilled, RouteFits, RuleFits}
+use Rattle.plan_core.specs.Parts.{HasAddress, IsPartOf, EachLink, EachRoute, EachRule, LinkFits, LinkIsFilled, RouteFits, RuleFits}
 
 pub part_itself : (net : NetData) → IsPartOf net net
 part_itself net = record { links = λ n. refl; addrs = λ n b h. h; routes = λ r h. h; rules = λ r h. h }

@@ -1,7 +1,6 @@
 -- What of one network stands in another.
-use Rattle.std.specs.Prelude.{◌≡◌, ℕ, ◌<◌, Bool, true, false, List, length, option_map, slice_index_or}
+use Rattle.std.specs.Prelude.{◌≡◌, ℕ, ◌<◌, true, List, length, option_map, slice_index_or}
 use Rattle.std.specs.List.{list_any}
-use Rattle.std.specs.Option.{option_map_or}
 use Rattle.net_model.specs.Address.{Block}
 use Rattle.net_model.specs.Rule.{RuleParts}
 use Rattle.net_model.specs.Links.{find_link}
@@ -11,14 +10,11 @@ use Rattle.net_model.specs.declared.Link.{Link}
 use Rattle.net_model.specs.declared.Route.{Route}
 use Rattle.kernel_model.specs.Addresses.{has_block}
 use Rattle.plan_model.specs.Undisturbed.{has_route}
+use Rattle.plan_model.specs.Wants.{has_address}
 use Rattle.link_planner.specs.Kept.{is_kept}
 use Rattle.link_planner.specs.LinkPlans.{without_addrs}
 
--- the link of this name is there and has the address, with its length
-abbrev pub has_address : NetData → List ℕ → Block → Bool
-has_address net name block = option_map_or (λ l. has_block block l.addrs) (find_link name net.links) false
-
--- the address, the route, the rule is there
+-- the address, with its length, the route, the rule is there
 abbrev pub HasAddress : NetData → List ℕ → Block → Type 0
 HasAddress net name block = has_address net name block ≡ true
 

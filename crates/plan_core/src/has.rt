@@ -7,7 +7,7 @@ ghost use Rattle.net_model.specs.Valid.{addresses_differ, same_block, same_rule}
 ghost use Rattle.kernel_model.specs.Addresses.{has_block};
 ghost use Rattle.net_model.specs.Edits.{same_route};
 ghost use Rattle.plan_model.specs.Undisturbed.{has_route};
-ghost use Rattle.plan_core.specs.Parts.{has_address};
+ghost use Rattle.plan_model.specs.Wants.{has_address};
 
 use net_model::{Name, Net, Position, Prefix, Route, Rule, address_position};
 

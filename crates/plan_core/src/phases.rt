@@ -38,8 +38,9 @@ fn phases(alloc: Global, now_net: &Net, to_net: &Net) -> Result<Vec<Call>, OutOf
 }
 
 /// The calls that lead from one network to another of the same devices, each accepted: none acts on a link that needn't be
-/// touched, those are as they were after each call, and there are at most twelve calls for each name of a link, one for
-/// each address, route and rule of either network, and one more. From a network to itself there is no call.
+/// touched, each gives what the other network has, or takes away what it hasn't or what is in the way, links that needn't
+/// be touched are as they were after each call, and there are at most twelve calls for each name of a link, one for each
+/// address, route and rule of either network, and one more. From a network to itself there is no call.
 pub fn plan(alloc: Global, now_net: &Net, to_net: &Net) -> Result<Vec<Call>, OutOfMemory>
     requires { hardware now_net.now.links ≡ hardware to_net.now.links }
     ensures { IfOk result (λ calls. IsPlan now_net.now to_net.now calls.items) }

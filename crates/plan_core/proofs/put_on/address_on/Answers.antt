@@ -1,5 +1,5 @@
 use Rattle.std.proofs.Common.{rules, ◌≡◌, false}
-use Rattle.plan_core.specs.Parts.{has_address}
+use Rattle.plan_model.specs.Wants.{has_address}
 use Rattle.plan_core.proofs.AddingAddress.{address_putting}
 use Rattle.plan_core.proofs.put_on.address_on.Goals as goal
 

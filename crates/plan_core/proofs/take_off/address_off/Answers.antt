@@ -1,5 +1,6 @@
 use Rattle.std.proofs.Common.{rules, ◌≡◌, false}
-use Rattle.plan_core.specs.Parts.{has_address, HasAddress}
+use Rattle.plan_model.specs.Wants.{has_address}
+use Rattle.plan_core.specs.Parts.{HasAddress}
 use Rattle.plan_core.proofs.Dropping.{address_taking}
 use Rattle.plan_core.proofs.take_off.address_off.Goals as goal
 
