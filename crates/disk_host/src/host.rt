@@ -8,7 +8,7 @@ use crate::kept::Kept;
 use host_core::Disk;
 
 /// A host over a disk: area 0 is the kernel, area 1 the checkpoint. A kernel call is whole or not done, wherever a stop
-/// comes. Its faults are its own and those of the disk.
+/// comes. Its faults are those of the disk, and its own where the disk tells nothing.
 #[derive(Drop)]
 pub struct DiskHost<D: Disk> {
     pub(crate) disk: D,
@@ -23,4 +23,5 @@ pub struct DiskHost<D: Disk> {
     pub(crate) last_call: u64,
     ghost sure: { settled ≡ true → IsSettled D.tells (D.told disk) },
     ghost known: { ForSome kept (λ k. D.tells → IsTold k (D.told disk).areas.kernel) },
+    ghost none_own: { D.tells → faults ≡ 0 },
 }

@@ -45,6 +45,8 @@ impl<D: Disk> DiskHost<D> {
         ensures over { IsOver (D.told result) (⟦<DiskHost<D> as Host>⟧.told self) }
         ensures area { (D.told result).areas.kernel ≡ kernel_area D.Disk self }
         ensures faults { (D.told result).faults ≤ (⟦<DiskHost<D> as Host>⟧.told self).faults }
+        // Over a disk that tells its content the host has no fault of its own.
+        ensures none_own { D.tells → (D.told result).faults ≡ (⟦<DiskHost<D> as Host>⟧.told self).faults }
     {
         let DiskHost { disk, .. } = self;
         disk

@@ -72,4 +72,5 @@ invariant_of-self g c =
           subst (λ (k : Kept). IsTold k (g.D.Disk.told c.read_synced.new.disk).areas.kernel) one ((is_kept g at tells).second, ap parts_held (is_kept g at tells).held))
           (λ none. let e : None ≡ Some x = sym none ∙ is in absurd cc)
           c.copied-net.ensures.kept;
+      none_own = c.args.self.now.none_own;
     }

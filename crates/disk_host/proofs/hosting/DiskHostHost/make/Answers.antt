@@ -60,4 +60,5 @@ invariant_of-self g c = record {
         λ none. was.1 (sym (ap (λ (a : Areas). kernel_net a.kernel) kept.1) ∙ none),
       );
   known = λ k is. absurd (let e : None ≡ Some k = is in cc);
+  none_own = c.args.self.now.none_own;
 }
