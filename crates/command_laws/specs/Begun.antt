@@ -16,6 +16,7 @@ use Rattle.engine_model.specs.Answers.{IsBefore, IsClear}
 use Rattle.engine_model.specs.Stations.{Only, Kept, at, entry_of, left_by}
 use Rattle.engine_model.specs.Exit.{BackExit}
 use Rattle.engine_model.specs.Refusals.{BackCounts}
+use Rattle.engine_model.specs.Failing.{IsUnbegun}
 use Rattle.engine_model.specs.Faults.{BackAnswers, BackExact, BackSays, HasTaken}
 use Rattle.engine_model.specs.declared.Left.{Left}
 use Rattle.engine_model.specs.declared.Left.TheVariants.{NotBegun, RolledBack}
@@ -44,9 +45,8 @@ pub record Recovers (tells honest : Type 0) (now : ℕ) (old new : HostView) (re
   pub waiting : tells → (deadline : ℕ) → result ≡ Ok (Waits deadline) → (recover now (standing old.state)).answer ≡ Ok (Waits deadline)
   pub restored : tells → result ≡ Ok Restored → HasTaken now (standing old.state).cell
   pub cleared : tells → IfOk result (λ done. IsClear done → Holds None new)
-  pub same : tells → result ≡ Ok Nothing → new.state ≡ old.state
-  pub stays : result ≡ Ok Nothing → Steps Stays old.stops new.stops
-  pub waiting_same : tells → (deadline : ℕ) → result ≡ Ok (Waits deadline) → new.state ≡ old.state
+  pub idle : IfOk result (λ done. done ≢ Restored → IsUnbegun tells old new)
+  pub unbegun : IfErr result (λ fault. IsBefore fault → IsUnbegun tells old new)
   pub after : honest → OnOk result (standing new.state ≡ (recover now (standing old.state)).after)
   pub begun : tells → IfErr result (λ fault. (IsBefore fault → ⊥) → HasTaken now (standing old.state).cell)
   pub moment : old.stops.moment ≤ new.stops.moment

@@ -15,6 +15,7 @@ use Rattle.engine_model.specs.Answers.{IsClear}
 use Rattle.engine_model.specs.Stations.{Stands, Entry, Only, Settled, Either, Kept, entry_of, at}
 use Rattle.engine_model.specs.Exit.{ApplyExit}
 use Rattle.engine_model.specs.Refusals.{NoCallMade, ApplyCounts}
+use Rattle.engine_model.specs.Failing.{IsUnbegun, ApplyIdle}
 use Rattle.engine_model.specs.Faults.{ApplyAnswers, ApplyExact, ApplySays, MayStandHalf, Tries, FailsTwice, Dumps, Backs, HadDamaged, HasTaken}
 use Rattle.engine_model.specs.declared.Left.{Left}
 use Rattle.engine_model.specs.declared.Left.TheVariants as sides
@@ -51,8 +52,8 @@ use Rattle.answer_text.specs.Speaking.{Spoken}
 use Rattle.answer_text.proofs.lemmas.Told.{written, told_refused}
 use Rattle.command_laws.specs.Begun.{side_of, Seen, Wants, told_side, fault_notes}
 use Rattle.command_laws.proofs.lemmas.Applies.{answer_of, tried}
-use Rattle.command_laws.proofs.lemmas.PolicySeen.{given, failed, same_given, same_doc, sided, never_pending, seen_faults, seen_moment, seen_quiet, seen_unmade, seen_taken, seen_none, seen_same, seen_stays, seen_answer, seen_after, seen_found, seen_kept, seen_left, seen_alone}
-use Rattle.command_laws.proofs.lemmas.PolicyAnswers.{Unpending, unpending, may, may_want, leaves}
+use Rattle.command_laws.proofs.lemmas.PolicySeen.{given, failed, same_given, same_doc, sided, never_pending, seen_faults, seen_moment, seen_quiet, seen_unbegun, seen_taken, seen_none, seen_answer, seen_after, seen_found, seen_kept, seen_left, seen_alone}
+use Rattle.command_laws.proofs.lemmas.PolicyAnswers.{Unpending, unpending, may, may_want, leaves, unbegun}
 
 module _ (p : PolicyData) (opts : ApplyOpts) (now : ℕ) where
   ground_clear : (e : Standing) (answer : Result Recovered BackFault) (done : Recovered) → answer ≡ Ok done → IsClear done → ground_after e answer ≡ e.net
@@ -87,8 +88,11 @@ module _ (r : Run) (p : PolicyData) (opts : ApplyOpts) (doc : Doc) (done : Recov
   none : r.host_tells → (standing mid.state).cell ≡ None
   none = seen_none r.host_tells r.honest tells_of r.now done r.host between mid wants.net seen
 
+  idle : side_of done ≡ sides.NotBegun → IsUnbegun r.host_tells r.host mid
+  idle = seen_unbegun r.host_tells r.honest tells_of r.now done r.host between mid wants.net seen
+
   same : side_of done ≡ sides.NotBegun → r.host_tells → mid.state ≡ r.host.state
-  same = seen_same r.host_tells r.honest tells_of r.now done r.host between mid wants.net seen
+  same is = (idle is).same
 
   faults : r.host.faults ≤ mid.faults
   faults = seen_faults r.host_tells r.honest tells_of r.now done r.host between mid wants.net seen
@@ -97,7 +101,7 @@ module _ (r : Run) (p : PolicyData) (opts : ApplyOpts) (doc : Doc) (done : Recov
   quiet = seen_quiet r.host_tells r.honest tells_of r.now done r.host between mid wants.net seen
 
   unmade : side_of done ≡ sides.NotBegun → NoCallMade r.host.kernel mid.kernel
-  unmade = seen_unmade r.host_tells r.honest tells_of r.now done r.host between mid wants.net seen
+  unmade is = (idle is).unmade
 
   taken : side_of done ≡ sides.RolledBack → r.host_tells → HasTaken r.now (reads r).cell
   taken = seen_taken r.host_tells r.honest tells_of r.now done r.host between mid wants.net seen
@@ -243,7 +247,7 @@ module _ (r : Run) (p : PolicyData) (opts : ApplyOpts) (doc : Doc) (done : Recov
   -- ---- all of it, from the change
 
   module _ (result : Result Applied ApplyFault)
-      (says : ApplySays r.host_tells Ask mid r.host_after result) (counts : ApplyCounts mid.kernel r.host_after.kernel result)
+      (says : ApplySays r.host_tells Ask mid r.host_after result) (counts : ApplyCounts mid.kernel r.host_after.kernel result) (last : ApplyIdle r.host_tells r.now mid r.host_after result)
       (tries : Tries (MayStandHalf r.host_tells Ask mid) mid.faults mid.kernel.refusals r.host_after result)
       (twice : r.honest → FailsTwice (HasTaken r.now (standing mid.state).cell) mid.faults r.host_after result)
       (dumps : Dumps r.host_tells opts.no_verify r.host_after result)
@@ -272,6 +276,9 @@ module _ (r : Run) (p : PolicyData) (opts : ApplyOpts) (doc : Doc) (done : Recov
 
     says_all : ApplySays r.host_tells Ask r.host r.host_after told_result
     says_all = go.says r.host_tells Ask back r.host mid r.host_after (never_pending done) faults quiet none same unmade taken result says had_damaged
+
+    never_waits : Unpending r.host_tells told_result
+    never_waits = unpending r.host_tells Ask back mid r.host_after none result says
 
     counts_all : PolicyCounted r.host_tells r.host.kernel r.host_after.kernel (answer_of told_result)
     counts_all = go.counts r.host_tells Ask back r.host mid r.host_after (never_pending done) faults quiet none same unmade taken result says counts
@@ -329,7 +336,7 @@ module _ (r : Run) (p : PolicyData) (opts : ApplyOpts) (doc : Doc) (done : Recov
           let doc_is : doc ≡ other = same_doc doc other (sym wants.reads ∙ ap (document_on p) net_is ∙ has) in
           (calm h kept_mid.sound from to stands (ap (merge from) doc_is ∙ merges) (λ rose. no_fault (rose_after r.host.faults mid.faults r.host_after.faults faults rose))
           (λ memory. no_memory (ap (λ (x : Result Applied ApplyFault). answer_of (go.told_as back x)) memory))
-          r.host.stops.moment moment (record { pair = go.first_spared from to r.host mid goes_on.lawful.stops (goes_on.lawful.reads (tells_of h)) sound stood (seen_stays r.host_tells r.honest tells_of r.now done r.host between mid wants.net seen begun) })).pair
+          r.host.stops.moment moment (record { pair = go.first_spared from to r.host mid goes_on.lawful.stops (goes_on.lawful.reads (tells_of h)) sound stood (idle begun).stops })).pair
 
     pub answered : (inputs : Inputs) → MayRead r inputs → order_of r.in_script inputs r.words ≡ Ok order → Told r (Ok order) (answer_of told_result) → Answered r
     answered inputs may_read is told =
@@ -339,7 +346,7 @@ module _ (r : Run) (p : PolicyData) (opts : ApplyOpts) (doc : Doc) (done : Recov
           gives = (inputs, may_read, is);
           answer = answer_of told_result;
           may = may p opts told_result;
-          comes = comes told_result says_all exact_all (unpending r.host_tells Ask back mid r.host_after none result says) wanted;
+          comes = comes told_result says_all exact_all never_waits wanted;
           counts = counts_all;
           tried = tried r doc opts told_result says_all tries_all twice_all dumps_all backs_all;
           exactly = λ honest. exactly honest told_result (exact_all honest) wanted;
@@ -351,4 +358,5 @@ module _ (r : Run) (p : PolicyData) (opts : ApplyOpts) (doc : Doc) (done : Recov
           kept = λ a. policy_kept a.honest (kept_all a.honest a.sound);
           spares = λ a. spares a.honest a.sound;
           looks = tt;
+          unbegun = unbegun r p opts back mid (never_pending done) none idle taken result last never_waits;
         }

@@ -1,13 +1,10 @@
 -- Answers that aren't the same.
-use Rattle.std.proofs.Common.{◌≡◌, ◌≤◌, ◌⊎◌, inl, inr, ℕ, Result, Ok, Err, arith}
+use Rattle.std.proofs.Common.{◌≡◌, ◌≤◌, ◌⊎◌, ◌∙◌, inl, inr, ℕ, sym, Result, Ok, Err, arith}
 use Rattle.std.specs.Prelude.{⊤}
 use Rattle.net_model.specs.NetData.{NetData}
-use Rattle.document_model.specs.declared.Refused.{Refused}
-use Rattle.engine_model.specs.declared.answers.Left.{Left}
-use Rattle.engine_model.specs.declared.answers.Left.TheVariants.{NotBegun}
-use Rattle.engine_model.specs.declared.answers.Applied.{Applied}
-use Rattle.engine_model.specs.declared.answers.ApplyFault.{ApplyFault}
-use Rattle.engine_model.specs.declared.answers.ApplyFault.TheVariants as ap_
+use Rattle.engine_model.specs.declared.answers.Left.TheVariants.{NotBegun, RolledBack}
+use Rattle.engine_model.specs.declared.answers.Recovered.{Recovered}
+use Rattle.engine_model.specs.declared.answers.Recovered.TheVariants.{Nothing, Waiting, Restored}
 use Rattle.engine_model.specs.declared.answers.CommitFault.{CommitFault}
 use Rattle.engine_model.specs.declared.answers.CommitFault.TheVariants as co
 use Rattle.engine_core.specs.declared.missed.Missed.{Missed}
@@ -23,20 +20,15 @@ later_on a b c one two = omega (arith, one, two)
 
 -- ---- of an apply
 
-abbrev failed : ApplyFault → Result Applied ApplyFault
-failed fault = Err fault
+-- a settling that took nothing back didn't restore
+pub waiting_kept : (deadline : ℕ) {done : Recovered} → done ≡ Waiting deadline → done ≡ Restored → ⊥
+waiting_kept deadline waits is = let e : Waiting deadline ≡ Restored = sym waits ∙ is in cc
 
-pub left_unbegun : (left : Left) → failed (ap_.HostFault left) ≡ failed (ap_.HostFault NotBegun) → left ≡ NotBegun
-left_unbegun left is = let e : failed (ap_.HostFault left) ≡ failed (ap_.HostFault NotBegun) = is in cc
+pub nothing_kept : {done : Recovered} → done ≡ Nothing → done ≡ Restored → ⊥
+nothing_kept nothing is = let e : Nothing ≡ Restored = sym nothing ∙ is in cc
 
-pub damaged_unbegun : {area : ℕ} → failed (ap_.Damaged area) ≡ failed (ap_.HostFault NotBegun) → ⊥
-damaged_unbegun {area} is = let e : failed (ap_.Damaged area) ≡ failed (ap_.HostFault NotBegun) = is in cc
-
-pub memory_unbegun : failed ap_.OutOfMemory ≡ failed (ap_.HostFault NotBegun) → ⊥
-memory_unbegun is = let e : failed ap_.OutOfMemory ≡ failed (ap_.HostFault NotBegun) = is in cc
-
-pub refused_unbegun : (rule : Refused) → failed (ap_.MergeRefused rule) ≡ failed (ap_.HostFault NotBegun) → ⊥
-refused_unbegun rule is = let e : failed (ap_.MergeRefused rule) ≡ failed (ap_.HostFault NotBegun) = is in cc
+pub back_begun : RolledBack ≡ NotBegun → ⊥
+back_begun is = let e : RolledBack ≡ NotBegun = is in cc
 
 -- ---- why a change missed
 

@@ -9,3 +9,4 @@ mod Exacts
 mod Tries
 mod Calms
 mod Apart
+mod Idles

@@ -15,7 +15,7 @@ use Rattle.merge_model.specs.MergedNet.{merge}
 use Rattle.engine_model.specs.Machine.{Asked, asked, apply, apply_step, apply_fault, Outcome, stays}
 use Rattle.engine_model.specs.Stations.{Any, Waits}
 use Rattle.engine_model.specs.Refusals.{NoCallMade}
-use Rattle.engine_model.specs.Failing.{Fails}
+use Rattle.engine_model.specs.Failing.{IsUnbegun, Fails}
 use Rattle.engine_model.specs.Faults.{IsDamaged, ApplySays, GaveSaved, GaveBack, StandsDamaged}
 use Rattle.engine_model.specs.declared.answers.Left.{Left}
 use Rattle.engine_model.specs.declared.answers.Left.TheVariants.{NotBegun, RolledBack, Pending}
@@ -30,7 +30,7 @@ use Rattle.engine_model.proofs.lemmas.Refusals.{quiet_on, settled_on}
 use Rattle.engine_model.proofs.lemmas.Failing.{fails_rose}
 use Rattle.engine_core.specs.declared.missed.Missed.{Missed}
 use Rattle.engine_core.specs.declared.missed.Missed.TheVariants as missed
-use Rattle.engine_core.specs.Saying.{Start, start_of, Follows, DamagedSince, IsSet, Why, SettledBy, Said, taken_back_as, pending_as, damaged_as, stopped_as}
+use Rattle.engine_core.specs.Saying.{Start, start_of, Follows, DamagedSince, IsSet, Why, SettledBy, Said, taken_back_as, pending_as, damaged_as, stopped_as, IsGivenUp}
 
 abbrev merged_with : NetData → Result NetData Refused
 merged_with to = Ok to
@@ -110,11 +110,11 @@ left_settled tells now start old new settled unmade = settled_on tells now start
 
 -- what was to be taken back was, by calls, or no checkpoint stood
 abbrev pub Returned : HostView → HostView → Type 0
-Returned old new = GaveSaved new ⊎ ((cell_of old.state.cell ≡ None) × (new.kernel ≡ old.kernel))
+Returned old new = GaveSaved new ⊎ ((cell_of old.state.cell ≡ None) × NoCallMade old.kernel new.kernel)
 
-pub returned : (tells : Type 0) (old new : HostView) (was : Bool) → (tells → was ≡ true → GaveSaved new) → (tells → was ≡ false → cell_of old.state.cell ≡ None) → (was ≡ false → new.kernel ≡ old.kernel) → tells → Returned old new
-returned tells old new true gave empty unmade told = inl (gave told refl)
-returned tells old new false gave empty unmade told = inr (empty told refl, unmade refl)
+pub returned : (tells : Type 0) (old new : HostView) (was : Bool) → (tells → was ≡ true → GaveSaved new) → (tells → was ≡ false → cell_of old.state.cell ≡ None) → (was ≡ false → IsUnbegun tells old new) → tells → Returned old new
+returned tells old new true gave empty idle told = inl (gave told refl)
+returned tells old new false gave empty idle told = inr (empty told refl, (idle refl).unmade)
 
 -- with a checkpoint, by calls
 gave_of : (tells : Type 0) (old new : HostView) → IsSet old → Returned old new → GaveSaved new
@@ -123,7 +123,7 @@ gave_of tells old new set (inr none) = absurd (never_none (cell_of old.state.cel
 
 back_of : (tells : Type 0) (now : ℕ) (start : Start) (old new : HostView) → (cell_of old.state.cell ≡ None → SettledBy tells now start old) → Returned old new → GaveBack tells now start.state start.kernel new
 back_of tells now start old new settled (inl gave) = inl gave
-back_of tells now start old new settled (inr none) = inr (left_settled tells now start old new (settled none.0) (inl none.1))
+back_of tells now start old new settled (inr none) = inr (left_settled tells now start old new (settled none.0) none.1)
 
 module _ (tells : Type 0) (doc : Doc) (opts : ApplyOpts) (made : ℕ) (start : Start) (old new : HostView) (faults : start.faults ≤ old.faults) (moment : start.moment ≤ old.stops.moment) (bare : tells → old.state.net ≡ None → new.state ≡ old.state) where
   -- it was
@@ -178,36 +178,36 @@ module _ (tells : Type 0) (doc : Doc) (opts : ApplyOpts) (made : ℕ) (start : S
     stopped_says (missed.Differs found) fault is steps fails unset = pending_says fault fails unset
     stopped_says missed.OutOfMemory fault is steps fails unset = tt
 
--- none of it says that nothing was begun
-pub begun_taken : (why : Missed) → taken_back_as why ≡ ap_.HostFault NotBegun → ⊥
-begun_taken missed.Failed is = cc
-begun_taken (missed.Refused k n) is = cc
-begun_taken missed.Damaged is = cc
-begun_taken (missed.Differs found) is = cc
-begun_taken missed.OutOfMemory is = cc
+-- none of it says that nothing was begun, nor that the end is in doubt
+pub taken_begun : (why : Missed) → IsGivenUp (taken_back_as why)
+taken_begun missed.Failed = tt
+taken_begun (missed.Refused k n) = tt
+taken_begun missed.Damaged = tt
+taken_begun (missed.Differs found) = tt
+taken_begun missed.OutOfMemory = tt
 
-begun_pending : (fault : BackFault) → pending_as fault ≡ ap_.HostFault NotBegun → ⊥
-begun_pending ba.NoCheckpoint is = cc
-begun_pending (ba.HostFault left) is = cc
-begun_pending (ba.KernelRefused k n left) is = cc
-begun_pending (ba.Damaged area) is = cc
-begun_pending (ba.HardwareDiffers names) is = cc
-begun_pending ba.OutOfMemory is = cc
+pending_begun : (fault : BackFault) → IsGivenUp (pending_as fault)
+pending_begun ba.NoCheckpoint = tt
+pending_begun (ba.HostFault left) = tt
+pending_begun (ba.KernelRefused k n left) = tt
+pending_begun (ba.Damaged area) = tt
+pending_begun (ba.HardwareDiffers names) = tt
+pending_begun ba.OutOfMemory = tt
 
-begun_damaged : (fault : BackFault) → damaged_as fault ≡ ap_.HostFault NotBegun → ⊥
-begun_damaged ba.NoCheckpoint is = cc
-begun_damaged (ba.HostFault left) is = cc
-begun_damaged (ba.KernelRefused k n left) is = cc
-begun_damaged (ba.Damaged area) is = cc
-begun_damaged (ba.HardwareDiffers names) is = cc
-begun_damaged ba.OutOfMemory is = cc
+damaged_begun : (fault : BackFault) → IsGivenUp (damaged_as fault)
+damaged_begun ba.NoCheckpoint = tt
+damaged_begun (ba.HostFault left) = tt
+damaged_begun (ba.KernelRefused k n left) = tt
+damaged_begun (ba.Damaged area) = tt
+damaged_begun (ba.HardwareDiffers names) = tt
+damaged_begun ba.OutOfMemory = tt
 
-pub begun_stopped : (why : Missed) (fault : BackFault) → stopped_as why fault ≡ ap_.HostFault NotBegun → ⊥
-begun_stopped missed.Failed fault is = begun_pending fault is
-begun_stopped (missed.Refused k n) fault is = begun_pending fault is
-begun_stopped missed.Damaged fault is = begun_damaged fault is
-begun_stopped (missed.Differs found) fault is = begun_pending fault is
-begun_stopped missed.OutOfMemory fault is = cc
+pub stopped_begun : (why : Missed) (fault : BackFault) → IsGivenUp (stopped_as why fault)
+stopped_begun missed.Failed fault = pending_begun fault
+stopped_begun (missed.Refused k n) fault = pending_begun fault
+stopped_begun missed.Damaged fault = damaged_begun fault
+stopped_begun (missed.Differs found) fault = pending_begun fault
+stopped_begun missed.OutOfMemory fault = tt
 
 -- ---- where the change is made
 
@@ -224,9 +224,9 @@ finished_says tells doc opts made start from to mid new (Ok applied) merges le v
 finished_says tells doc opts made start from to mid new (Err fault) merges le verified fresh saved doubt rose ended =
     subst (λ (f : ApplyFault). Said tells (asked doc opts made) start new (Err f)) (sym doubt) (rose_after start.faults mid.faults new.faults le rose, ended)
 
-pub finished_begun : (result : Result Applied ApplyFault) → IfErr result (λ fault. fault ≡ ap_.InDoubt) → result ≡ Err (ap_.HostFault NotBegun) → ⊥
-finished_begun (Ok applied) doubt is = cc
-finished_begun (Err fault) doubt is = cc
+pub finished_begun : (result : Result Applied ApplyFault) → IfErr result (λ fault. fault ≡ ap_.InDoubt) → IfErr result (λ fault. IsGivenUp fault ⊎ (fault ≡ ap_.InDoubt))
+finished_begun (Ok applied) doubt = tt
+finished_begun (Err fault) doubt = inr doubt
 
 -- ---- where it isn't begun
 
@@ -325,18 +325,3 @@ module _ (tells : Type 0) (told : tells) (t area : ℕ) (old new : HostView) (la
   -- what the settling found damaged was left since that moment
   pub unsettled_damaged : (answer : ApplyFault) (fault : BackFault) → answer ≡ apply_fault fault → failed_as answer ≡ failed_as (ap_.Damaged area) → Fails tells old new fault → DamagedSince t area new
   unsettled_damaged answer fault as_is is = settling_damaged fault (sym as_is ∙ same_fault answer (ap_.Damaged area) is)
-
--- the settling began nothing where it says so
-settling_unbegun : (tells : Type 0) (old new : HostView) (fault : BackFault) → apply_fault fault ≡ ap_.HostFault NotBegun → Fails tells old new fault → Steps Stays old.stops new.stops
-settling_unbegun tells old new ba.NoCheckpoint is fails = absurd fails
-settling_unbegun tells old new (ba.HostFault left) is fails =
-    let e : ap_.HostFault left ≡ ap_.HostFault NotBegun = is in
-    let same : left ≡ NotBegun = cc in
-    (subst (λ (l : Left). Fails tells old new (ba.HostFault l)) same fails).1.stops
-settling_unbegun tells old new (ba.KernelRefused k n left) is fails = let e : ap_.KernelRefused k n left ≡ ap_.HostFault NotBegun = is in absurd (cc)
-settling_unbegun tells old new (ba.Damaged area) is fails = let e : ap_.Damaged area ≡ ap_.HostFault NotBegun = is in absurd (cc)
-settling_unbegun tells old new (ba.HardwareDiffers names) is fails = let e : ap_.HardwareDiffers names ≡ ap_.HostFault NotBegun = is in absurd (cc)
-settling_unbegun tells old new ba.OutOfMemory is fails = let e : ap_.OutOfMemory ≡ ap_.HostFault NotBegun = is in absurd (cc)
-
-pub unsettled_unbegun : (tells : Type 0) (old new : HostView) (answer : ApplyFault) (fault : BackFault) → answer ≡ apply_fault fault → failed_as answer ≡ failed_as (ap_.HostFault NotBegun) → Fails tells old new fault → Steps Stays old.stops new.stops
-unsettled_unbegun tells old new answer fault as_is is = settling_unbegun tells old new fault (sym as_is ∙ same_fault answer (ap_.HostFault NotBegun) is)

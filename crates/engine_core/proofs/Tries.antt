@@ -24,7 +24,7 @@ use Rattle.engine_model.specs.Machine.{apply_fault}
 use Rattle.engine_core.specs.declared.missed.Missed.{Missed}
 use Rattle.engine_core.specs.declared.missed.Missed.TheVariants as missed
 use Rattle.engine_core.specs.Attempts.{IsFault}
-use Rattle.engine_core.specs.Saying.{Start, Why, taken_back_as, pending_as, damaged_as, stopped_as}
+use Rattle.engine_core.specs.Saying.{Start, Why, taken_back_as, pending_as, damaged_as, stopped_as, IsGivenUp}
 
 -- ---- what was tried
 
@@ -214,12 +214,35 @@ fresh_is mid new from net is (inl same) has = some_is mid from net is (sym same 
 fresh_is mid new from net is (inr none) has = let e : None ≡ Some net = sym none ∙ has in absurd (cc)
 
 pub dumped_as : (tells : Type 0) (no_verify : Bool) (from : NetData) (old mid new : HostView) (result : Result Applied ApplyFault) → (tells → old.fresh ≡ Some from) → (no_verify ≡ false → mid.kernel.calls ≡ 0) → new.kernel ≡ mid.kernel
-    → (tells → no_verify ≡ true → (mid.fresh ≡ old.fresh) ⊎ (mid.fresh ≡ None)) → (tells → new.fresh ≡ mid.fresh) → (tells → OnOk result (saved_net new.state.cell ≡ Some from)) → Dumps tells no_verify new result
-dumped_as tells no_verify from old mid new (Ok done) was calls kernel fresh same saved = (
+    → (tells → no_verify ≡ true → (mid.fresh ≡ old.fresh) ⊎ (mid.fresh ≡ None)) → (tells → new.fresh ≡ mid.fresh) → (tells → OnOk result (saved_net new.state.cell ≡ Some from))
+    → IfErr result (λ fault. fault ≡ ap_.InDoubt) → Dumps tells no_verify new result
+dumped_as tells no_verify from old mid new (Ok done) was calls kernel fresh same saved doubt = (
   λ verified. (λ i. (kernel i).calls) ∙ calls verified,
   λ skipped told net is. saved told ∙ ap (λ (n : NetData). Some n) (fresh_is old.fresh mid.fresh from net (was told) (fresh told skipped) (sym (same told) ∙ is)),
 )
-dumped_as tells no_verify from old mid new (Err fault) was calls kernel fresh same saved = tt
+dumped_as tells no_verify from old mid new (Err fault) was calls kernel fresh same saved doubt =
+    subst (λ (f : ApplyFault). Dumps tells no_verify new (Err f)) (sym doubt) (λ verified. (λ i. (kernel i).calls) ∙ calls verified)
+
+-- where it is given up, nothing is said of the dump
+pub given_dumps : (tells : Type 0) (no_verify : Bool) (new : HostView) (fault : ApplyFault) → IsGivenUp fault → Dumps tells no_verify new (Err fault)
+given_dumps tells no_verify new (ap_.Pending deadline) given = tt
+given_dumps tells no_verify new (ap_.MergeRefused refused) given = tt
+given_dumps tells no_verify new (ap_.HostFault left) given = tt
+given_dumps tells no_verify new ap_.InDoubt given = absurd given
+given_dumps tells no_verify new (ap_.KernelRefused k n left) given = tt
+given_dumps tells no_verify new (ap_.NotVerified found left) given = tt
+given_dumps tells no_verify new (ap_.Damaged area) given = tt
+given_dumps tells no_verify new (ap_.HardwareDiffers names) given = tt
+given_dumps tells no_verify new ap_.OutOfMemory given = tt
+
+-- nor where the settling didn't come to its end
+pub unsettled_dumps : (tells : Type 0) (no_verify : Bool) (new : HostView) (fault : BackFault) → Dumps tells no_verify new (Err (apply_fault fault))
+unsettled_dumps tells no_verify new ba.NoCheckpoint = tt
+unsettled_dumps tells no_verify new (ba.HostFault left) = tt
+unsettled_dumps tells no_verify new (ba.KernelRefused k n left) = tt
+unsettled_dumps tells no_verify new (ba.Damaged area) = tt
+unsettled_dumps tells no_verify new (ba.HardwareDiffers names) = tt
+unsettled_dumps tells no_verify new ba.OutOfMemory = tt
 
 -- ---- what was taken back
 

@@ -1,11 +1,11 @@
 //! The whole change: what is wanted, the attempt, and what follows where it fails.
-ghost use Rattle.std.specs.Prelude.{◌≡◌, ◌≢◌, ◌≤◌, ◌-◌, ℕ, Option, if◌then◌else◌, true, false, None, Some, Ok, Err, OnOk, OnErr, IfOk, IfErr, IsErrOf};
+ghost use Rattle.std.specs.Prelude.{◌≡◌, ◌≢◌, ◌⊎◌, ◌≤◌, ◌-◌, ℕ, Option, if◌then◌else◌, true, false, None, Some, Ok, Err, OnOk, OnErr, IfOk, IfErr, IsErrOf};
 ghost use Rattle.net_model.specs.NetData.{NetData};
 ghost use Rattle.document_model.specs.declared.Doc.{Doc};
 ghost use Rattle.document_model.specs.declared.Refused.{Refused};
 ghost use Rattle.document_model.specs.Entries.{is_document};
 ghost use Rattle.host_core.specs.Faults.{Rose};
-ghost use Rattle.host_core.specs.Stops.{Steps, Stays};
+ghost use Rattle.host_core.specs.Stops.{Steps};
 ghost use Rattle.host_core.specs.HostView.{State, HasNet, SameKernel, SameNet};
 ghost use Rattle.plan_model.specs.Plans.{IsPlan};
 ghost use Rattle.checkpoint_cell.specs.Cell.{cell_of, saved_net};
@@ -18,9 +18,10 @@ ghost use Rattle.engine_model.specs.Sound.{WhereSound};
 ghost use Rattle.engine_model.specs.Stations.{Only, Kept, Ends};
 ghost use Rattle.engine_model.specs.Answers.{IsUndone};
 ghost use Rattle.engine_model.specs.Refusals.{NoCallMade, ApplyCounts};
+ghost use Rattle.engine_model.specs.Failing.{ApplyIdle};
 ghost use Rattle.engine_model.specs.Faults.{ApplySays, ApplyExact, MayStandHalf, Tries, FailsTwice, Dumps, Backs, HasTaken};
 ghost use Rattle.engine_core.specs.Attempts.{sealed, done, IsEither, IsFault, WhereRuns};
-ghost use Rattle.engine_core.specs.Saying.{Start, Follows, WhereMerges, DamagedSince, Why, SettledBy, Said, taken_back_as, pending_as, damaged_as, stopped_as};
+ghost use Rattle.engine_core.specs.Saying.{Start, Follows, WhereMerges, DamagedSince, Why, SettledBy, Said, taken_back_as, pending_as, damaged_as, stopped_as, IsGivenUp, ChangeIdle};
 ghost use Rattle.engine_core.specs.Calm.{CalmSince, UpToNow};
 ghost use Rattle.engine_core.specs.Applying.{GaveUp, Hurt, Exit, IsStation, IsApplied, ExitApply};
 
@@ -94,7 +95,7 @@ fn give_up<H: Host>(host: &mut H, alloc: Global, missed: Missed) -> ApplyFault
     ensures exit { WhereSound H.honest (H.told host.old) ((from : NetData) → ((s : State) → (H.told host.old).stops.may_leave s → IsUndone s (restored_to from))
         → IsFault missed → GaveUp from (H.told host.old).faults result (H.told host.new)) }
     ensures memory { missed ≡ Missed.OutOfMemory → result ≡ ApplyFault.OutOfMemory }
-    ensures begun { result ≡ ApplyFault.HostFault Left.NotBegun → ⊥ }
+    ensures begun { IsGivenUp result }
     ensures hurt { H.honest → (start : ℕ) (to : NetData) → IsFault missed
         → (missed ≡ Missed.Failed → Rose start (H.told host.old).faults)
         → Hurt (Rose start (H.told host.new).faults) to (H.told host.new) result }
@@ -197,7 +198,7 @@ fn carry_out<H: Host>(
     ensures twice { H.honest → WhereRuns calls.now from.now to.now (H.told host.old) (FailsTwice ⊥ (H.told host.old).faults (H.told host.new) result) }
     ensures dumps { (H.tells → (H.told host.old).fresh ≡ Some from.now) → Dumps H.tells opts.now.no_verify (H.told host.new) result }
     ensures backs { H.honest → Backs (H.told host.old).state.net (H.told host.new) result }
-    ensures begun { IsErrOf result (ApplyFault.HostFault Left.NotBegun) → ⊥ }
+    ensures begun { IfErr result (λ fault. IsGivenUp fault ⊎ (fault ≡ ApplyFault.InDoubt)) }
     ensures moment { (H.told host.old).stops.moment ≤ (H.told host.new).stops.moment }
     ensures later { (H.told host.old).faults ≤ (H.told host.new).faults }
 {
@@ -227,8 +228,6 @@ fn change<H: Host>(
     ensures exact { H.honest → ApplyExact (Rose (H.told host.old).faults (H.told host.new).faults)
         (change (asked doc.now opts.now now) (standing (H.told host.old).state) (H.told host.old).state.net)
         (H.told host.new) result }
-    ensures unbegun { IsErrOf result (ApplyFault.HostFault Left.NotBegun) → (left ≡ Left.NotBegun)
-        × Steps Stays (H.told host.old).stops (H.told host.new).stops }
     ensures calm { H.honest → UpToNow (H.told host.old) (λ t. (from to : NetData)
         → (H.told host.old).state.net ≡ Some from → merge from doc.now ≡ Ok to → CalmSince from to t (H.told host.old)
         → OnOk result (CalmSince from to t (H.told host.new))) }
@@ -239,6 +238,7 @@ fn change<H: Host>(
         → Said H.tells (asked doc.now opts.now now) start (H.told host.new) result }
     ensures counts { (start : Start) → Follows start (H.told host.old) → (left ≡ Left.NotBegun → NoCallMade start.kernel (H.told host.old).kernel)
         → ApplyCounts start.kernel (H.told host.new).kernel result }
+    ensures idle { ChangeIdle H.tells left (H.told host.old) (H.told host.new) result }
     ensures tries { (start : Start) → Follows start (H.told host.old)
         → Tries (opts.now.no_verify ≡ false) start.faults start.kernel.refusals (H.told host.new) result }
     ensures twice { H.honest → FailsTwice ⊥ (H.told host.old).faults (H.told host.new) result }
@@ -295,7 +295,6 @@ pub fn settle_and_change<H: Host>(
     // On an honest host, sound or not.
     ensures exact { H.honest → ApplyExact (Rose (H.told host.old).faults (H.told host.new).faults)
         (apply (asked doc.now opts.now now) (standing (H.told host.old).state)) (H.told host.new) result }
-    ensures unbegun { IsErrOf result (ApplyFault.HostFault Left.NotBegun) → Steps Stays (H.told host.old).stops (H.told host.new).stops }
     ensures calm { H.honest → UpToNow (H.told host.old) (λ t. (from to : NetData)
         → standing (H.told host.old).state ≡ restored_to from → merge from doc.now ≡ Ok to → CalmSince from to t (H.told host.old)
         → OnOk result (CalmSince from to t (H.told host.new))) }
@@ -303,6 +302,7 @@ pub fn settle_and_change<H: Host>(
     // On every host.
     ensures says { ApplySays H.tells (asked doc.now opts.now now) (H.told host.old) (H.told host.new) result }
     ensures counts { ApplyCounts (H.told host.old).kernel (H.told host.new).kernel result }
+    ensures idle { ApplyIdle H.tells now (H.told host.old) (H.told host.new) result }
     ensures damaged { H.tells → UpToNow (H.told host.old) (λ t. (area : ℕ) → IsErrOf result (ApplyFault.Damaged area)
         → DamagedSince t area (H.told host.new)) }
     // That a change may stand half way is told only where a restoring was tried.

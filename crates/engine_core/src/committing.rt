@@ -1,11 +1,11 @@
 //! The end of a change that waits: it is committed, and its checkpoint cleared.
 ghost use Rattle.std.specs.Prelude.{◌≡◌, ◌⊎◌, ◌≤◌, ℕ, true, None, Some, OnOk, IfErr, IsErrOf};
 ghost use Rattle.host_core.specs.Faults.{Rose};
-ghost use Rattle.host_core.specs.Stops.{Steps, Stays};
 ghost use Rattle.host_core.specs.HostView.{SameKernel};
 ghost use Rattle.checkpoint_cell.specs.Cell.{Checkpoint, cell_of, is_due};
 ghost use Rattle.checkpoint_cell.specs.Steps.{Holds};
 ghost use Rattle.engine_model.specs.Sound.{WhereSound};
+ghost use Rattle.engine_model.specs.Failing.{IsUnbegun};
 ghost use Rattle.engine_core.specs.Committing.{IsRefusal, IsLook};
 ghost use Rattle.engine_model.specs.Stations.{Waits, Ends, Kept, committed, IsCommitted, FromRead};
 ghost use Rattle.checkpoint_cell.specs.Settled.{standing};
@@ -14,7 +14,6 @@ use checkpoint_cell::{Phase, Seen, barrier, clear, due};
 use engine_model::CommitFault;
 use host_core::{Failed, Host};
 
-#[tactic(auto, using(engine_model::proofs::lemmas::Leading::same_state))]
 /// Ends a change that waits and whose time isn't up.
 pub fn end_waiting<H: Host>(host: &mut H, now: u64) -> Result<(), CommitFault>
     // When each answer comes.
@@ -34,9 +33,8 @@ pub fn end_waiting<H: Host>(host: &mut H, now: u64) -> Result<(), CommitFault>
     // What a stop leaves, at each moment and at the exit.
     ensures kept { WhereSound H.tells (H.told host.old) (Kept (IsCommitted now (H.told host.old).state) (H.told host.old) (H.told host.new)) }
     ensures done { WhereSound H.tells (H.told host.old) (OnOk result (Ends (committed (H.told host.old).state) (H.told host.new))) }
-    ensures before { IfErr result (λ fault. IsRefusal fault → Steps Stays (H.told host.old).stops (H.told host.new).stops) }
+    ensures unbegun { IfErr result (λ fault. IsRefusal fault → IsUnbegun H.tells (H.told host.old) (H.told host.new)) }
     ensures looked { H.tells → IfErr result (λ fault. IsLook fault → Holds (cell_of (H.told host.old).state.cell) (H.told host.new)) }
-    ensures same { IfErr result (λ fault. IsRefusal fault → H.tells → (H.told host.new).state ≡ (H.told host.old).state) }
     ensures left { H.tells → OnOk result (standing (H.told host.new).state ≡ committed (H.told host.old).state) }
     ensures doubted { WhereSound H.tells (H.told host.old) (IsErrOf result CommitFault.InDoubt
         → FromRead (IsCommitted now (H.told host.old).state) (H.told host.old) (H.told host.new)) }

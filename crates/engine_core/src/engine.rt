@@ -1,5 +1,5 @@
 //! The calls that begin a change, and end one that waits.
-ghost use Rattle.std.specs.Prelude.{◌≡◌, ◌≢◌, ◌≤◌, ℕ, true, Some, Ok, Err, IsErrOf};
+ghost use Rattle.std.specs.Prelude.{◌≡◌, ◌≢◌, ◌≤◌, ℕ, true, Some, Ok, Err, IfErr, IsErrOf};
 ghost use Rattle.net_model.specs.NetData.{NetData};
 ghost use Rattle.document_model.specs.Entries.{is_document};
 ghost use Rattle.host_core.specs.Faults.{Rose, RoseTwice};
@@ -13,8 +13,10 @@ ghost use Rattle.engine_model.specs.Sound.{WhereSound};
 ghost use Rattle.engine_model.specs.Stations.{Only, Settled, Either, Kept, at, entry_of, left_by};
 ghost use Rattle.engine_model.specs.Exit.{ApplyExit, CommitExit};
 ghost use Rattle.engine_model.specs.Refusals.{ApplyCounts};
+ghost use Rattle.engine_model.specs.Failing.{IsUnbegun, ApplyIdle};
 ghost use Rattle.engine_model.specs.Faults.{ApplyAnswers, ApplyExact, CommitAnswers, ApplySays, MayStandHalf, Tries, FailsTwice, Dumps, Backs, HasTaken};
 ghost use Rattle.engine_core.specs.Calm.{CalmSince, UpToNow};
+ghost use Rattle.engine_core.specs.Committing.{IsRefusal};
 ghost use Rattle.engine_core.specs.Saying.{DamagedSince};
 
 use crate::applying::settle_and_change;
@@ -48,6 +50,8 @@ pub fn apply<H: Host>(
         (apply (asked doc.now opts.now now) (standing (H.told host.old).state)) (H.told host.new) result }
     // On every host no more can be left than before, where it says that nothing was begun.
     ensures unbegun { IsErrOf result (ApplyFault.HostFault Left.NotBegun) → Steps Stays (H.told host.old).stops (H.told host.new).stops }
+    // On every host: where the answer comes before anything was begun, the host is as it was.
+    ensures idle { ApplyIdle H.tells now (H.told host.old) (H.told host.new) result }
     // What stops leave at the exit, what the host reads as then, and what stops leave at each moment.
     ensures exit { WhereSound H.honest (H.told host.old) (ApplyExit (asked doc.now opts.now now) (entry_of (H.told host.old)) (left_by (H.told host.new))
         (Rose (H.told host.old).faults (H.told host.new).faults) (RoseTwice (H.told host.old).faults (H.told host.new).faults) result) }
@@ -96,6 +100,8 @@ pub fn commit<H: Host>(host: &mut H, now: u64) -> Result<(), CommitFault>
         (H.told host.new).state)) result) }
     ensures kept { WhereSound H.tells (H.told host.old) (Kept (Only (commit now (standing (H.told host.old).state)).after) (H.told host.old)
         (H.told host.new)) }
+    // A refusal, and a fault before the clearing, leave the host as it was.
+    ensures unbegun { IfErr result (λ fault. IsRefusal fault → IsUnbegun H.tells (H.told host.old) (H.told host.new)) }
     ensures kernel { SameKernel H.tells (H.told host.old) (H.told host.new) }
     ensures later { (H.told host.old).faults ≤ (H.told host.new).faults }
 {

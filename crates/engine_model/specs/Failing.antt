@@ -1,10 +1,14 @@
 -- What a fault of a restoring says on every host, from where the restoring began.
-use Rattle.std.specs.Prelude.{◌≡◌}
+use Rattle.std.specs.Prelude.{◌≡◌, ◌⊎◌, ℕ, Result, Ok, Err}
 use Rattle.host_core.specs.Faults.{Rose}
 use Rattle.host_core.specs.HostView.{HostView, WasRefused, NoneRefused}
 use Rattle.host_core.specs.Stops.{Steps, Stays}
+use Rattle.checkpoint_cell.specs.Settled.{standing}
 use Rattle.engine_model.specs.Refusals.{NoCallMade, RefusedOnce}
-use Rattle.engine_model.specs.Faults.{IsDamaged, Differs}
+use Rattle.engine_model.specs.Faults.{HasTaken, IsDamaged, Differs}
+use Rattle.engine_model.specs.declared.answers.Applied.{Applied}
+use Rattle.engine_model.specs.declared.answers.ApplyFault.{ApplyFault}
+use Rattle.engine_model.specs.declared.answers.ApplyFault.TheVariants as ap
 use Rattle.engine_model.specs.declared.answers.Left.TheVariants.{NotBegun, RolledBack, Pending}
 use Rattle.engine_model.specs.declared.answers.BackFault.{BackFault}
 use Rattle.engine_model.specs.declared.answers.BackFault.TheVariants.{NoCheckpoint, HostFault, KernelRefused, Damaged, HardwareDiffers, OutOfMemory}
@@ -25,3 +29,11 @@ Fails tells old new (KernelRefused k n left) = (left ≡ Pending) × WasRefused 
 Fails tells old new (Damaged area) = IsUnbegun tells old new × (tells → IsDamaged area old.state)
 Fails tells old new (HardwareDiffers names) = IsUnbegun tells old new × (tells → Differs names new)
 Fails tells old new OutOfMemory = NoneRefused old.kernel new.kernel
+
+-- What an apply leaves that ends before its change. A change that waits and a fault before the first write leave the host as it was; so
+-- does a refused document, unless a change was to be taken back first.
+abbrev pub ApplyIdle : Type 0 → ℕ → HostView → HostView → Result Applied ApplyFault → Type 0
+ApplyIdle tells now old new (Err (ap.Pending deadline)) = IsUnbegun tells old new
+ApplyIdle tells now old new (Err (ap.HostFault NotBegun)) = IsUnbegun tells old new
+ApplyIdle tells now old new (Err (ap.MergeRefused refused)) = (tells → HasTaken now (standing old.state).cell) ⊎ IsUnbegun tells old new
+ApplyIdle tells now old new result = Unit {0}

@@ -200,10 +200,11 @@ abbrev pub FailsTwice : Type 0 → ℕ → HostView → Result Applied ApplyFaul
 FailsTwice taken faults new (Err (ap.HostFault Pending)) = taken ⊎ RoseTwice faults new.faults
 FailsTwice taken faults new result = Unit {0}
 
--- A change that is verified was dumped after its last kernel call. One that isn't was not: the last dump that is still fresh, if
--- there is one, gave the network that was saved.
+-- A change that is verified was dumped after its last kernel call, also where its end is in doubt. One that isn't was not: the last dump
+-- that is still fresh, if there is one, gave the network that was saved.
 abbrev pub Dumps : Type 0 → Bool → HostView → Result Applied ApplyFault → Type 0
 Dumps tells no_verify new (Ok done) = (no_verify ≡ false → new.kernel.calls ≡ 0) × (no_verify ≡ true → tells → (net : NetData) → new.fresh ≡ Some net → saved_net new.state.cell ≡ Some net)
+Dumps tells no_verify new (Err ap.InDoubt) = no_verify ≡ false → new.kernel.calls ≡ 0
 Dumps tells no_verify new (Err fault) = Unit {0}
 
 -- where it says that all is taken back, the network is the saved one, or where none was saved the one from before

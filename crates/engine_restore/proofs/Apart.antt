@@ -1,6 +1,9 @@
 -- Answers that aren't the same.
-use Rattle.std.proofs.Common.{◌≡◌, ℕ, Bool, Option, Some, Result, Ok, Err, sym, refl, ap, subst}
+use Rattle.std.proofs.Common.{◌≡◌, ℕ, Bool, Option, Some, None, Result, Ok, Err, sym, refl, ap, subst}
 use Rattle.std.specs.Prelude.{⊤, IsSome}
+use Rattle.checkpoint_cell.specs.Cell.{Checkpoint}
+use Rattle.engine_model.specs.Answers.{IsBefore}
+use Rattle.engine_model.specs.Faults.{HasSet}
 use Rattle.engine_model.specs.declared.answers.Left.{Left}
 use Rattle.engine_model.specs.declared.answers.Left.TheVariants.{NotBegun, Pending}
 use Rattle.engine_model.specs.declared.answers.Recovered.{Recovered}
@@ -49,6 +52,11 @@ went_back fault = Err fault
 
 pub back_memory : (fault : BackFault) → fault ≡ OutOfMemory → went_back fault ≡ went_back OutOfMemory
 back_memory fault is = ap went_back is
+
+-- behind its beginning it fails only where one stands
+pub begun_set : (cell : Option Checkpoint) (fault : BackFault) → (cell ≡ None → fault ≡ HostFault NotBegun) → (IsBefore fault → ⊥) → HasSet cell
+begun_set None fault unset begun = absurd (begun (subst (λ (f : BackFault). IsBefore f) (sym (unset refl)) tt))
+begun_set (Some checkpoint) fault unset begun = tt
 
 -- nothing, a change that waits and one that was taken back are three
 pub nothing_waits : (deadline : ℕ) → done Nothing ≡ done (Waiting deadline) → ⊥

@@ -1,6 +1,5 @@
 //! The calls that take a change back.
 ghost use Rattle.std.specs.Prelude.{◌≡◌, ◌≢◌, ◌≤◌, ℕ, None, Ok, IfOk, IfErr, OnOk, IsErrOf};
-ghost use Rattle.host_core.specs.Stops.{Steps, Stays};
 ghost use Rattle.checkpoint_cell.specs.Steps.{Holds};
 ghost use Rattle.checkpoint_cell.specs.Settled.{standing};
 ghost use Rattle.engine_model.specs.Machine.{rollback, recover, settle, due_at};
@@ -9,6 +8,7 @@ ghost use Rattle.engine_model.specs.Stations.{Only, Kept, at, entry_of, left_by}
 ghost use Rattle.engine_model.specs.Exit.{BackExit};
 ghost use Rattle.engine_model.specs.Answers.{IsBefore, IsClear};
 ghost use Rattle.engine_model.specs.Refusals.{BackCounts};
+ghost use Rattle.engine_model.specs.Failing.{IsUnbegun};
 ghost use Rattle.engine_model.specs.Faults.{BackAnswers, BackExact, BackSays, HasSet, HasTaken, GaveSaved};
 
 use crate::restoring::{go_back, take_back};
@@ -37,10 +37,12 @@ pub fn rollback<H: Host>(host: &mut H, alloc: Global) -> Result<(), BackFault>
     ensures gave { H.tells → OnOk result (GaveSaved (H.told host.new)) }
     // It is done only where one stands.
     ensures done { H.tells → OnOk result (HasSet (standing (H.told host.old).state).cell) }
+    // It begins only where one stands.
+    ensures begun { H.tells → IfErr result (λ fault. (IsBefore fault → ⊥) → HasSet (standing (H.told host.old).state).cell) }
     // It takes memory only where a checkpoint stands.
     ensures memory { H.tells → IsErrOf result BackFault.OutOfMemory → HasSet (standing (H.told host.old).state).cell }
-    // What is answered before anything was begun leaves no more than before.
-    ensures before { IfErr result (λ fault. IsBefore fault → Steps Stays (H.told host.old).stops (H.told host.new).stops) }
+    // What is answered before anything was begun leaves the host as it was.
+    ensures unbegun { IfErr result (λ fault. IsBefore fault → IsUnbegun H.tells (H.told host.old) (H.told host.new)) }
     ensures moment { (H.told host.old).stops.moment ≤ (H.told host.new).stops.moment }
     ensures later { (H.told host.old).faults ≤ (H.told host.new).faults }
 {
@@ -82,15 +84,13 @@ pub fn recover<H: Host>(host: &mut H, alloc: Global, now: u64) -> Result<Recover
     // For a command that goes on behind it: no checkpoint stands then, and where none stood nothing was changed, nor where one
     // waits.
     ensures cleared { H.tells → IfOk result (λ done. IsClear done → Holds None (H.told host.new)) }
-    ensures same { H.tells → result ≡ Ok Recovered.Nothing → (H.told host.new).state ≡ (H.told host.old).state }
-    ensures stays { result ≡ Ok Recovered.Nothing → Steps Stays (H.told host.old).stops (H.told host.new).stops }
-    ensures waiting_same { H.tells → (deadline : ℕ) → result ≡ Ok (Recovered.Waiting deadline) → (H.told host.new).state ≡ (H.told host.old).state }
+    ensures idle { IfOk result (λ done. done ≢ Recovered.Restored → IsUnbegun H.tells (H.told host.old) (H.told host.new)) }
     // Also where the host isn't sound: once it is done, the host reads as what the machine leaves.
     ensures after { H.honest → OnOk result (standing (H.told host.new).state ≡ (recover now (standing (H.told host.old).state)).after) }
     // It begins only where a change is to be taken back.
     ensures begun { H.tells → IfErr result (λ fault. (IsBefore fault → ⊥) → HasTaken now (standing (H.told host.old).state).cell) }
-    // What is answered before anything was begun leaves no more than before.
-    ensures before { IfErr result (λ fault. IsBefore fault → Steps Stays (H.told host.old).stops (H.told host.new).stops) }
+    // What is answered before anything was begun leaves the host as it was.
+    ensures unbegun { IfErr result (λ fault. IsBefore fault → IsUnbegun H.tells (H.told host.old) (H.told host.new)) }
     ensures moment { (H.told host.old).stops.moment ≤ (H.told host.new).stops.moment }
     ensures later { (H.told host.old).faults ≤ (H.told host.new).faults }
 {
@@ -128,8 +128,8 @@ pub fn settle<H: Host>(host: &mut H, alloc: Global, now: u64) -> Result<Option<u
     ensures memory { H.tells → IsErrOf result BackFault.OutOfMemory → HasTaken now (standing (H.told host.old).state).cell }
     // It never answers, as a rollback does, that there is no checkpoint.
     ensures set_there { IsErrOf result BackFault.NoCheckpoint → ⊥ }
-    // What is answered before anything was begun leaves no more than before.
-    ensures before { IfErr result (λ fault. IsBefore fault → Steps Stays (H.told host.old).stops (H.told host.new).stops) }
+    // What is answered before anything was begun leaves the host as it was.
+    ensures unbegun { IfErr result (λ fault. IsBefore fault → IsUnbegun H.tells (H.told host.old) (H.told host.new)) }
     ensures moment { (H.told host.old).stops.moment ≤ (H.told host.new).stops.moment }
     ensures later { (H.told host.old).faults ≤ (H.told host.new).faults }
 {

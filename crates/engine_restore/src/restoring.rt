@@ -3,7 +3,7 @@ ghost use Rattle.std.specs.Prelude.{◌≡◌, ◌≢◌, ◌≤◌, ℕ, not, t
 ghost use Rattle.net_model.specs.NetData.{NetData, IsNet};
 ghost use Rattle.kernel_model.specs.Runs.{Runs};
 ghost use Rattle.host_core.specs.Faults.{HasCause};
-ghost use Rattle.host_core.specs.Stops.{Steps, Stays};
+ghost use Rattle.host_core.specs.Stops.{Steps};
 ghost use Rattle.host_core.specs.HostView.{State, SameKernel, Untouched, NoneRefused};
 ghost use Rattle.checkpoint_cell.specs.Cell.{Checkpoint, cell_of, saved_net, applying, in_phase};
 ghost use Rattle.checkpoint_cell.specs.Steps.{Holds};
@@ -171,7 +171,6 @@ pub fn go_back<H: Host>(host: &mut H, alloc: Global) -> Result<bool, BackFault>
     ensures cleared { H.tells → OnOk result (Holds None (H.told host.new)) }
     ensures empty { H.tells → IfOk result (λ was. was ≡ false → cell_of (H.told host.old).state.cell ≡ None) }
     ensures set { H.tells → IfOk result (λ was. was ≡ true → IsSome (cell_of (H.told host.old).state.cell)) }
-    ensures stays { IfOk result (λ was. was ≡ false → Steps Stays (H.told host.old).stops (H.told host.new).stops) }
     ensures kept { WhereSound H.honest (H.told host.old) (Kept (IsUndone (H.told host.old).state) (H.told host.old) (H.told host.new)) }
     ensures ends { WhereSound H.honest (H.told host.old) (IfOk result (λ was. was ≡ true → (stands : Standing) × IsUndone (H.told host.old).state stands
         × Ends stands (H.told host.new))) }
@@ -188,9 +187,8 @@ pub fn go_back<H: Host>(host: &mut H, alloc: Global) -> Result<bool, BackFault>
     ensures fails { IfErr result (λ fault. Fails H.tells (H.told host.old) (H.told host.new) fault) }
     ensures quiet { OnOk result (NoneRefused (H.told host.old).kernel (H.told host.new).kernel) }
     ensures gave { H.tells → IfOk result (λ was. was ≡ true → GaveSaved (H.told host.new)) }
-    ensures unmade { IfOk result (λ was. was ≡ false → (H.told host.new).kernel ≡ (H.told host.old).kernel) }
+    ensures idle { IfOk result (λ was. was ≡ false → IsUnbegun H.tells (H.told host.old) (H.told host.new)) }
     ensures bare { H.tells → (H.told host.old).state.net ≡ None → (H.told host.new).state ≡ (H.told host.old).state }
-    ensures none_same { H.tells → IfOk result (λ was. was ≡ false → (H.told host.new).state ≡ (H.told host.old).state) }
     ensures going { WhereSound H.honest (H.told host.old) (IfErr result (λ fault. (IsBefore fault → ⊥)
         → FromRead (IsUndone (H.told host.old).state) (H.told host.old) (H.told host.new))) }
     ensures moves { Steps Any (H.told host.old).stops (H.told host.new).stops }
@@ -226,7 +224,6 @@ fn waits(phase: Phase, made: u64, deadline: u64, now: u64) -> bool
     }
 }
 
-#[tactic(auto, using(engine_model::proofs::lemmas::Leading::same_state))]
 /// Takes back a change that is being made or is due. The moment is in seconds. It never answers `NoCheckpoint`.
 pub fn take_back<H: Host>(host: &mut H, alloc: Global, now: u64) -> Result<Recovered, BackFault>
     ensures cleared { H.tells → IfOk result (λ done. IsClear done → Holds None (H.told host.new)) }
@@ -234,7 +231,6 @@ pub fn take_back<H: Host>(host: &mut H, alloc: Global, now: u64) -> Result<Recov
     ensures waiting { H.tells → (deadline : ℕ) → result ≡ Ok (Recovered.Waiting deadline)
         → (waits : Waits now (cell_of (H.told host.old).state.cell)) × (waits.checkpoint.deadline ≡ deadline) }
     ensures restored { H.tells → result ≡ Ok Recovered.Restored → IsTaken now (cell_of (H.told host.old).state.cell) }
-    ensures stays { result ≡ Ok Recovered.Nothing → Steps Stays (H.told host.old).stops (H.told host.new).stops }
     ensures kept { WhereSound H.honest (H.told host.old) (Kept (IsSettled now (H.told host.old).state) (H.told host.old) (H.told host.new)) }
     // On an honest host that is sound, what stands then is what a recovery at this moment makes of what stood.
     ensures ends { WhereSound H.honest (H.told host.old) (OnOk result ((stands : Standing) × IsSettled now (H.told host.old).state stands
@@ -253,11 +249,10 @@ pub fn take_back<H: Host>(host: &mut H, alloc: Global, now: u64) -> Result<Recov
     ensures quiet { OnOk result (NoneRefused (H.told host.old).kernel (H.told host.new).kernel) }
     ensures gave { H.tells → result ≡ Ok Recovered.Restored → GaveSaved (H.told host.new) }
     ensures unmade { IfOk result (λ done. done ≢ Recovered.Restored → (H.told host.new).kernel ≡ (H.told host.old).kernel) }
+    ensures idle { IfOk result (λ done. done ≢ Recovered.Restored → IsUnbegun H.tells (H.told host.old) (H.told host.new)) }
     ensures going { WhereSound H.honest (H.told host.old) (IfErr result (λ fault. (IsBefore fault → ⊥)
         → FromRead (IsSettled now (H.told host.old).state) (H.told host.old) (H.told host.new))) }
     ensures moves { Steps Any (H.told host.old).stops (H.told host.new).stops }
-    ensures nothing_same { H.tells → result ≡ Ok Recovered.Nothing → (H.told host.new).state ≡ (H.told host.old).state }
-    ensures waiting_same { H.tells → (deadline : ℕ) → result ≡ Ok (Recovered.Waiting deadline) → (H.told host.new).state ≡ (H.told host.old).state }
     // On an honest host, sound or not, what is taken back reads as the saved network.
     ensures restored_reads { H.honest → (taken : IsTaken now (cell_of (H.told host.old).state.cell)) (saved : NetData)
         → taken.checkpoint.net ≡ Some saved → result ≡ Ok Recovered.Restored

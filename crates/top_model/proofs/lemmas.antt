@@ -10,6 +10,7 @@ pub mod Spared
 pub mod Noting
 pub mod Writes
 pub mod Counting
+pub mod Unbegun
 pub mod Commits
 pub mod Folding
 pub mod Stepping

@@ -5,7 +5,7 @@ use Rattle.net_model.specs.NetData.{NetData}
 use Rattle.host_core.specs.Faults.{Rose, RoseTwice}
 use Rattle.checkpoint_cell.specs.Cell.{saved_net}
 use Rattle.engine_model.specs.Machine.{recover}
-use Rattle.engine_model.specs.Faults.{HasTaken, GaveSaved, GaveBack}
+use Rattle.engine_model.specs.Faults.{HasSet, HasTaken, GaveSaved, GaveBack}
 use Rattle.engine_model.specs.declared.ApplyOpts.{ApplyOpts}
 use Rattle.engine_model.specs.declared.Left.TheVariants.{RolledBack, Pending}
 use Rattle.top_model.specs.Said.{restored}
@@ -13,7 +13,7 @@ use Rattle.top_model.specs.Orders.{Order, applying, applying_policy, rolling_bac
 use Rattle.top_model.specs.Runs.{Run, HostRose, HostRoseTwice, reads}
 use Rattle.top_model.specs.Told.{Answer}
 use Rattle.top_model.specs.declared.report.Cause.{Cause}
-use Rattle.top_model.specs.declared.report.Cause.TheVariants.{HostFault, KernelRefused, NotVerified}
+use Rattle.top_model.specs.declared.report.Cause.TheVariants.{HostFault, InDoubt, KernelRefused, NotVerified}
 
 -- the host's count of refusals
 abbrev pub WasRefusedOnce : Run → Type 0
@@ -48,9 +48,10 @@ pub record TakenBack (r : Run) : Type 0 where
   pub gave : r.host_tells → GaveBack r.host_tells r.now r.host.state r.host.kernel r.host_after
   pub net : r.honest → (r.host_after.state.net ≡ saved_net r.host_after.state.cell) ⊎ (r.host_after.state.net ≡ (recover r.now (reads r)).after.net)
 
--- of an apply, of a document or of a policy
+-- Of an apply, of a document or of a policy. Where its end is in doubt, what it made was dumped after its last kernel call, if it verifies.
 abbrev pub ApplyTried : Run → ApplyOpts → Answer → Type 0
 ApplyTried r opts (Ok said) = DumpedBy r opts
+ApplyTried r opts (Err InDoubt) = opts.no_verify ≡ false → r.host_after.kernel.calls ≡ 0
 ApplyTried r opts (Err (HostFault Pending)) = TriedBack r opts
 ApplyTried r opts (Err (HostFault RolledBack)) = TakenBack r
 ApplyTried r opts (Err (KernelRefused k n Pending)) = HasExcuse r opts ⊎ WasRefusedTwice r ⊎ HostRose r
@@ -58,9 +59,12 @@ ApplyTried r opts (Err (KernelRefused k n RolledBack)) = Gave r
 ApplyTried r opts (Err (NotVerified found left)) = Gave r
 ApplyTried r opts answer = Unit {0}
 
+-- A rollback or a recovery may have stood half way only where there was something to take back.
 abbrev pub Tried : Run → Result Order Cause → Answer → Type 0
 Tried r (Ok (applying doc opts)) answer = ApplyTried r opts answer
 Tried r (Ok (applying_policy p opts)) answer = ApplyTried r opts answer
 Tried r (Ok rolling_back) (Ok said) = Gave r
 Tried r (Ok recovering) (Ok restored) = Gave r
+Tried r (Ok rolling_back) (Err (HostFault Pending)) = r.host_tells → HasSet (reads r).cell
+Tried r (Ok recovering) (Err (HostFault Pending)) = r.host_tells → HasTaken r.now (reads r).cell
 Tried r order answer = Unit {0}

@@ -12,6 +12,7 @@ use Rattle.engine_model.specs.Sound.{Sound}
 use Rattle.engine_model.specs.Stations.{Stands, Entry, Only, Settled, Either, Kept, at}
 use Rattle.engine_model.specs.Exit.{ApplyExit}
 use Rattle.engine_model.specs.Refusals.{ApplyCounts}
+use Rattle.engine_model.specs.Failing.{ApplyIdle}
 use Rattle.engine_model.specs.Faults.{ApplyAnswers, ApplyExact, ApplySays, Tries, FailsTwice, Dumps, Backs, HasTaken}
 use Rattle.engine_model.specs.declared.Left.TheVariants as sides
 use Rattle.engine_model.specs.declared.Applied.{Applied}
@@ -26,7 +27,8 @@ use Rattle.top_model.specs.Told.{Answer, Told}
 use Rattle.top_model.specs.Causes.{MayWant, MayAnswer, Comes, Expects, ExactlyOf}
 use Rattle.top_model.specs.Tried.{HasExcuse, ApplyTried}
 use Rattle.top_model.specs.Exits.{ApplyLeaves}
-use Rattle.top_model.specs.Answered.{GoesOn, Answered}
+use Rattle.top_model.specs.Answered.{GoesOn, Unbegun, Answered}
+use Rattle.top_model.proofs.lemmas.Unbegun.{unchanged, unchanged_or_taken}
 use Rattle.top_model.proofs.lemmas.Counting.{apply_counted}
 use Rattle.top_model.proofs.lemmas.Settling.{refused_settles, pending_stays}
 use Rattle.top_model.proofs.lemmas.Wanting.{may_want_order}
@@ -90,7 +92,7 @@ module _ (r : Run) (doc : Doc) (opts : ApplyOpts) where
   tried (Err (KernelRefused k n sides.RolledBack)) says tries twice dumps backs = says.2 refl
   tried (Err (KernelRefused k n sides.Pending)) says tries twice dumps backs = tries
   tried (Err (NotVerified found side)) says tries twice dumps backs = says.3
-  tried (Err InDoubt) says tries twice dumps backs = tt
+  tried (Err InDoubt) says tries twice dumps backs = dumps
   tried (Err (Damaged area)) says tries twice dumps backs = tt
   tried (Err (HardwareDiffers names)) says tries twice dumps backs = tt
   tried (Err OutOfMemory) says tries twice dumps backs = tt
@@ -144,8 +146,24 @@ module _ (r : Run) (doc : Doc) (opts : ApplyOpts) where
   expects (Err (HardwareDiffers names)) is wants = record { answer = ap answer_of is.answer; after = is.after }
   expects (Err OutOfMemory) is wants = wants
 
+  -- what it leaves where it began nothing
+  unbegun : (result : Result Applied ApplyFault) → ApplyIdle r.host_tells r.now r.host r.host_after result → Unbegun r (Ok (applying doc opts)) (answer_of result)
+  unbegun (Ok done) idle = tt
+  unbegun (Err (Pending deadline)) idle = unchanged r idle
+  unbegun (Err (MergeRefused refused)) idle = unchanged_or_taken r idle
+  unbegun (Err (HostFault sides.NotBegun)) idle = unchanged r idle
+  unbegun (Err (HostFault sides.RolledBack)) idle = tt
+  unbegun (Err (HostFault sides.Pending)) idle = tt
+  unbegun (Err (KernelRefused k n side)) idle = tt
+  unbegun (Err (NotVerified found side)) idle = tt
+  unbegun (Err InDoubt) idle = tt
+  unbegun (Err (Damaged area)) idle = tt
+  unbegun (Err (HardwareDiffers names)) idle = tt
+  unbegun (Err OutOfMemory) idle = tt
+
   module _ (inputs : Inputs) (may_read : MayRead r inputs) (is : order_of r.in_script inputs r.words ≡ Ok (applying doc opts)) (result : Result Applied ApplyFault)
       (says : ApplySays r.host_tells Ask r.host r.host_after result) (counts : ApplyCounts r.host.kernel r.host_after.kernel result)
+      (idle : ApplyIdle r.host_tells r.now r.host r.host_after result)
       (tries : Tries (HasExcuse r opts) r.host.faults r.host.kernel.refusals r.host_after result)
       (twice : r.honest → FailsTwice (HasTaken r.now (reads r).cell) r.host.faults r.host_after result) (dumps : Dumps r.host_tells opts.no_verify r.host_after result)
       (backs : r.honest → Backs (recover r.now (reads r)).after.net r.host_after result)
@@ -177,4 +195,5 @@ module _ (r : Run) (doc : Doc) (opts : ApplyOpts) where
       kept = λ a. kept a.honest a.sound;
       spares = λ a from to stood merges quiet other. undisturbed a.honest a.sound from to stood merges quiet (λ memory. other (ap answer_of memory));
       looks = tt;
+      unbegun = unbegun result idle;
     }

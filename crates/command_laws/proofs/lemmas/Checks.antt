@@ -236,4 +236,5 @@ module _ (r : Run) (nothing : ChangesNothing r.host_tells r.host r.host_after) w
       kept = λ a. kept_stays _ r.host r.host_after a.sound nothing.stops;
       spares = λ a. tt;
       looks = record { state = nothing.state; stops = nothing.stops };
+      unbegun = tt;
     }

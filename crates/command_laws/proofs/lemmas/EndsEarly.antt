@@ -13,6 +13,7 @@ use Rattle.engine_model.specs.Answers.{IsBefore, IsClear}
 use Rattle.engine_model.specs.Stations.{Stands, Entry, Within, Before, Settled, Either, Only, Kept, at}
 use Rattle.engine_model.specs.Exit.{BackExit, Unsettled}
 use Rattle.engine_model.specs.Refusals.{NoCallMade, BackCounts}
+use Rattle.engine_model.specs.Failing.{IsUnbegun}
 use Rattle.engine_model.specs.Faults.{IsOutcome, LeftSays, BackAnswers, BackExact, BackSays, HasTaken, SettlesOnly}
 use Rattle.engine_model.specs.declared.ApplyOpts.{ApplyOpts}
 use Rattle.engine_model.specs.declared.Left.{Left}
@@ -34,9 +35,10 @@ use Rattle.top_model.specs.Counts.{PolicyCounted}
 use Rattle.top_model.specs.Tried.{Tried}
 use Rattle.top_model.specs.Exits.{PolicyLeaves}
 use Rattle.top_model.specs.Undisturbed.{Spares}
-use Rattle.top_model.specs.Answered.{GoesOn, Answered}
+use Rattle.top_model.specs.Answered.{GoesOn, Unbegun, Answered}
 use Rattle.top_model.specs.declared.report.Cause.{Cause}
-use Rattle.top_model.specs.declared.report.Cause.TheVariants.{Pending, HostFault, Damaged, OutOfMemory}
+use Rattle.top_model.specs.declared.report.Cause.TheVariants.{Pending, HostFault, Damaged}
+use Rattle.top_model.proofs.lemmas.Unbegun.{unchanged}
 use Rattle.top_model.proofs.lemmas.Counting.{nothing_other, waits_other, settling_counted}
 use Rattle.top_model.proofs.lemmas.Wanting.{may_want_order}
 use Rattle.command_laws.specs.Begun.{Recovers, Looks, side_of}
@@ -258,6 +260,16 @@ module _ (r : Run) (p : PolicyData) (opts : ApplyOpts) where
   fault_tried tells (ba.HardwareDiffers names) says begun = tt
   fault_tried tells ba.OutOfMemory says begun = tt
 
+  fault_unbegun : (fault : BackFault) → (IsBefore fault → IsUnbegun r.host_tells r.host r.host_after) → Unbegun r Policy (told_fault fault)
+  fault_unbegun ba.NoCheckpoint idle = tt
+  fault_unbegun (ba.HostFault side.NotBegun) idle = unchanged r (idle tt)
+  fault_unbegun (ba.HostFault side.RolledBack) idle = tt
+  fault_unbegun (ba.HostFault side.Pending) idle = tt
+  fault_unbegun (ba.KernelRefused k n left) idle = tt
+  fault_unbegun (ba.Damaged area) idle = tt
+  fault_unbegun (ba.HardwareDiffers names) idle = tt
+  fault_unbegun ba.OutOfMemory idle = tt
+
   -- the machine's answer is the cause of the machine's fault
   fault_expected : (fault : BackFault) → (recover r.now (reads r)).answer ≡ failed fault → (machine_of r.now Policy (reads r)).answer ≡ Err (recovery_cause fault)
   fault_expected fault is = refused_answer p opts r.now (reads r) (recovery_cause fault) (when_failed p opts r.now (reads r) fault is)
@@ -341,6 +353,7 @@ module _ (r : Run) (p : PolicyData) (opts : ApplyOpts) where
           told = told;
           goes_on = goes_on;
           looks = tt;
+          unbegun = fault_unbegun fault first.unbegun;
           exactly = λ honest. fault_exactly fault never wants first.says (first.exact honest);
           expects = λ a. fault_expects fault never wants (first.answer a.honest a.sound);
           leaves = λ a. fault_leaves (entry r) (left_at_exit r) (HostRose r) (HostRoseTwice r) (machine_of r.now Policy (reads r)).after (back_settled goes_on a) fault never (taken (entry r) refl a)
@@ -358,12 +371,13 @@ module _ (r : Run) (p : PolicyData) (opts : ApplyOpts) where
       gives = (inputs, may_read, is);
       answer = Err (Pending deadline);
       may = tt;
-      comes = (λ t. refused_answer p opts r.now (reads r) (Pending deadline) (when_waiting p opts r.now (reads r) deadline (first.waiting t deadline refl)), λ t. ap standing (first.waiting_same t deadline refl));
+      comes = (λ t. refused_answer p opts r.now (reads r) (Pending deadline) (when_waiting p opts r.now (reads r) deadline (first.waiting t deadline refl)), λ t. ap standing ((first.idle (waits_other deadline)).same t));
       counts = (first.counts, λ t. inl (first.unmade (waits_other deadline)));
       tried = tt;
       told = told;
       goes_on = goes_on;
       looks = tt;
+      unbegun = λ t. unchanged r (first.idle (waits_other deadline));
       exactly = λ honest. refused_answer p opts r.now (reads r) (Pending deadline) (when_waiting p opts r.now (reads r) deadline (first.exact honest));
       expects = λ a. refused_outcome p opts r.now (reads r) (Pending deadline) r.host_after (when_waiting p opts r.now (reads r) deadline (first.exact a.honest)) (first.after a.honest);
       leaves = λ a x there. near_wider (Only (recover r.now (reads r)).after) (Settled r.now (entry r)) (back_settled goes_on a) x (first.exit a.honest a.sound x there);

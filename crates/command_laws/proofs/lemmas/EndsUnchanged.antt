@@ -14,7 +14,8 @@ use Rattle.engine_model.specs.Machine.{stays, recover}
 use Rattle.engine_model.specs.Answers.{IsClear}
 use Rattle.engine_model.specs.Stations.{Stands, Entry, Within, Before, Settled, Only, Kept, at, left_by}
 use Rattle.engine_model.specs.Refusals.{NoCallMade}
-use Rattle.engine_model.specs.Faults.{LeftSays, SettlesOnly}
+use Rattle.engine_model.specs.Failing.{IsUnbegun}
+use Rattle.engine_model.specs.Faults.{LeftSays, HasTaken, SettlesOnly}
 use Rattle.engine_model.specs.declared.ApplyOpts.{ApplyOpts}
 use Rattle.engine_model.specs.declared.Recovered.{Recovered}
 use Rattle.engine_model.specs.declared.Recovered.TheVariants.{Nothing, Waiting as Waits, Restored}
@@ -28,13 +29,14 @@ use Rattle.top_model.specs.Told.{Answer, Told}
 use Rattle.top_model.specs.Causes.{MayWant, IsLate}
 use Rattle.top_model.specs.Tried.{Tried}
 use Rattle.top_model.specs.Exits.{PolicyLeaves}
-use Rattle.top_model.specs.Answered.{GoesOn, Answered}
+use Rattle.top_model.specs.Answered.{GoesOn, Unchanged, UnchangedOrTaken, Unbegun, Answered}
 use Rattle.top_model.specs.declared.report.DocFault.{DocFault}
 use Rattle.top_model.specs.declared.report.Cause.{Cause}
 use Rattle.top_model.specs.declared.report.Cause.TheVariants.{DocRefused, HostFault, Damaged, OutOfMemory}
+use Rattle.top_model.proofs.lemmas.Counting.{nothing_other}
 use Rattle.top_model.proofs.lemmas.Settles.{same_some}
 use Rattle.command_laws.specs.Begun.{Recovers, Looks, side_of, look_cause}
-use Rattle.command_laws.proofs.lemmas.EndsEarly.{Reached, Recovery, back_kept, back_settled, clear_settles, fail_counted, failed, given, ground_clear, looked, none_some, nothing_there, ok_err, refused_answer, refused_outcome, restored_net, settles_by, wants, when_damaged, when_refused}
+use Rattle.command_laws.proofs.lemmas.EndsEarly.{Reached, Recovery, back_kept, back_settled, clear_settles, fail_counted, given, ground_clear, looked, none_some, nothing_there, ok_err, refused_answer, refused_outcome, restored_net, settles_by, wants, when_damaged, when_refused}
 
 -- what was counted
 module _ (r : Run) (done : Recovered) (clear : IsClear done) (mid : HostView) (first : Recovers r.host_tells r.honest r.now r.host mid (Ok done)) (none : NoCallMade mid.kernel r.host_after.kernel) where
@@ -70,11 +72,20 @@ module _ (r : Run) (p : PolicyData) (opts : ApplyOpts) (goes_on : GoesOn r) (don
       kept_on (Reached r p opts goes_on) r.host mid r.host_after (back_kept r p opts goes_on a mid kept) (kept_stays (Reached r p opts goes_on) mid r.host_after kept.sound steps)
 
   -- where nothing was to be taken back, nothing was changed
+  idle : done ≡ Nothing → IsUnbegun r.host_tells r.host mid
+  idle nothing = first.idle (λ e. nothing_other (sym nothing ∙ e))
+
+  unbegun_stops : done ≡ Nothing → Steps Stays r.host.stops r.host_after.stops
+  unbegun_stops nothing = both r.host.stops mid.stops r.host_after.stops (idle nothing).stops steps
+
   unbegun_exit : done ≡ Nothing → Within (left_at_exit r) (Before (entry r))
-  unbegun_exit nothing = before_within r.host r.host_after (both r.host.stops mid.stops r.host_after.stops (first.stays (ap given nothing)) steps)
+  unbegun_exit nothing = before_within r.host r.host_after (unbegun_stops nothing)
 
   unbegun_state : done ≡ Nothing → r.host_tells → r.host_after.state ≡ r.host.state
-  unbegun_state nothing t = state t ∙ first.same t (ap given nothing)
+  unbegun_state nothing t = state t ∙ (idle nothing).same t
+
+  unchanged_back : done ≡ Nothing → Unchanged r
+  unchanged_back nothing = record { state = unbegun_state nothing; stops = unbegun_stops nothing }
 
   unbegun_reads : done ≡ Nothing → r.host_tells → Within (Only (standing r.host_after.state)) (Before (at (reads r)))
   unbegun_reads nothing t x is = record { station = x; is = is ∙ ap standing (unbegun_state nothing t); like = alike_is x x refl }
@@ -99,6 +110,16 @@ module _ (r : Run) (p : PolicyData) (opts : ApplyOpts) where
   fail_tried Nothing clear only back = tt
   fail_tried (Waits deadline) clear only back = absurd clear
   fail_tried Restored clear only back = record { gave = λ t. inr only; net = λ honest. inr (back honest) }
+
+  fail_unbegun : (done : Recovered) → IsClear done → (done ≡ Nothing → Unchanged r) → Unbegun r (Ok (applying_policy p opts)) (Err (HostFault (side_of done)))
+  fail_unbegun Nothing clear unchanged = unchanged refl
+  fail_unbegun (Waits deadline) clear unchanged = absurd clear
+  fail_unbegun Restored clear unchanged = tt
+
+  late_unbegun : (done : Recovered) → IsClear done → (done ≡ Nothing → Unchanged r) → (done ≡ Restored → r.host_tells → HasTaken r.now (reads r).cell) → UnchangedOrTaken r
+  late_unbegun Nothing clear unchanged taken = inr (unchanged refl)
+  late_unbegun (Waits deadline) clear unchanged taken = absurd clear
+  late_unbegun Restored clear unchanged taken = inl (taken refl)
 
   fail_leaves : (before : Entry) (left : Stands) (rose twice : Type 0) (last : Standing) (done : Recovered) → IsClear done → (done ≡ Nothing → Within left (Before before)) → Within left (Settled r.now before)
       → PolicyLeaves opts r.now last before left rose twice (Err (HostFault (side_of done)))
@@ -132,6 +153,7 @@ module _ (r : Run) (p : PolicyData) (opts : ApplyOpts) (inputs : Inputs) (may_re
         told = told;
         goes_on = goes_on;
         looks = tt;
+        unbegun = tt;
         exactly = λ honest. wanted;
         expects = λ a. wanted;
         leaves = λ a. inr (inr (tt, λ x there. near_wider (Settled r.now (entry r)) _ (λ y back. inl back) x (settled_exit r p opts goes_on done clear mid first state steps a x there)));
@@ -156,6 +178,7 @@ module _ (r : Run) (p : PolicyData) (opts : ApplyOpts) (inputs : Inputs) (may_re
         told = told;
         goes_on = goes_on;
         looks = tt;
+        unbegun = fail_unbegun r p opts done clear (unchanged_back r p opts goes_on done clear mid first state steps);
         exactly = λ honest. rose;
         expects = λ a. rose;
         leaves = λ a. fail_leaves r p opts (entry r) (left_at_exit r) (HostRose r) (HostRoseTwice r) (machine_of r.now (Ok (applying_policy p opts)) (reads r)).after done clear
@@ -195,6 +218,7 @@ module _ (r : Run) (p : PolicyData) (opts : ApplyOpts) (inputs : Inputs) (may_re
         told = told;
         goes_on = goes_on;
         looks = tt;
+        unbegun = tt;
         exactly = λ honest. inr (refused_answer p opts r.now (reads r) (Damaged 0) (refused honest));
         expects = λ a. refused_outcome p opts r.now (reads r) (Damaged 0) r.host_after (refused a.honest) (reads_back r p opts goes_on done clear mid first look.state look.stops a.honest);
         leaves = λ a. unrestored r p opts done clear (unbegun_exit r p opts goes_on done clear mid first look.state look.stops) (unrestored_net a.honest);
@@ -245,6 +269,7 @@ module _ (r : Run) (p : PolicyData) (opts : ApplyOpts) (inputs : Inputs) (may_re
         told = told;
         goes_on = goes_on;
         looks = tt;
+        unbegun = late_unbegun r p opts done clear (unchanged_back r p opts goes_on done clear mid first look.state look.stops) (λ is t. first.restored t (ap given is));
         exactly = λ honest. refused_answer p opts r.now (reads r) (DocRefused fault) (refused honest);
         expects = λ a. refused_outcome p opts r.now (reads r) (DocRefused fault) r.host_after (refused a.honest) (reads_back r p opts goes_on done clear mid first look.state look.stops a.honest);
         leaves = λ a. settled_exit r p opts goes_on done clear mid first look.state look.stops a;

@@ -239,6 +239,7 @@ module _ (r : Run) (p : PolicyData) (nothing : ChangesNothing r.host_tells r.hos
         kept = λ a. kept_stays _ r.host r.host_after a.sound nothing.stops;
         spares = λ a. tt;
         looks = record { state = nothing.state; stops = nothing.stops };
+        unbegun = tt;
       }
 
 -- ---- a plan for it
@@ -364,6 +365,7 @@ module _ (r : Run) (p : PolicyData) (in_batch : Bool) (nothing : ChangesNothing 
         kept = λ a. kept_stays _ r.host r.host_after a.sound nothing.stops;
         spares = λ a. tt;
         looks = record { state = nothing.state; stops = nothing.stops };
+        unbegun = tt;
       }
 
 -- ---- what is told of it, with the notes of the document

@@ -133,4 +133,5 @@ module _ (r : Run) (devices : List Link) (first second : Doc) where
           kept = λ a. kept_stays _ r.host r.host_after a.sound nothing.stops;
           spares = λ a. tt;
           looks = tt;
+          unbegun = tt;
         }

@@ -249,6 +249,7 @@ module _ (r : Run) (only : Option Text) (json : Bool) (nothing : ChangesNothing 
         kept = λ a. kept_stays _ r.host r.host_after a.sound nothing.stops;
         spares = λ a. tt;
         looks = record { state = nothing.state; stops = nothing.stops };
+        unbegun = tt;
       }
 
 -- ---- plan
@@ -328,4 +329,5 @@ module _ (r : Run) (doc : Doc) (in_batch : Bool) (nothing : ChangesNothing r.hos
         kept = λ a. kept_stays _ r.host r.host_after a.sound nothing.stops;
         spares = λ a. tt;
         looks = record { state = nothing.state; stops = nothing.stops };
+        unbegun = tt;
       }

@@ -277,4 +277,5 @@ module _ (r : Run) (links : List Link) where
         kept = λ honest. kept r links (ran.goes_on.tells honest) result m;
         spares = λ honest. tt;
         looks = tt;
+        unbegun = tt;
       }

@@ -1,13 +1,15 @@
 -- What an apply of a policy may answer, and what it leaves, by the answer of the change of its document.
-use Rattle.std.proofs.Common.{◌≡◌, inr, None}
+use Rattle.std.proofs.Common.{◌≡◌, ◌⊎◌, inl, inr, refl, sym, subst, Option, None}
 use Rattle.std.specs.Prelude.{◌≢◌, Result, Ok, Err}
 use Rattle.policy_model.specs.Values.{PolicyData}
 use Rattle.host_core.specs.HostView.{HostView}
+use Rattle.checkpoint_cell.specs.Cell.{Checkpoint}
 use Rattle.checkpoint_cell.specs.Settled.{standing}
 use Rattle.engine_model.specs.Machine.{Asked, apply}
 use Rattle.engine_model.specs.Stations.{Stands, Entry}
 use Rattle.engine_model.specs.Exit.{ApplyExit}
-use Rattle.engine_model.specs.Faults.{ApplySays}
+use Rattle.engine_model.specs.Failing.{IsUnbegun, ApplyIdle}
+use Rattle.engine_model.specs.Faults.{HasTaken, ApplySays}
 use Rattle.engine_model.specs.declared.Left.{Left}
 use Rattle.engine_model.specs.declared.Left.TheVariants as sides
 use Rattle.engine_model.specs.declared.Applied.{Applied}
@@ -18,6 +20,9 @@ use Rattle.top_model.specs.Orders.{Inputs, applying_policy, committing, rolling_
 use Rattle.top_model.specs.Runs.{Run, entry, reads}
 use Rattle.top_model.specs.Causes.{MayWant, MayAnswer}
 use Rattle.top_model.specs.Exits.{PolicyLeaves}
+use Rattle.top_model.specs.Answered.{UnchangedOrTaken, Unbegun}
+use Rattle.top_model.specs.declared.report.Cause.TheVariants as cause
+use Rattle.top_model.proofs.lemmas.Unbegun.{unchanged, unbegun_on}
 use Rattle.top_model.proofs.lemmas.Wanting.{may_want_order}
 use Rattle.top_model.proofs.lemmas.Continued as go
 use Rattle.command_laws.proofs.lemmas.Applies.{answer_of}
@@ -82,3 +87,35 @@ leaves a entry left rose twice (Err InDoubt) exit = record { to = exit.to; near 
 leaves a entry left rose twice (Err (Damaged area)) exit = exit
 leaves a entry left rose twice (Err (HardwareDiffers names)) exit = absurd exit
 leaves a entry left rose twice (Err OutOfMemory) exit = inr exit
+
+-- where the recovery and the dump began nothing, or something was to be taken back first
+module _ (r : Run) (p : PolicyData) (opts : ApplyOpts) (back : Left) (mid : HostView) (side : back ≢ sides.Pending) (none : r.host_tells → (standing mid.state).cell ≡ None)
+    (idle : back ≡ sides.NotBegun → IsUnbegun r.host_tells r.host mid) (taken : back ≡ sides.RolledBack → r.host_tells → HasTaken r.now (reads r).cell) where
+  begun_as : (left : Left) → left ≡ back → IsUnbegun r.host_tells mid r.host_after → Unbegun r (Ok (applying_policy p opts)) (Err (cause.HostFault left))
+  begun_as sides.NotBegun is last = unchanged r (unbegun_on r.host_tells r.host mid r.host_after (idle (sym is)) last)
+  begun_as sides.RolledBack is last = tt
+  begun_as sides.Pending is last = tt
+
+  settled_as : (left : Left) → left ≡ back → IsUnbegun r.host_tells mid r.host_after → UnchangedOrTaken r
+  settled_as sides.NotBegun is last = inr (unchanged r (unbegun_on r.host_tells r.host mid r.host_after (idle (sym is)) last))
+  settled_as sides.RolledBack is last = inl (taken (sym is))
+  settled_as sides.Pending is last = absurd (side (sym is))
+
+  refused_as : (r.host_tells → HasTaken r.now (standing mid.state).cell) ⊎ IsUnbegun r.host_tells mid r.host_after → UnchangedOrTaken r
+  refused_as (inl has) = inl (λ t. absurd (subst (λ (c : Option Checkpoint). HasTaken r.now c) (none t) (has t)))
+  refused_as (inr last) = settled_as back refl last
+
+  pub unbegun : (result : Result Applied ApplyFault) → ApplyIdle r.host_tells r.now mid r.host_after result → Unpending r.host_tells (go.told_as back result)
+      → Unbegun r (Ok (applying_policy p opts)) (answer_of (go.told_as back result))
+  unbegun (Ok done) last never = tt
+  unbegun (Err (Pending until)) last never = λ t. absurd (never t)
+  unbegun (Err (MergeRefused refused)) last never = refused_as last
+  unbegun (Err (HostFault sides.NotBegun)) last never = begun_as back refl last
+  unbegun (Err (HostFault sides.RolledBack)) last never = tt
+  unbegun (Err (HostFault sides.Pending)) last never = tt
+  unbegun (Err (KernelRefused k n left)) last never = tt
+  unbegun (Err (NotVerified found left)) last never = tt
+  unbegun (Err InDoubt) last never = tt
+  unbegun (Err (Damaged area)) last never = tt
+  unbegun (Err (HardwareDiffers names)) last never = tt
+  unbegun (Err OutOfMemory) last never = tt

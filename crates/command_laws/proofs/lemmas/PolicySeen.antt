@@ -1,18 +1,17 @@
 -- What was done before the change of an apply of a policy: the recovery and the dump, and what is told of a fault behind them.
-use Rattle.std.proofs.Common.{◌≡◌, ◌⊎◌, ◌≤◌, inl, inr, refl, sym, ap, arith, ◌∙◌, ℕ, Some, None}
+use Rattle.std.proofs.Common.{◌≡◌, ◌≤◌, inr, refl, sym, ap, arith, ◌∙◌, ℕ, Some, None}
 use Rattle.std.specs.Prelude.{◌≢◌, Result, Ok, Err}
 use Rattle.net_model.specs.NetData.{NetData}
 use Rattle.document_model.specs.declared.Doc.{Doc}
 use Rattle.policy_model.specs.Values.{PolicyData}
 use Rattle.host_core.specs.HostView.{State, HostView, NoneRefused}
-use Rattle.host_core.specs.Stops.{Steps, Stays}
 use Rattle.checkpoint_cell.specs.Cell.{cell_of}
 use Rattle.checkpoint_cell.specs.Settled.{Standing, standing, restored_to}
 use Rattle.engine_model.specs.Machine.{recover}
 use Rattle.engine_model.specs.Sound.{Sound}
 use Rattle.engine_model.specs.Answers.{IsClear}
 use Rattle.engine_model.specs.Stations.{Near, Only, Kept, left_by}
-use Rattle.engine_model.specs.Refusals.{NoCallMade}
+use Rattle.engine_model.specs.Failing.{IsUnbegun}
 use Rattle.engine_model.specs.Faults.{HasTaken}
 use Rattle.engine_model.specs.declared.Left.TheVariants as sides
 use Rattle.engine_model.specs.declared.Applied.{Applied}
@@ -21,10 +20,10 @@ use Rattle.engine_model.specs.declared.Recovered.TheVariants.{Nothing, Waiting a
 use Rattle.engine_model.specs.declared.BackFault.{BackFault}
 use Rattle.engine_model.specs.declared.ApplyFault.{ApplyFault}
 use Rattle.engine_model.specs.declared.ApplyFault.TheVariants.{Pending, MergeRefused, HostFault, KernelRefused, NotVerified, InDoubt, Damaged, HardwareDiffers, OutOfMemory}
-use Rattle.engine_model.proofs.lemmas.Leading.{near_wider, both, kept_on, kept_stays}
-use Rattle.engine_model.proofs.lemmas.Refusals.{quiet_on, quiet_dumped, unmade_on}
+use Rattle.engine_model.proofs.lemmas.Leading.{near_wider, kept_on, kept_stays}
+use Rattle.engine_model.proofs.lemmas.Refusals.{quiet_on, quiet_dumped}
 use Rattle.top_model.specs.declared.report.Cause.{Cause}
-use Rattle.top_model.specs.declared.report.Cause.TheVariants as cause
+use Rattle.top_model.proofs.lemmas.Unbegun.{unbegun_on}
 use Rattle.top_model.proofs.lemmas.Counting.{nothing_other}
 use Rattle.top_model.proofs.lemmas.Continued as go
 use Rattle.command_laws.specs.Begun.{Recovers, side_of, Seen, Wants, told_side}
@@ -86,11 +85,6 @@ restored Nothing clear is = absurd (rolled_begun (sym is))
 restored (Waits deadline) clear is = absurd clear
 restored Restored clear is = refl
 
-same_or_restored : {X : Type 0} (done : Recovered) → IsClear done → X → (side_of done ≡ sides.NotBegun) ⊎ X
-same_or_restored Nothing clear x = inl refl
-same_or_restored (Waits deadline) clear x = inr x
-same_or_restored Restored clear x = inr x
-
 pub later : (a b c : ℕ) → a ≤ b → b ≤ c → a ≤ c
 later a b c one two = omega arith
 
@@ -107,9 +101,12 @@ module _ (tells honest : Type 0) (honest_tells : honest → tells) (now : ℕ) (
   pub seen_quiet : NoneRefused old.kernel new.kernel
   seen_quiet = quiet_on old.kernel between.kernel new.kernel first.counts (quiet_dumped between.kernel new.kernel seen.looks.calls)
 
-  -- where nothing was taken back, no call was made
-  pub seen_unmade : side_of done ≡ sides.NotBegun → NoCallMade old.kernel new.kernel
-  seen_unmade is = unmade_on old.kernel between.kernel new.kernel (inl (first.unmade (λ e. nothing_other (sym (unbegun done seen.begun.clear is) ∙ e)))) (inr seen.looks.calls)
+  -- where nothing was taken back, nothing was begun
+  seen_idle : side_of done ≡ sides.NotBegun → IsUnbegun tells old between
+  seen_idle is = first.idle (λ e. nothing_other (sym (unbegun done seen.begun.clear is) ∙ e))
+
+  pub seen_unbegun : side_of done ≡ sides.NotBegun → IsUnbegun tells old new
+  seen_unbegun is = unbegun_on tells old between new (seen_idle is) (record { stops = seen.looks.stops; same = seen.looks.state; unmade = inr seen.looks.calls })
 
   -- where something was, it was to be
   pub seen_taken : side_of done ≡ sides.RolledBack → tells → HasTaken now (standing old.state).cell
@@ -118,13 +115,6 @@ module _ (tells honest : Type 0) (honest_tells : honest → tells) (now : ℕ) (
   -- no checkpoint stands
   pub seen_none : tells → (standing new.state).cell ≡ None
   seen_none t = ap (λ (s : State). cell_of s.cell) (seen.looks.state t) ∙ (first.cleared t seen.begun.clear).cell
-
-  -- where nothing was taken back, nothing was changed
-  pub seen_same : side_of done ≡ sides.NotBegun → tells → new.state ≡ old.state
-  seen_same is t = seen.looks.state t ∙ first.same t (ap given (unbegun done seen.begun.clear is))
-
-  pub seen_stays : side_of done ≡ sides.NotBegun → Steps Stays old.stops new.stops
-  seen_stays is = both old.stops between.stops new.stops (first.stays (ap given (unbegun done seen.begun.clear is))) seen.looks.stops
 
   pub seen_answer : honest → (recover now (standing old.state)).answer ≡ given done
   seen_answer h = first.exact h

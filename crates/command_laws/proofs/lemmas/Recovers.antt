@@ -1,12 +1,14 @@
 -- All that is said of a recovery, from what the engine promises of it.
 use Rattle.std.proofs.Common.{◌≡◌, inl, inr, refl, ap}
-use Rattle.std.specs.Prelude.{◌≢◌, ℕ, Result, Ok, Err, IfOk, IsErrOf}
+use Rattle.std.specs.Prelude.{◌≢◌, ℕ, Result, Ok, Err, IfOk, IfErr, IsErrOf}
 use Rattle.checkpoint_cell.specs.Settled.{Standing, standing}
 use Rattle.engine_model.specs.Machine.{recover}
 use Rattle.engine_model.specs.Sound.{Sound}
+use Rattle.engine_model.specs.Answers.{IsBefore}
 use Rattle.engine_model.specs.Stations.{Stands, Entry, Only, Kept, at}
 use Rattle.engine_model.specs.Exit.{BackExit}
 use Rattle.engine_model.specs.Refusals.{BackCounts}
+use Rattle.engine_model.specs.Failing.{IsUnbegun}
 use Rattle.engine_model.specs.Faults.{BackAnswers, BackExact, BackSays, HasTaken, GaveSaved}
 use Rattle.engine_model.specs.declared.Left.TheVariants as sides
 use Rattle.engine_model.specs.declared.Recovered.{Recovered}
@@ -21,8 +23,9 @@ use Rattle.top_model.specs.Told.{Answer, Told}
 use Rattle.top_model.specs.Causes.{MayWant, MayAnswer, Comes, Expects, ExactlyOf}
 use Rattle.top_model.specs.Tried.{Tried}
 use Rattle.top_model.specs.Exits.{BackLeaves}
-use Rattle.top_model.specs.Answered.{GoesOn, Answered}
-use Rattle.top_model.proofs.lemmas.Counting.{recover_counted}
+use Rattle.top_model.specs.Answered.{GoesOn, Unbegun, Answered}
+use Rattle.top_model.proofs.lemmas.Unbegun.{unchanged}
+use Rattle.top_model.proofs.lemmas.Counting.{nothing_other, waits_other, recover_counted}
 use Rattle.top_model.proofs.lemmas.Wanting.{may_want_recovering}
 
 abbrev pub answer_of : Result Recovered BackFault → Answer
@@ -86,12 +89,43 @@ module _ (r : Run) where
   comes (Err (HardwareDiffers names)) says counts done wants = says
   comes (Err OutOfMemory) says counts done wants = wants refl
 
+  -- where it began, a change was to be taken back
+  abbrev Begins : Result Recovered BackFault → Type 0
+  Begins result = r.host_tells → IfErr result (λ fault. (IsBefore fault → ⊥) → HasTaken r.now (reads r).cell)
+
+  -- where it restored nothing, or failed before it began, the host is as it was
+  abbrev Idles : Result Recovered BackFault → Type 0
+  Idles result = IfOk result (λ done. done ≢ Restored → IsUnbegun r.host_tells r.host r.host_after)
+
+  abbrev Fails : Result Recovered BackFault → Type 0
+  Fails result = IfErr result (λ fault. IsBefore fault → IsUnbegun r.host_tells r.host r.host_after)
+
   -- one that restored something gave the saved network
-  tried : (result : Result Recovered BackFault) → (r.host_tells → result ≡ given Restored → GaveSaved r.host_after) → Tried r (Ok recovering) (answer_of result)
-  tried (Ok Nothing) gave = tt
-  tried (Ok (Waiting deadline)) gave = tt
-  tried (Ok Restored) gave = λ t. gave t refl
-  tried (Err fault) gave = tt
+  tried : (result : Result Recovered BackFault) → (r.host_tells → result ≡ given Restored → GaveSaved r.host_after) → Begins result → Tried r (Ok recovering) (answer_of result)
+  tried (Ok Nothing) gave begun = tt
+  tried (Ok (Waiting deadline)) gave begun = tt
+  tried (Ok Restored) gave begun = λ t. gave t refl
+  tried (Err NoCheckpoint) gave begun = tt
+  tried (Err (HostFault sides.NotBegun)) gave begun = tt
+  tried (Err (HostFault sides.RolledBack)) gave begun = tt
+  tried (Err (HostFault sides.Pending)) gave begun = λ t. begun t (λ never. never)
+  tried (Err (KernelRefused k n side)) gave begun = tt
+  tried (Err (Damaged area)) gave begun = tt
+  tried (Err (HardwareDiffers names)) gave begun = tt
+  tried (Err OutOfMemory) gave begun = tt
+
+  unbegun : (result : Result Recovered BackFault) → Idles result → Fails result → Unbegun r (Ok recovering) (answer_of result)
+  unbegun (Ok Nothing) idle before = unchanged r (idle nothing_other)
+  unbegun (Ok (Waiting deadline)) idle before = unchanged r (idle (waits_other deadline))
+  unbegun (Ok Restored) idle before = tt
+  unbegun (Err NoCheckpoint) idle before = tt
+  unbegun (Err (HostFault sides.NotBegun)) idle before = unchanged r (before tt)
+  unbegun (Err (HostFault sides.RolledBack)) idle before = tt
+  unbegun (Err (HostFault sides.Pending)) idle before = tt
+  unbegun (Err (KernelRefused k n side)) idle before = tt
+  unbegun (Err (Damaged area)) idle before = unchanged r (before tt)
+  unbegun (Err (HardwareDiffers names)) idle before = unchanged r (before tt)
+  unbegun (Err OutOfMemory) idle before = tt
 
   exactly : (result : Result Recovered BackFault) → Says result → BackExact (recover r.now (reads r)).answer result → (IsErrOf result OutOfMemory → MayWant r) → ExactlyOf r (Ok recovering) (answer_of result)
   exactly (Ok x) says is wants = (ap answer_of is, tt)
@@ -113,6 +147,7 @@ module _ (r : Run) where
 
   module _ (inputs : Inputs) (may_read : MayRead r inputs) (is : order_of r.in_script inputs r.words ≡ Ok recovering) (result : Result Recovered BackFault) (says : Says result) (counts : Counted result)
       (unmade : IfOk result (λ x. x ≢ Restored → r.host_after.kernel ≡ r.host.kernel)) (gave : r.host_tells → result ≡ given Restored → GaveSaved r.host_after) (done : r.host_tells → Done result)
+      (begun : Begins result) (idle : Idles result) (before : Fails result)
       (exact : r.honest → BackExact (recover r.now (reads r)).answer result)
       (answers : r.honest → Sound r.host → Answers result)
       (exits : r.honest → Sound r.host → BackExit (recover r.now (reads r)).after (entry r) (left_at_exit r) result)
@@ -130,7 +165,7 @@ module _ (r : Run) where
       may = may result says never;
       comes = comes result says counts done wants;
       counts = recover_counted r.host.kernel r.host_after.kernel result counts unmade;
-      tried = tried result gave;
+      tried = tried result gave begun;
       exactly = λ honest. exactly result says (exact honest) wants;
       told = told;
       goes_on = goes_on;
@@ -140,4 +175,5 @@ module _ (r : Run) where
       kept = λ a. kept a.honest a.sound;
       spares = λ a. tt;
       looks = tt;
+      unbegun = unbegun result idle before;
     }

@@ -1,12 +1,14 @@
 -- All that is said of a rollback, from what the engine promises of it.
 use Rattle.std.proofs.Common.{◌≡◌, inl, inr, refl, ap}
-use Rattle.std.specs.Prelude.{⊤, Result, Ok, Err, OnOk, IsErrOf}
+use Rattle.std.specs.Prelude.{⊤, Result, Ok, Err, IfErr, OnOk, IsErrOf}
 use Rattle.checkpoint_cell.specs.Settled.{Standing, standing}
 use Rattle.engine_model.specs.Machine.{rollback}
 use Rattle.engine_model.specs.Sound.{Sound}
+use Rattle.engine_model.specs.Answers.{IsBefore}
 use Rattle.engine_model.specs.Stations.{Stands, Entry, Only, Kept, at}
 use Rattle.engine_model.specs.Exit.{BackExit}
 use Rattle.engine_model.specs.Refusals.{BackCounts}
+use Rattle.engine_model.specs.Failing.{IsUnbegun}
 use Rattle.engine_model.specs.Faults.{BackAnswers, BackExact, BackSays, HasSet, GaveSaved}
 use Rattle.engine_model.specs.declared.Left.TheVariants as sides
 use Rattle.engine_model.specs.declared.BackFault.{BackFault}
@@ -19,7 +21,8 @@ use Rattle.top_model.specs.Told.{Answer, Told}
 use Rattle.top_model.specs.Causes.{MayWant, MayAnswer, Comes, Expects, ExactlyOf}
 use Rattle.top_model.specs.Tried.{Tried}
 use Rattle.top_model.specs.Exits.{BackLeaves}
-use Rattle.top_model.specs.Answered.{GoesOn, Answered}
+use Rattle.top_model.specs.Answered.{GoesOn, Unbegun, Answered}
+use Rattle.top_model.proofs.lemmas.Unbegun.{unchanged}
 use Rattle.top_model.proofs.lemmas.Counting.{rollback_counted}
 use Rattle.top_model.proofs.lemmas.Wanting.{may_want_rolling_back}
 
@@ -70,10 +73,36 @@ module _ (r : Run) where
   comes (Err (HardwareDiffers names)) says counts done wants = says
   comes (Err OutOfMemory) says counts done wants = wants refl
 
+  -- where it began, a checkpoint stood
+  abbrev Begins : Result ⊤ BackFault → Type 0
+  Begins result = r.host_tells → IfErr result (λ fault. (IsBefore fault → ⊥) → HasSet (reads r).cell)
+
+  -- where it didn't, the host is as it was
+  abbrev Idles : Result ⊤ BackFault → Type 0
+  Idles result = IfErr result (λ fault. IsBefore fault → IsUnbegun r.host_tells r.host r.host_after)
+
   -- one that is done gave the saved network
-  tried : (result : Result ⊤ BackFault) → (r.host_tells → OnOk result (GaveSaved r.host_after)) → Tried r (Ok rolling_back) (answer_of result)
-  tried (Ok x) gave = gave
-  tried (Err fault) gave = tt
+  tried : (result : Result ⊤ BackFault) → (r.host_tells → OnOk result (GaveSaved r.host_after)) → Begins result → Tried r (Ok rolling_back) (answer_of result)
+  tried (Ok x) gave begun = gave
+  tried (Err NoCheckpoint) gave begun = tt
+  tried (Err (HostFault sides.NotBegun)) gave begun = tt
+  tried (Err (HostFault sides.RolledBack)) gave begun = tt
+  tried (Err (HostFault sides.Pending)) gave begun = λ t. begun t (λ never. never)
+  tried (Err (KernelRefused k n side)) gave begun = tt
+  tried (Err (Damaged area)) gave begun = tt
+  tried (Err (HardwareDiffers names)) gave begun = tt
+  tried (Err OutOfMemory) gave begun = tt
+
+  unbegun : (result : Result ⊤ BackFault) → Idles result → Unbegun r (Ok rolling_back) (answer_of result)
+  unbegun (Ok x) idle = tt
+  unbegun (Err NoCheckpoint) idle = unchanged r (idle tt)
+  unbegun (Err (HostFault sides.NotBegun)) idle = unchanged r (idle tt)
+  unbegun (Err (HostFault sides.RolledBack)) idle = tt
+  unbegun (Err (HostFault sides.Pending)) idle = tt
+  unbegun (Err (KernelRefused k n side)) idle = tt
+  unbegun (Err (Damaged area)) idle = unchanged r (idle tt)
+  unbegun (Err (HardwareDiffers names)) idle = unchanged r (idle tt)
+  unbegun (Err OutOfMemory) idle = tt
 
   exactly : (result : Result ⊤ BackFault) → Says result → BackExact (rollback (reads r)).answer result → (IsErrOf result OutOfMemory → MayWant r) → ExactlyOf r (Ok rolling_back) (answer_of result)
   exactly (Ok x) says is wants = (ap answer_of is, tt)
@@ -94,7 +123,7 @@ module _ (r : Run) where
   expects (Err OutOfMemory) is wants = wants refl
 
   module _ (inputs : Inputs) (may_read : MayRead r inputs) (is : order_of r.in_script inputs r.words ≡ Ok rolling_back) (result : Result ⊤ BackFault) (says : Says result) (counts : Counted result)
-      (gave : r.host_tells → OnOk result (GaveSaved r.host_after)) (done : r.host_tells → Done result)
+      (gave : r.host_tells → OnOk result (GaveSaved r.host_after)) (done : r.host_tells → Done result) (begun : Begins result) (idle : Idles result)
       (exact : r.honest → BackExact (rollback (reads r)).answer result)
       (answers : r.honest → Sound r.host → Answers result)
       (exits : r.honest → Sound r.host → BackExit (rollback (reads r)).after (entry r) (left_at_exit r) result)
@@ -112,7 +141,7 @@ module _ (r : Run) where
       may = may result says;
       comes = comes result says counts done wants;
       counts = rollback_counted r.host.kernel r.host_after.kernel result counts;
-      tried = tried result gave;
+      tried = tried result gave begun;
       exactly = λ honest. exactly result says (exact honest) wants;
       told = told;
       goes_on = goes_on;
@@ -122,4 +151,5 @@ module _ (r : Run) where
       kept = λ a. kept a.honest a.sound;
       spares = λ a. tt;
       looks = tt;
+      unbegun = unbegun result idle;
     }

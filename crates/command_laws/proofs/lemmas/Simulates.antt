@@ -176,6 +176,7 @@ module _ (r : Run) (calls : List Call) (nothing : ChangesNothing r.host_tells r.
         kept = λ a. kept_stays _ r.host r.host_after a.sound nothing.stops;
         spares = λ a. tt;
         looks = record { state = nothing.state; stops = nothing.stops };
+        unbegun = tt;
       }
 
 -- ---- the text of it

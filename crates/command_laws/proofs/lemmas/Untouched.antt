@@ -27,7 +27,7 @@ use Rattle.top_model.specs.Counts.{Counts}
 use Rattle.top_model.specs.Tried.{Tried}
 use Rattle.top_model.specs.Exits.{AtExit, KeptBy, Reaches}
 use Rattle.top_model.specs.Undisturbed.{Spares, LeavesAlone}
-use Rattle.top_model.specs.Answered.{GoesOn, Unchanged, LooksAlone, Rests, Answered}
+use Rattle.top_model.specs.Answered.{GoesOn, Unchanged, LooksAlone, Unbegun, Rests, Answered}
 use Rattle.top_model.specs.declared.report.Cause.{Cause}
 use Rattle.top_model.specs.declared.report.Cause.TheVariants.{Usage, ReadFault, OutOfMemory}
 use Rattle.command_laws.proofs.lemmas.Either.{either}
@@ -376,6 +376,39 @@ looks r (Ok (making links)) = tt
 looks r (Ok (generating devices first second)) = tt
 looks r (Err refusal) = tt
 
+-- these answers don't say that nothing was begun
+unbegun_memory : (r : Run) (order : Result Order Cause) → Unbegun (still r) order (Err OutOfMemory)
+unbegun_memory r (Ok (showing only json)) = tt
+unbegun_memory r (Ok (planning doc in_batch)) = tt
+unbegun_memory r (Ok (evaluating p)) = tt
+unbegun_memory r (Ok (planning_policy p in_batch)) = tt
+unbegun_memory r (Ok (simulating calls)) = tt
+unbegun_memory r (Ok (applying doc how)) = tt
+unbegun_memory r (Ok (applying_policy p how)) = tt
+unbegun_memory r (Ok committing) = tt
+unbegun_memory r (Ok rolling_back) = tt
+unbegun_memory r (Ok recovering) = tt
+unbegun_memory r (Ok checking) = tt
+unbegun_memory r (Ok (making links)) = tt
+unbegun_memory r (Ok (generating devices first second)) = tt
+unbegun_memory r (Err refusal) = tt
+
+unbegun_unread : (r : Run) (order : Result Order Cause) → Unbegun (still r) order (Err ReadFault)
+unbegun_unread r (Ok (showing only json)) = tt
+unbegun_unread r (Ok (planning doc in_batch)) = tt
+unbegun_unread r (Ok (evaluating p)) = tt
+unbegun_unread r (Ok (planning_policy p in_batch)) = tt
+unbegun_unread r (Ok (simulating calls)) = tt
+unbegun_unread r (Ok (applying doc how)) = tt
+unbegun_unread r (Ok (applying_policy p how)) = tt
+unbegun_unread r (Ok committing) = tt
+unbegun_unread r (Ok rolling_back) = tt
+unbegun_unread r (Ok recovering) = tt
+unbegun_unread r (Ok checking) = tt
+unbegun_unread r (Ok (making links)) = tt
+unbegun_unread r (Ok (generating devices first second)) = tt
+unbegun_unread r (Err refusal) = tt
+
 module _ (r : Run) (untouched : r.untouched) (goes_on : GoesOn (still r)) where
   -- memory ran out
   pub out_of_memory : (order : Result Order Cause) → Gives r order → MayWant r → Told (still r) order (Err OutOfMemory) → Answered (still r)
@@ -396,6 +429,7 @@ module _ (r : Run) (untouched : r.untouched) (goes_on : GoesOn (still r)) where
     kept = λ rests. kept r order OutOfMemory (rests_still r order rests);
     spares = λ rests. spares r order (Err OutOfMemory) goes_on.lawful goes_on.tells (rests_still r order rests);
     looks = looks r order;
+    unbegun = unbegun_memory r order;
   }
 
   -- the input wasn't read
@@ -417,6 +451,7 @@ module _ (r : Run) (untouched : r.untouched) (goes_on : GoesOn (still r)) where
     kept = λ rests. kept r order ReadFault (rests_still r order rests);
     spares = λ rests. spares r order (Err ReadFault) goes_on.lawful goes_on.tells (rests_still r order rests);
     looks = looks r order;
+    unbegun = unbegun_unread r order;
   }
 
   -- words or inputs were refused
@@ -438,4 +473,5 @@ module _ (r : Run) (untouched : r.untouched) (goes_on : GoesOn (still r)) where
     kept = λ rests. kept r (Err c) c (rests_still r (Err c) rests);
     spares = λ rests. tt;
     looks = tt;
+    unbegun = tt;
   }

@@ -21,7 +21,7 @@ use Rattle.top_model.specs.Told.{Answer, Told, ErrText}
 use Rattle.top_model.specs.Telling.{Tells}
 use Rattle.top_model.specs.Causes.{MayAnswer, Comes, Expects, ExactlyOf}
 use Rattle.top_model.specs.Exits.{CommitLeaves}
-use Rattle.top_model.specs.Answered.{GoesOn, Answered}
+use Rattle.top_model.specs.Answered.{GoesOn, Unbegun, Answered}
 use Rattle.top_model.specs.declared.report.Cause.TheVariants.{Done}
 use Rattle.top_model.proofs.lemmas.Writes.{told_done, told_refused}
 
@@ -86,7 +86,7 @@ module _ (r : Run) (is : command_of r.words ≡ Some Commit) (tells_if : r.hones
   module _ (result : Result ⊤ CommitFault) (answers : CommitAnswers r.host_tells r.now r.host r.host_after result)
       (exits : r.host_tells → Sound r.host → CommitExit r.now (entry r) (left_at_exit r) result)
       (read_exits : r.host_tells → Sound r.host → CommitExit r.now (at (reads r)) (Only (standing r.host_after.state)) result)
-      (kept : r.host_tells → Sound r.host → Kept (Only (commit r.now (reads r)).after) r.host r.host_after)
+      (kept : r.host_tells → Sound r.host → Kept (Only (commit r.now (reads r)).after) r.host r.host_after) (idle : Unbegun r (Ok committing) (answer_of result))
       (same : r.host_after.kernel ≡ r.host.kernel) where
     pub answered : GoesOn r → Told r (Ok committing) (answer_of result) → Answered r
     answered goes_on told = record {
@@ -105,6 +105,7 @@ module _ (r : Run) (is : command_of r.words ≡ Some Commit) (tells_if : r.hones
       kept = λ a. kept (tells_if a.honest) a.sound;
       spares = λ a. tt;
       looks = tt;
+      unbegun = idle;
       goes_on = goes_on;
     }
 

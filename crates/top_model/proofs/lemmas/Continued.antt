@@ -14,7 +14,7 @@ use Rattle.merge_model.specs.MergedNet.{merge}
 use Rattle.engine_model.specs.Machine.{Outcome, Asked, apply, apply_step, apply_settled, change, merged_as, deadline_of, waiting, recover, recover_cell}
 use Rattle.engine_model.specs.Sound.{Fit, Sound}
 use Rattle.engine_model.specs.Answers.{IsClear}
-use Rattle.engine_model.specs.Stations.{Stands, Near, Within, Only, Before, Settled, Either, Kept, Entry, entry_of, at, left_by}
+use Rattle.engine_model.specs.Stations.{Stands, Near, Within, Only, Before, Settled, Either, Kept, Entry, entry_of}
 use Rattle.engine_model.specs.Exit.{Unsettled, Marked, OnWay, InDoubt as IsInDoubt, ApplyExit}
 use Rattle.engine_model.specs.Refusals.{NoCallMade, ApplyCounts}
 use Rattle.engine_model.specs.Faults.{IsOutcome, IsMade, LeftSays, HasTaken, HadDamaged, GaveBack, SettlesOnly, StandsDamaged, ApplySays, ApplyExact, ApplyAnswers, Tries, FailsTwice, Dumps, Backs}
@@ -232,7 +232,7 @@ module _ (tells : Type 0) (a : Asked) (back : Left) (old mid new : HostView) (si
   dumps no_verify (Err (fa.MergeRefused refused)) is = tt
   dumps no_verify (Err (fa.KernelRefused k n left)) is = tt
   dumps no_verify (Err (fa.NotVerified found left)) is = tt
-  dumps no_verify (Err fa.InDoubt) is = tt
+  dumps no_verify (Err fa.InDoubt) is = is
   dumps no_verify (Err (fa.Damaged area)) is = tt
   dumps no_verify (Err (fa.HardwareDiffers names)) is = tt
   dumps no_verify (Err fa.OutOfMemory) is = tt

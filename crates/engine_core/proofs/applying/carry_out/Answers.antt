@@ -16,12 +16,10 @@ use Rattle.engine_core.proofs.Calms.{calm_on}
 use Rattle.engine_core.proofs.Attempts.{way_back}
 use Rattle.engine_core.proofs.Exacts.{finished_hurt}
 use Rattle.engine_core.proofs.Gives.{gave_up_exit, sealed_near, way_either, finished_exit}
-use Rattle.engine_model.specs.declared.answers.Left.TheVariants.{NotBegun}
-use Rattle.engine_model.specs.declared.answers.ApplyFault.TheVariants.{HostFault}
 use Rattle.engine_model.proofs.lemmas.Refusals.{quiet_on, quiet_same}
 use Rattle.engine_core.proofs.Says.{finished_says, finished_begun, left_settled}
 use Rattle.engine_core.proofs.Counts.{finished_counts}
-use Rattle.engine_core.proofs.Tries.{finished_tries, finished_twice, finished_backs, dumped_as}
+use Rattle.engine_core.proofs.Tries.{finished_tries, finished_twice, finished_backs, dumped_as, given_dumps}
 use Rattle.engine_core.proofs.applying.carry_out.Goals as goal
 use Rattle.engine_core.proofs.applying.carry_out.Goals.{After-attempt, After-finish, After-give_up}
 
@@ -129,10 +127,10 @@ pub returns-in-Err-clause-counts : goal.returns-in-Err-clause-counts
 returns-in-Err-clause-counts g c = λ doc start follows calls merges. c.give_up.ensures.counts doc start (c.in-Err.ensures.says doc start follows calls merges)
 
 pub returns-in-Err-clause-begun : goal.returns-in-Err-clause-begun
-returns-in-Err-clause-begun g c = λ is. c.give_up.ensures.begun (let same : c.give_up.result ≡ HostFault NotBegun = cc in same)
+returns-in-Err-clause-begun g c = inl c.give_up.ensures.begun
 
 pub returns-in-Ok-clause-begun : goal.returns-in-Ok-clause-begun
-returns-in-Ok-clause-begun g c = λ is. finished_begun c.finish.result c.finish.ensures.doubt is
+returns-in-Ok-clause-begun g c = finished_begun c.finish.result c.finish.ensures.doubt
 
 -- ---- what isn't touched
 
@@ -180,6 +178,10 @@ returns-in-Ok-clause-dumps g c = λ was.
     let new = g.H.Host.told c.finish.new.host in
     dumped_as g.H.Host.tells c.args.opts.now.no_verify c.args.from.now old mid new c.finish.result was c.in-Ok.ensures.dumped c.finish.ensures.kernel.kernel
     c.in-Ok.ensures.fresh c.finish.ensures.kernel.fresh (λ tells. c.finish.ensures.saved tells c.args.made c.args.deadline c.args.from.now (c.in-Ok.ensures.set tells))
+    c.finish.ensures.doubt
+
+pub returns-in-Err-clause-dumps : goal.returns-in-Err-clause-dumps
+returns-in-Err-clause-dumps g c = λ was. given_dumps g.H.Host.tells c.args.opts.now.no_verify (g.H.Host.told c.give_up.new.host) c.give_up.result c.give_up.ensures.begun
 
 pub returns-in-Ok-clause-backs : goal.returns-in-Ok-clause-backs
 returns-in-Ok-clause-backs g c = λ honest. finished_backs (g.H.Host.told c.args.host.now).state.net (g.H.Host.told c.finish.new.host) c.finish.result c.finish.ensures.doubt

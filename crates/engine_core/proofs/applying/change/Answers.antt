@@ -40,7 +40,10 @@ use Rattle.engine_model.specs.declared.answers.Left.{Left}
 use Rattle.engine_model.specs.declared.answers.Left.TheVariants.{NotBegun, RolledBack, Pending}
 use Rattle.engine_model.specs.declared.answers.ApplyFault.TheVariants as ap_
 use Rattle.engine_model.proofs.lemmas.Leading.{near_ends}
-use Rattle.engine_core.proofs.Apart.{later_on, left_unbegun, damaged_unbegun, memory_unbegun, refused_unbegun}
+use Rattle.engine_core.proofs.Apart.{later_on}
+use Rattle.engine_core.proofs.Idles.{begun_idle, left_idle}
+use Rattle.engine_model.specs.Failing.{IsUnbegun}
+use Rattle.engine_model.specs.Refusals.{NoCallMade}
 use Rattle.engine_core.proofs.applying.change.Goals as goal
 use Rattle.engine_core.proofs.applying.change.Goals.{After-carry_out, After-dump, In-Ok}
 
@@ -134,8 +137,8 @@ returns-clause-counts g c = λ start follows unmade.
     let at = (goal.at.returns-clause-counts g c).In-Ok in
     c.carry_out.ensures.counts c.args.doc.now start (dumped_follows g at start follows) (ap (λ (k : Kernel). k.calls) c.in-Ok.ensures.calls) c.in-Ok-merge.ensures.merged
 
-pub returns-clause-unbegun : goal.returns-clause-unbegun
-returns-clause-unbegun g c = λ is. absurd (c.carry_out.ensures.begun is)
+pub returns-clause-idle : goal.returns-clause-idle
+returns-clause-idle g c = begun_idle g.H.Host.tells c.args.left (g.H.Host.told c.args.host.now) (g.H.Host.told c.carry_out.new.host) c.carry_out.result c.carry_out.ensures.begun
 
 -- ---- what isn't touched
 
@@ -209,12 +212,15 @@ left_exit a before faults new NotBegun never ends = ends
 left_exit a before faults new RolledBack never ends = ends
 left_exit a before faults new Pending never ends = absurd (never refl)
 
+-- the dump began nothing
+unbegun : (g : _) (c : After-dump g) → NoCallMade (g.H.Host.told c.args.host.now).kernel (g.H.Host.told c.dump.new.self).kernel → IsUnbegun g.H.Host.tells (g.H.Host.told c.args.host.now) (g.H.Host.told c.dump.new.self)
+unbegun g c unmade = record { stops = c.dump.ensures.stops; same = c.dump.ensures.state; unmade = unmade }
+
 pub returns-in-Err-Failed : goal.returns-in-Err-Failed
 returns-in-Err-Failed g c = record {
   kept = λ honest sound ends. stays g (goal.at.returns-in-Err-Failed g c).After-dump sound;
   exit = λ honest sound ends. left_exit (asked c.args.doc.now c.args.opts.now c.args.now) (standing (g.H.Host.told c.args.host.now).state) (g.H.Host.told c.args.host.now).faults (g.H.Host.told c.dump.new.self) c.args.left c.requires.left (ends_stays (standing (g.H.Host.told c.args.host.now).state) (g.H.Host.told c.args.host.now) (g.H.Host.told c.dump.new.self) ends c.dump.ensures.stops);
   exact = λ honest. c.in-Err-Failed.ensures.cause.failed (ap (λ e. Err e) c.in-Err-Failed.field-0-is);
-  unbegun = λ is. (left_unbegun c.args.left is, c.dump.ensures.stops);
   calm = λ honest t le from to is merges calm. tt;
   value = tt;
   says = λ start follows settled was.
@@ -225,6 +231,7 @@ returns-in-Err-Failed g c = record {
       (left_settled g.H.Host.tells c.args.now start old mid settled (inl c.in-Err-Failed.ensures.kernel));
   counts = λ start follows unmade.
       left_counts start.kernel (g.H.Host.told c.args.host.now).kernel (g.H.Host.told c.dump.new.self).kernel c.args.left c.requires.left follows.quiet unmade c.in-Err-Failed.ensures.kernel;
+  idle = left_idle g.H.Host.tells (g.H.Host.told c.args.host.now) (g.H.Host.told c.dump.new.self) c.args.left (unbegun g (goal.at.returns-in-Err-Failed g c).After-dump (inl c.in-Err-Failed.ensures.kernel));
   tries = λ start follows. left_tries (c.args.opts.now.no_verify ≡ false) start.faults start.kernel.refusals (g.H.Host.told c.dump.new.self) c.args.left c.requires.left;
   twice = λ honest. left_twice ⊥ (g.H.Host.told c.args.host.now).faults (g.H.Host.told c.dump.new.self) c.args.left c.requires.left;
   dumps = tt;
@@ -243,7 +250,6 @@ returns-in-Err-Damaged g c = record {
       let old = g.H.Host.told c.args.host.now in
       let mid = g.H.Host.told c.dump.new.self in
       none_exact (asked c.args.doc.now c.args.opts.now c.args.now) (standing old.state) (Rose old.faults mid.faults) mid (c.in-Err-Damaged.ensures.damaged tells (ap (λ e. Err e) c.in-Err-Damaged.field-0-is)) (ap standing (c.dump.ensures.state tells));
-  unbegun = λ is. absurd (damaged_unbegun is);
   calm = λ honest t le from to is merges calm. tt;
   value = tt;
   says = λ start follows settled was tells.
@@ -260,6 +266,7 @@ returns-in-Err-Damaged g c = record {
       let old = (g.H.Host.told c.args.host.now).kernel in
       let mid = (g.H.Host.told c.dump.new.self).kernel in
       inl (quiet_on start.kernel old mid follows.quiet (quiet_same old mid c.in-Err-Damaged.ensures.kernel));
+  idle = tt;
   tries = λ start follows. tt;
   twice = λ honest. tt;
   dumps = tt;
@@ -273,7 +280,6 @@ returns-in-Err-OutOfMemory g c = record {
   kept = λ honest sound ends. stays g (goal.at.returns-in-Err-OutOfMemory g c).After-dump sound;
   exit = λ honest sound ends. inl (near_ends (Only (standing (g.H.Host.told c.args.host.now).state)) (standing (g.H.Host.told c.args.host.now).state) (g.H.Host.told c.dump.new.self) refl (ends_stays (standing (g.H.Host.told c.args.host.now).state) (g.H.Host.told c.args.host.now) (g.H.Host.told c.dump.new.self) ends c.dump.ensures.stops));
   exact = λ honest. tt;
-  unbegun = λ is. absurd (memory_unbegun is);
   calm = λ honest t le from to is merges calm. tt;
   value = tt;
   says = λ start follows settled was. tt;
@@ -281,6 +287,7 @@ returns-in-Err-OutOfMemory g c = record {
       let old = (g.H.Host.told c.args.host.now).kernel in
       let mid = (g.H.Host.told c.dump.new.self).kernel in
       inl (quiet_on start.kernel old mid follows.quiet (quiet_same old mid c.in-Err-OutOfMemory.ensures.kernel));
+  idle = tt;
   tries = λ start follows. tt;
   twice = λ honest. tt;
   dumps = tt;
@@ -307,7 +314,6 @@ returns-in-Err-Refused g c = record {
       let same = c.in-Err-Refused.r-is in
       let is = refused_exact (asked c.args.doc.now c.args.opts.now c.args.now) (standing old.state) c.in-Ok.found c.in-Err-Refused.r (Rose old.faults mid.faults) mid stood broken (ap standing (c.dump.ensures.state tells)) in
       record { answer = let there = is.answer in cc; after = is.after };
-  unbegun = λ is. absurd (refused_unbegun _ is);
   calm = λ honest t le from to is merges calm. tt;
   value = tt;
   says = λ start follows settled was.
@@ -322,6 +328,7 @@ returns-in-Err-Refused g c = record {
         },
       );
   counts = λ start follows unmade. dumped_quiet g (goal.at.returns-in-Err-Refused g c).In-Ok start follows;
+  idle = unbegun g (goal.at.returns-in-Err-Refused g c).After-dump (inr c.in-Ok.ensures.calls);
   tries = λ start follows. tt;
   twice = λ honest. tt;
   dumps = tt;
@@ -335,11 +342,11 @@ returns-in-Err-OutOfMemory-merge g c = record {
   kept = λ honest sound ends. stays g (goal.at.returns-in-Err-OutOfMemory-merge g c).After-dump sound;
   exit = λ honest sound ends. inl (near_ends (Only (standing (g.H.Host.told c.args.host.now).state)) (standing (g.H.Host.told c.args.host.now).state) (g.H.Host.told c.dump.new.self) refl (ends_stays (standing (g.H.Host.told c.args.host.now).state) (g.H.Host.told c.args.host.now) (g.H.Host.told c.dump.new.self) ends c.dump.ensures.stops));
   exact = λ honest. tt;
-  unbegun = λ is. absurd (memory_unbegun is);
   calm = λ honest t le from to is merges calm. tt;
   value = tt;
   says = λ start follows settled was. tt;
   counts = λ start follows unmade. inl (dumped_quiet g (goal.at.returns-in-Err-OutOfMemory-merge g c).In-Ok start follows);
+  idle = tt;
   tries = λ start follows. tt;
   twice = λ honest. tt;
   dumps = tt;
@@ -353,11 +360,11 @@ returns-in-Err g c = record {
   kept = λ honest sound ends. stays g (goal.at.returns-in-Err g c).After-dump sound;
   exit = λ honest sound ends. inl (near_ends (Only (standing (g.H.Host.told c.args.host.now).state)) (standing (g.H.Host.told c.args.host.now).state) (g.H.Host.told c.dump.new.self) refl (ends_stays (standing (g.H.Host.told c.args.host.now).state) (g.H.Host.told c.args.host.now) (g.H.Host.told c.dump.new.self) ends c.dump.ensures.stops));
   exact = λ honest. tt;
-  unbegun = λ is. absurd (memory_unbegun is);
   calm = λ honest t le from to is merges calm. tt;
   value = tt;
   says = λ start follows settled was. tt;
   counts = λ start follows unmade. inl (dumped_quiet g (goal.at.returns-in-Err g c).In-Ok start follows);
+  idle = tt;
   tries = λ start follows. tt;
   twice = λ honest. tt;
   dumps = tt;

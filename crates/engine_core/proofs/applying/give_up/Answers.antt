@@ -16,10 +16,10 @@ use Rattle.engine_model.specs.Answers.{Finds}
 use Rattle.engine_model.specs.Machine.{saved_on}
 use Rattle.engine_model.specs.declared.answers.BackFault.{BackFault}
 use Rattle.engine_core.proofs.Exacts.{taken_hurt, never_refused, stopped_hurt}
-use Rattle.engine_core.specs.Saying.{Said, taken_back_as, stopped_as}
+use Rattle.engine_core.specs.Saying.{Said, taken_back_as, stopped_as, IsGivenUp}
 use Rattle.engine_core.specs.declared.missed.Missed.{Missed}
 use Rattle.engine_core.proofs.Gives.{one_way, taken_exit, stopped_exit}
-use Rattle.engine_core.proofs.Says.{taken_says, stopped_says, returned, begun_taken, begun_stopped}
+use Rattle.engine_core.proofs.Says.{taken_says, stopped_says, returned, taken_begun, stopped_begun}
 use Rattle.engine_core.proofs.Counts.{taken_counts, stopped_counts}
 use Rattle.engine_model.specs.Refusals.{ApplyCounts}
 use Rattle.engine_model.specs.Faults.{Tries, FailsTwice, Backs}
@@ -61,7 +61,7 @@ returns-in-Ok-clause-says g c = λ doc opts made start faults moment why compare
     let new = g.H.Host.told c.go_back.new.host in
     subst (λ (a : ApplyFault). Said g.H.Host.tells (asked doc opts made) start new (Err a)) (sym c.taken_back.ensures)
     (taken_says g.H.Host.tells doc opts made start old new faults moment c.go_back.ensures.bare c.args.missed why compared c.go_back.ensures.later c.go_back.ensures.moves (λ tells. (c.in-Ok.ensures.cleared tells).cell) c.in-Ok.ensures.saved
-    (returned g.H.Host.tells old new c.in-Ok.field-0 c.in-Ok.ensures.gave c.in-Ok.ensures.empty c.in-Ok.ensures.unmade) settled)
+    (returned g.H.Host.tells old new c.in-Ok.field-0 c.in-Ok.ensures.gave c.in-Ok.ensures.empty c.in-Ok.ensures.idle) settled)
 
 pub returns-in-Err-clause-says : goal.returns-in-Err-clause-says
 returns-in-Err-clause-says g c = λ doc opts made start faults moment why compared settled.
@@ -85,10 +85,10 @@ returns-in-Err-clause-counts g c = λ doc start why.
     (stopped_counts g.H.Host.tells doc start old new c.args.missed c.in-Err.fault why c.in-Err.ensures.fails)
 
 pub returns-in-Ok-clause-begun : goal.returns-in-Ok-clause-begun
-returns-in-Ok-clause-begun g c = λ is. begun_taken c.args.missed (sym c.taken_back.ensures ∙ is)
+returns-in-Ok-clause-begun g c = subst (λ (a : ApplyFault). IsGivenUp a) (sym c.taken_back.ensures) (taken_begun c.args.missed)
 
 pub returns-in-Err-clause-begun : goal.returns-in-Err-clause-begun
-returns-in-Err-clause-begun g c = λ is. begun_stopped c.args.missed c.in-Err.fault (sym c.stopped.ensures ∙ is)
+returns-in-Err-clause-begun g c = subst (λ (a : ApplyFault). IsGivenUp a) (sym c.stopped.ensures) (stopped_begun c.args.missed c.in-Err.fault)
 
 -- ---- on an honest host, sound or not
 
@@ -138,7 +138,7 @@ returns-in-Ok-clause-backs g c = λ honest before unset.
     let old = g.H.Host.told c.args.host.now in
     let new = g.H.Host.told c.go_back.new.host in
     subst (λ (a : ApplyFault). Backs before new (Err a)) (sym c.taken_back.ensures) (taken_backs before new c.args.missed
-    (back_or before old new c.in-Ok.field-0 (c.in-Ok.ensures.reads honest) (c.in-Ok.ensures.empty tells) (c.in-Ok.ensures.none_same tells) unset))
+    (back_or before old new c.in-Ok.field-0 (c.in-Ok.ensures.reads honest) (c.in-Ok.ensures.empty tells) (λ was. (c.in-Ok.ensures.idle was).same tells) unset))
 
 pub returns-in-Err-clause-backs : goal.returns-in-Err-clause-backs
 returns-in-Err-clause-backs g c = λ honest before unset. subst (λ (a : ApplyFault). Backs before (g.H.Host.told c.go_back.new.host) (Err a)) (sym c.stopped.ensures) (stopped_backs before (g.H.Host.told c.go_back.new.host) c.args.missed c.in-Err.fault)

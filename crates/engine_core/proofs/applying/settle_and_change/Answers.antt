@@ -20,22 +20,25 @@ use Rattle.engine_model.specs.Machine.{apply, change, saved_on}
 use Rattle.engine_model.specs.Answers.{Finds}
 use Rattle.engine_model.specs.Faults.{ApplyExact}
 use Rattle.engine_model.specs.declared.answers.Recovered.{Recovered}
-use Rattle.engine_model.specs.declared.answers.Recovered.TheVariants.{Nothing, Waiting as Waits_for, Restored}
+use Rattle.engine_model.specs.declared.answers.Recovered.TheVariants.{Restored}
 use Rattle.engine_model.specs.declared.answers.BackFault.{BackFault}
 use Rattle.engine_model.proofs.lemmas.Finding.{recover_exact, found_saved}
 use Rattle.engine_core.proofs.Exacts.{exact_from, nothing_is, restored_is, unsettled_exact}
-use Rattle.engine_core.proofs.Says.{said_says, waits_says, unsettled_says, unsettled_unbegun}
+use Rattle.engine_core.proofs.Says.{said_says, waits_says, unsettled_says}
 use Rattle.host_core.specs.HostView.{NoneRefused}
 use Rattle.std.proofs.Common.{Option, false}
 use Rattle.net_model.specs.NetData.{NetData}
 use Rattle.std.proofs.Common.{inr}
 use Rattle.engine_model.specs.Refusals.{ApplyCounts}
 use Rattle.engine_core.proofs.Counts.{unsettled_counts}
-use Rattle.engine_model.specs.Faults.{Tries, FailsTwice, Backs, HasTaken}
+use Rattle.engine_model.specs.Faults.{Tries, FailsTwice, Dumps, Backs, HasTaken}
 use Rattle.engine_model.proofs.lemmas.Backs.{has_taken}
 use Rattle.engine_model.specs.Machine.{recover}
 use Rattle.engine_core.proofs.Exacts.{nothing_after, restored_after}
-use Rattle.engine_core.proofs.Tries.{tries_more, unsettled_tries, twice_before, unsettled_twice, unsettled_backs}
+use Rattle.engine_core.proofs.Tries.{tries_more, unsettled_tries, twice_before, unsettled_twice, unsettled_dumps, unsettled_backs}
+use Rattle.engine_core.proofs.Apart.{waiting_kept, nothing_kept, back_begun}
+use Rattle.engine_core.proofs.Idles.{settled_idle, unsettled_idle}
+use Rattle.engine_model.specs.Failing.{IsUnbegun, ApplyIdle}
 use Rattle.engine_core.proofs.applying.settle_and_change.Goals as goal
 use Rattle.engine_core.proofs.applying.settle_and_change.Goals.{After-take_back, In-Ok-Nothing, In-Ok-Restored}
 
@@ -96,19 +99,21 @@ pub returns-in-Ok-Waiting-clause-says : goal.returns-in-Ok-Waiting-clause-says
 returns-in-Ok-Waiting-clause-says g c =
     waits_says g.H.Host.tells (asked c.args.doc.now c.args.opts.now c.args.now) (g.H.Host.told c.args.host.now) (g.H.Host.told c.take_back.new.host) c.in-Ok-Waiting.deadline
     (λ tells. c.take_back.ensures.waiting tells c.in-Ok-Waiting.deadline (c.in-Ok-Waiting.is ∙ ap (λ r. Ok r) c.in-Ok-Waiting.field-0-is))
-    (λ tells. c.take_back.ensures.waiting_same tells c.in-Ok-Waiting.deadline (c.in-Ok-Waiting.is ∙ ap (λ r. Ok r) c.in-Ok-Waiting.field-0-is))
+    (c.in-Ok-Waiting.ensures.idle (waiting_kept c.in-Ok-Waiting.deadline c.in-Ok-Waiting.field-0-is)).same
 
 -- nothing was to be taken back
-nothing_made : (g : _) (c : In-Ok-Nothing g) → (g.H.Host.told c.take_back.new.host).kernel ≡ (g.H.Host.told c.args.host.now).kernel
-nothing_made g c = c.in-Ok-Nothing.ensures.unmade (λ is. let e : Nothing ≡ Restored = sym c.in-Ok-Nothing.field-0-is ∙ is in absurd (cc))
+nothing_begun : (g : _) (c : In-Ok-Nothing g) → IsUnbegun g.H.Host.tells (g.H.Host.told c.args.host.now) (g.H.Host.told c.take_back.new.host)
+nothing_begun g c = c.in-Ok-Nothing.ensures.idle (nothing_kept c.in-Ok-Nothing.field-0-is)
 
 nothing_settled : (g : _) (c : In-Ok-Nothing g) (t : ℕ) → SettledBy g.H.Host.tells c.args.now (start_since t (g.H.Host.told c.args.host.now)) (g.H.Host.told c.take_back.new.host)
-nothing_settled g c t = inr (inl (nothing_made g c))
+nothing_settled g c t = inr (nothing_begun g c).unmade
 
 -- something was
+restored_taken : (g : _) (c : In-Ok-Restored g) → g.H.Host.tells → HasTaken c.args.now (standing (g.H.Host.told c.args.host.now).state).cell
+restored_taken g c = λ tells. has_taken c.args.now (cell_of (g.H.Host.told c.args.host.now).state.cell) (c.take_back.ensures.restored tells (c.in-Ok-Restored.is ∙ ap (λ r. Ok r) c.in-Ok-Restored.field-0-is))
+
 restored_settled : (g : _) (c : In-Ok-Restored g) (t : ℕ) → SettledBy g.H.Host.tells c.args.now (start_since t (g.H.Host.told c.args.host.now)) (g.H.Host.told c.take_back.new.host)
-restored_settled g c t =
-    inl (λ tells. has_taken c.args.now (cell_of (g.H.Host.told c.args.host.now).state.cell) (c.take_back.ensures.restored tells (c.in-Ok-Restored.is ∙ ap (λ r. Ok r) c.in-Ok-Restored.field-0-is)))
+restored_settled g c t = inl (restored_taken g c)
 
 pub returns-in-Ok-Nothing-clause-says : goal.returns-in-Ok-Nothing-clause-says
 returns-in-Ok-Nothing-clause-says g c =
@@ -116,7 +121,7 @@ returns-in-Ok-Nothing-clause-says g c =
     said_says g.H.Host.tells (asked c.args.doc.now c.args.opts.now c.args.now) old (g.H.Host.told c.change.new.host) c.change.result
     (c.change.ensures.says (start_of old) (begun g (goal.at.returns-in-Ok-Nothing-clause-says g c).After-take_back c.in-Ok-Nothing.ensures.quiet)
     (nothing_settled g (goal.at.returns-in-Ok-Nothing-clause-says g c).In-Ok-Nothing old.stops.moment)
-    (λ is tells. c.take_back.ensures.nothing_same tells (c.in-Ok-Nothing.is ∙ ap (λ r. Ok r) c.in-Ok-Nothing.field-0-is)))
+    (λ is. (nothing_begun g (goal.at.returns-in-Ok-Nothing-clause-says g c).In-Ok-Nothing).same))
 
 pub returns-in-Ok-Restored-clause-says : goal.returns-in-Ok-Restored-clause-says
 returns-in-Ok-Restored-clause-says g c =
@@ -124,7 +129,7 @@ returns-in-Ok-Restored-clause-says g c =
     said_says g.H.Host.tells (asked c.args.doc.now c.args.opts.now c.args.now) old (g.H.Host.told c.change-in-Ok-Restored.new.host) c.change-in-Ok-Restored.result
     (c.change-in-Ok-Restored.ensures.says (start_of old) (begun g (goal.at.returns-in-Ok-Restored-clause-says g c).After-take_back c.in-Ok-Restored.ensures.quiet)
     (restored_settled g (goal.at.returns-in-Ok-Restored-clause-says g c).In-Ok-Restored old.stops.moment)
-    (λ is. let e : RolledBack ≡ NotBegun = is in absurd (cc)))
+    (λ is. absurd (back_begun is)))
 
 pub returns-in-Err-clause-says : goal.returns-in-Err-clause-says
 returns-in-Err-clause-says g c =
@@ -133,25 +138,43 @@ returns-in-Err-clause-says g c =
     subst (λ (a : ApplyFault). ApplySays g.H.Host.tells (asked c.args.doc.now c.args.opts.now c.args.now) old new (Err a)) (sym c.unsettled.ensures)
     (unsettled_says g.H.Host.tells (asked c.args.doc.now c.args.opts.now c.args.now) old new (g.met.H.Host.lawful c.args.host.now).stops (g.met.H.Host.lawful c.args.host.now).reads c.in-Err.fault c.in-Err.ensures.fails)
 
-pub returns-in-Err-clause-unbegun : goal.returns-in-Err-clause-unbegun
-returns-in-Err-clause-unbegun g c = λ is.
-    unsettled_unbegun g.H.Host.tells (g.H.Host.told c.args.host.now) (g.H.Host.told c.take_back.new.host) c.unsettled.result c.in-Err.fault c.unsettled.ensures is c.in-Err.ensures.fails
+-- ---- what is left where nothing is begun
+
+pub returns-in-Ok-Waiting-clause-idle : goal.returns-in-Ok-Waiting-clause-idle
+returns-in-Ok-Waiting-clause-idle g c = c.in-Ok-Waiting.ensures.idle (waiting_kept c.in-Ok-Waiting.deadline c.in-Ok-Waiting.field-0-is)
+
+pub returns-in-Ok-Nothing-clause-idle : goal.returns-in-Ok-Nothing-clause-idle
+returns-in-Ok-Nothing-clause-idle g c =
+    let first = nothing_begun g (goal.at.returns-in-Ok-Nothing-clause-idle g c).In-Ok-Nothing in
+    settled_idle g.H.Host.tells c.args.now NotBegun (g.H.Host.told c.args.host.now) (g.H.Host.told c.take_back.new.host) (g.H.Host.told c.change.new.host) c.change.result (λ is. first) (inr first) c.change.ensures.idle
+
+pub returns-in-Ok-Restored-clause-idle : goal.returns-in-Ok-Restored-clause-idle
+returns-in-Ok-Restored-clause-idle g c =
+    let old = g.H.Host.told c.args.host.now in
+    settled_idle g.H.Host.tells c.args.now RolledBack old (g.H.Host.told c.take_back.new.host) (g.H.Host.told c.change-in-Ok-Restored.new.host) c.change-in-Ok-Restored.result (λ is. absurd (back_begun is))
+    (inl (restored_taken g (goal.at.returns-in-Ok-Restored-clause-idle g c).In-Ok-Restored)) c.change-in-Ok-Restored.ensures.idle
+
+pub returns-in-Err-clause-idle : goal.returns-in-Err-clause-idle
+returns-in-Err-clause-idle g c =
+    let old = g.H.Host.told c.args.host.now in
+    let new = g.H.Host.told c.take_back.new.host in
+    subst (λ (a : ApplyFault). ApplyIdle g.H.Host.tells c.args.now old new (Err a)) (sym c.unsettled.ensures) (unsettled_idle g.H.Host.tells c.args.now old new c.in-Err.fault c.in-Err.ensures.fails)
 
 -- ---- what every host counts
 
 pub returns-in-Ok-Waiting-clause-counts : goal.returns-in-Ok-Waiting-clause-counts
-returns-in-Ok-Waiting-clause-counts g c = inl (c.in-Ok-Waiting.ensures.unmade (λ is. let e : Waits_for c.in-Ok-Waiting.deadline ≡ Restored = sym c.in-Ok-Waiting.field-0-is ∙ is in absurd (cc)))
+returns-in-Ok-Waiting-clause-counts g c = (c.in-Ok-Waiting.ensures.idle (waiting_kept c.in-Ok-Waiting.deadline c.in-Ok-Waiting.field-0-is)).unmade
 
 pub returns-in-Ok-Nothing-clause-counts : goal.returns-in-Ok-Nothing-clause-counts
 returns-in-Ok-Nothing-clause-counts g c =
     let old = g.H.Host.told c.args.host.now in
     c.change.ensures.counts (start_of old) (begun g (goal.at.returns-in-Ok-Nothing-clause-counts g c).After-take_back c.in-Ok-Nothing.ensures.quiet)
-    (λ is. inl (nothing_made g (goal.at.returns-in-Ok-Nothing-clause-counts g c).In-Ok-Nothing))
+    (λ is. (nothing_begun g (goal.at.returns-in-Ok-Nothing-clause-counts g c).In-Ok-Nothing).unmade)
 
 pub returns-in-Ok-Restored-clause-counts : goal.returns-in-Ok-Restored-clause-counts
 returns-in-Ok-Restored-clause-counts g c =
     let old = g.H.Host.told c.args.host.now in
-    c.change-in-Ok-Restored.ensures.counts (start_of old) (begun g (goal.at.returns-in-Ok-Restored-clause-counts g c).After-take_back c.in-Ok-Restored.ensures.quiet) (λ is. let e : RolledBack ≡ NotBegun = is in absurd (cc))
+    c.change-in-Ok-Restored.ensures.counts (start_of old) (begun g (goal.at.returns-in-Ok-Restored-clause-counts g c).After-take_back c.in-Ok-Restored.ensures.quiet) (λ is. absurd (back_begun is))
 
 pub returns-in-Err-clause-counts : goal.returns-in-Err-clause-counts
 returns-in-Err-clause-counts g c =
@@ -166,10 +189,10 @@ returns-in-Ok-Nothing-clause-calm g c = λ honest t le from to is merges calm.
     let tells = g.met.H.Host.honest_tells honest in
     let old = g.H.Host.told c.args.host.now in
     let mid = g.H.Host.told c.take_back.new.host in
-    let nothing = c.in-Ok-Nothing.is ∙ ap (λ r. Ok r) c.in-Ok-Nothing.field-0-is in
+    let idle = nothing_begun g (goal.at.returns-in-Ok-Nothing-clause-calm g c).In-Ok-Nothing in
     let net : old.state.net ≡ Some from = ap (λ (x : Standing). x.net) is in
-    c.change.ensures.calm honest t (omega (arith, le, c.take_back.ensures.moves.later)) from to (ap (λ (s : State). s.net) (c.take_back.ensures.nothing_same tells nothing) ∙ net) merges
-    (calm_stays from to t old mid (g.met.H.Host.lawful c.args.host.now).stops le calm (c.take_back.ensures.stays nothing))
+    c.change.ensures.calm honest t (omega (arith, le, c.take_back.ensures.moves.later)) from to (ap (λ (s : State). s.net) (idle.same tells) ∙ net) merges
+    (calm_stays from to t old mid (g.met.H.Host.lawful c.args.host.now).stops le calm idle.stops)
 
 pub returns-in-Ok-Restored-clause-calm : goal.returns-in-Ok-Restored-clause-calm
 returns-in-Ok-Restored-clause-calm g c = λ honest t le from to is merges calm.
@@ -189,7 +212,7 @@ returns-in-Ok-Nothing-clause-damaged g c = λ tells t le area is.
     said_damaged g.H.Host.tells (asked c.args.doc.now c.args.opts.now c.args.now) start (g.H.Host.told c.change.new.host) c.change.result area is
     (c.change.ensures.says start (since_then g (goal.at.returns-in-Ok-Nothing-clause-damaged g c).After-take_back t le c.in-Ok-Nothing.ensures.quiet)
     (nothing_settled g (goal.at.returns-in-Ok-Nothing-clause-damaged g c).In-Ok-Nothing t)
-    (λ same told. c.take_back.ensures.nothing_same told (c.in-Ok-Nothing.is ∙ ap (λ r. Ok r) c.in-Ok-Nothing.field-0-is))) tells
+    (λ same. (nothing_begun g (goal.at.returns-in-Ok-Nothing-clause-damaged g c).In-Ok-Nothing).same)) tells
 
 pub returns-in-Ok-Restored-clause-damaged : goal.returns-in-Ok-Restored-clause-damaged
 returns-in-Ok-Restored-clause-damaged g c = λ tells t le area is.
@@ -197,7 +220,7 @@ returns-in-Ok-Restored-clause-damaged g c = λ tells t le area is.
     said_damaged g.H.Host.tells (asked c.args.doc.now c.args.opts.now c.args.now) start (g.H.Host.told c.change-in-Ok-Restored.new.host) c.change-in-Ok-Restored.result area is
     (c.change-in-Ok-Restored.ensures.says start (since_then g (goal.at.returns-in-Ok-Restored-clause-damaged g c).After-take_back t le c.in-Ok-Restored.ensures.quiet)
     (restored_settled g (goal.at.returns-in-Ok-Restored-clause-damaged g c).In-Ok-Restored t)
-    (λ same. let e : RolledBack ≡ NotBegun = same in absurd (cc))) tells
+    (λ same. absurd (back_begun same))) tells
 
 pub returns-in-Err-clause-damaged : goal.returns-in-Err-clause-damaged
 returns-in-Err-clause-damaged g c = λ tells t le area is.
@@ -210,7 +233,7 @@ pub returns-in-Ok-Waiting-clause-exact : goal.returns-in-Ok-Waiting-clause-exact
 returns-in-Ok-Waiting-clause-exact g c = λ honest.
     let is = c.in-Ok-Waiting.is ∙ ap (λ r. Ok r) c.in-Ok-Waiting.field-0-is in
     waits_says g.H.Host.tells (asked c.args.doc.now c.args.opts.now c.args.now) (g.H.Host.told c.args.host.now) (g.H.Host.told c.take_back.new.host) c.in-Ok-Waiting.deadline
-    (λ tells. c.take_back.ensures.waiting tells c.in-Ok-Waiting.deadline is) (λ tells. c.take_back.ensures.waiting_same tells c.in-Ok-Waiting.deadline is) (g.met.H.Host.honest_tells honest)
+    (λ tells. c.take_back.ensures.waiting tells c.in-Ok-Waiting.deadline is) (c.in-Ok-Waiting.ensures.idle (waiting_kept c.in-Ok-Waiting.deadline c.in-Ok-Waiting.field-0-is)).same (g.met.H.Host.honest_tells honest)
 
 pub returns-in-Ok-Nothing-clause-exact : goal.returns-in-Ok-Nothing-clause-exact
 returns-in-Ok-Nothing-clause-exact g c = λ honest.
@@ -219,7 +242,7 @@ returns-in-Ok-Nothing-clause-exact g c = λ honest.
     let old = g.H.Host.told c.args.host.now in
     let mid = g.H.Host.told c.take_back.new.host in
     let nothing = c.in-Ok-Nothing.is ∙ ap (λ r. Ok r) c.in-Ok-Nothing.field-0-is in
-    exact_from (change a (standing mid.state) mid.state.net) (apply a (standing old.state)) (nothing_is a old.state mid.state (c.take_back.ensures.nothing tells nothing) (c.take_back.ensures.nothing_same tells nothing))
+    exact_from (change a (standing mid.state) mid.state.net) (apply a (standing old.state)) (nothing_is a old.state mid.state (c.take_back.ensures.nothing tells nothing) ((nothing_begun g (goal.at.returns-in-Ok-Nothing-clause-exact g c).In-Ok-Nothing).same tells))
     old.faults mid.faults (g.H.Host.told c.change.new.host) c.take_back.ensures.later c.change.result (c.change.ensures.exact honest)
 
 pub returns-in-Ok-Restored-clause-exact : goal.returns-in-Ok-Restored-clause-exact
@@ -292,12 +315,17 @@ returns-in-Err-clause-twice g c = λ honest.
     subst (λ (a : ApplyFault). FailsTwice taken old.faults new (Err a)) (sym c.unsettled.ensures)
     (unsettled_twice taken old.faults new c.in-Err.fault (λ is. has_taken c.args.now (cell_of old.state.cell) (c.in-Err.ensures.pending (g.met.H.Host.honest_tells honest) (ap (λ e. Err e) is))))
 
+pub returns-in-Err-clause-dumps : goal.returns-in-Err-clause-dumps
+returns-in-Err-clause-dumps g c =
+    let new = g.H.Host.told c.take_back.new.host in
+    subst (λ (a : ApplyFault). Dumps g.H.Host.tells c.args.opts.now.no_verify new (Err a)) (sym c.unsettled.ensures) (unsettled_dumps g.H.Host.tells c.args.opts.now.no_verify new c.in-Err.fault)
+
 pub returns-in-Ok-Nothing-clause-backs : goal.returns-in-Ok-Nothing-clause-backs
 returns-in-Ok-Nothing-clause-backs g c = λ honest.
     let tells = g.met.H.Host.honest_tells honest in
     let old = g.H.Host.told c.args.host.now in
     let nothing = c.in-Ok-Nothing.is ∙ ap (λ r. Ok r) c.in-Ok-Nothing.field-0-is in
-    let net = ap (λ (s : State). s.net) (c.take_back.ensures.nothing_same tells nothing) ∙ sym (nothing_after (asked c.args.doc.now c.args.opts.now c.args.now) old.state (c.take_back.ensures.nothing tells nothing)) in
+    let net = ap (λ (s : State). s.net) ((nothing_begun g (goal.at.returns-in-Ok-Nothing-clause-backs g c).In-Ok-Nothing).same tells) ∙ sym (nothing_after (asked c.args.doc.now c.args.opts.now c.args.now) old.state (c.take_back.ensures.nothing tells nothing)) in
     subst (λ (n : Option NetData). Backs n (g.H.Host.told c.change.new.host) c.change.result) net (c.change.ensures.backs honest)
 
 pub returns-in-Ok-Restored-clause-backs : goal.returns-in-Ok-Restored-clause-backs

@@ -5,7 +5,8 @@ use Rattle.checkpoint_cell.specs.Cell.{Checkpoint, cell_of, is_due}
 use Rattle.checkpoint_cell.specs.Steps.{Holds}
 use Rattle.engine_model.specs.Sound.{Sound}
 use Rattle.engine_model.specs.Stations.{Kept, Waits, IsCommitted}
-use Rattle.engine_model.proofs.lemmas.Leading.{kept_stays, same_state}
+use Rattle.engine_model.proofs.lemmas.Failing.{looked}
+use Rattle.engine_model.proofs.lemmas.Leading.{kept_stays}
 use Rattle.engine_model.proofs.lemmas.Machines.{from_read}
 use Rattle.engine_model.proofs.lemmas.Settles.{set_as, empty_as}
 use Rattle.engine_core.proofs.Apart.{later_on, done_failed, done_fault, fault_none, fault_unfinished, fault_expired, fault_doubt, none_fault, none_unfinished, none_expired, none_doubt, unfinished_fault, unfinished_none, unfinished_expired, unfinished_doubt, expired_fault, expired_none, expired_unfinished, expired_doubt, doubt_none, doubt_unfinished, doubt_expired, unfinished_as, expired_as}
@@ -17,7 +18,6 @@ use Rattle.engine_core.proofs.committing.end_waiting.Goals.{After-clear}
 
 pub returns-in-Err : goal.returns-in-Err
 returns-in-Err g c =
-    let tells_of = g.H.Host.tells in
     let old = g.H.Host.told c.args.host.now in
     let new = g.H.Host.told c.barrier.new.host in
     let look = c.barrier.ensures.untouched in
@@ -31,9 +31,8 @@ returns-in-Err g c =
       kernel = look.kernel;
       kept = λ tells sound. kept_stays (IsCommitted c.args.now old.state) old new sound look.stops;
       done = λ tells sound. tt;
-      before = λ refused. look.stops;
+      unbegun = λ refused. looked g.H.Host.tells old new look;
       looked = λ tells looks. absurd looks;
-      same = λ refused tells. same_state tells_of old new look tells;
       left = λ tells. tt;
       doubted = λ tells sound is. absurd (fault_doubt is);
       doubt = λ tells is. absurd (fault_doubt is);
@@ -41,7 +40,6 @@ returns-in-Err g c =
 
 pub returns-in-Empty : goal.returns-in-Empty
 returns-in-Empty g c =
-    let tells_of = g.H.Host.tells in
     let old = g.H.Host.told c.args.host.now in
     let new = g.H.Host.told c.barrier.new.host in
     let look = c.barrier.ensures.untouched in
@@ -55,9 +53,8 @@ returns-in-Empty g c =
       kernel = look.kernel;
       kept = λ tells sound. kept_stays (IsCommitted c.args.now old.state) old new sound look.stops;
       done = λ tells sound. tt;
-      before = λ refused. look.stops;
+      unbegun = λ refused. looked g.H.Host.tells old new look;
       looked = λ tells looks. c.in-Ok.ensures.sure tells;
-      same = λ refused tells. same_state tells_of old new look tells;
       left = λ tells. tt;
       doubted = λ tells sound is. absurd (none_doubt is);
       doubt = λ tells is. absurd (none_doubt is);
@@ -65,7 +62,6 @@ returns-in-Empty g c =
 
 pub returns-in-Applying : goal.returns-in-Applying
 returns-in-Applying g c =
-    let tells_of = g.H.Host.tells in
     let old = g.H.Host.told c.args.host.now in
     let new = g.H.Host.told c.barrier.new.host in
     let look = c.barrier.ensures.untouched in
@@ -82,9 +78,8 @@ returns-in-Applying g c =
       kernel = look.kernel;
       kept = λ tells sound. kept_stays (IsCommitted c.args.now old.state) old new sound look.stops;
       done = λ tells sound. tt;
-      before = λ refused. look.stops;
+      unbegun = λ refused. looked g.H.Host.tells old new look;
       looked = λ tells looks. c.in-Ok.ensures.sure tells;
-      same = λ refused tells. same_state tells_of old new look tells;
       left = λ tells. tt;
       doubted = λ tells sound is. absurd (unfinished_doubt _ _ is);
       doubt = λ tells is. absurd (unfinished_doubt _ _ is);
@@ -92,7 +87,6 @@ returns-in-Applying g c =
 
 pub returns-then-due : goal.returns-then-due
 returns-then-due g c =
-    let tells_of = g.H.Host.tells in
     let old = g.H.Host.told c.args.host.now in
     let new = g.H.Host.told c.barrier.new.host in
     let look = c.barrier.ensures.untouched in
@@ -109,9 +103,8 @@ returns-then-due g c =
       kernel = look.kernel;
       kept = λ tells sound. kept_stays (IsCommitted c.args.now old.state) old new sound look.stops;
       done = λ tells sound. tt;
-      before = λ refused. look.stops;
+      unbegun = λ refused. looked g.H.Host.tells old new look;
       looked = λ tells looks. c.in-Ok.ensures.sure tells;
-      same = λ refused tells. same_state tells_of old new look tells;
       left = λ tells. tt;
       doubted = λ tells sound is. absurd (expired_doubt _ _ is);
       doubt = λ tells is. absurd (expired_doubt _ _ is);
@@ -165,9 +158,8 @@ returns-in-Ok-clear g c =
       kept = λ tells sound. kept g at tells sound;
       done = λ tells sound.
           commits_done c.args.now old mid new ((g.met.H.Host.lawful c.args.host.now).reads tells) sound (waits g at tells) c.barrier.ensures.untouched.stops c.clear.ensures.stops_net (c.in-Ok-clear.ensures.cleared tells);
-      before = tt;
+      unbegun = tt;
       looked = λ tells. tt;
-      same = tt;
       left = λ tells. λ i. record { net = (kernel g at).net tells i; cell = (c.in-Ok-clear.ensures.cleared tells).cell i };
       doubted = λ tells sound is. absurd (done_failed _ _ is);
       doubt = λ tells is. absurd (done_failed _ _ is);
@@ -189,9 +181,8 @@ returns-in-Err-clear g c =
       kernel = kernel g at;
       kept = λ tells sound. kept g at tells sound;
       done = λ tells sound. tt;
-      before = λ refused. absurd refused;
+      unbegun = λ refused. absurd refused;
       looked = λ tells looks. absurd looks;
-      same = λ refused. absurd refused;
       left = λ tells. tt;
       doubted = λ tells sound is.
           let here = (g.met.H.Host.lawful c.args.host.now).reads tells in

@@ -8,6 +8,7 @@ use Rattle.checkpoint_cell.specs.Settled.{Standing, standing}
 use Rattle.engine_model.proofs.lemmas.Leading.{kept_wider}
 use Rattle.engine_core.specs.Calm.{CalmSince}
 use Rattle.engine_core.proofs.Calms.{calm_first, ended_calm}
+use Rattle.engine_core.proofs.Idles.{idle_stops}
 use Rattle.engine_core.proofs.Applies.{applied_is, apply_exit, apply_reads, apply_answers}
 use Rattle.engine_core.proofs.engine.apply.Goals as goal
 
@@ -22,7 +23,12 @@ pub returns-clause-exit : goal.returns-clause-exit
 returns-clause-exit g c = λ honest sound.
     let old = g.H.Host.told c.args.host.now in
     let here = (g.met.H.Host.lawful c.args.host.now).reads (g.met.H.Host.honest_tells honest) in
-    apply_exit c.args.doc.now c.args.opts.now c.args.now old (g.H.Host.told c.settle_and_change.new.host) here (sound.fit old.state here) c.settle_and_change.result (c.settle_and_change.ensures.exit honest sound) c.settle_and_change.ensures.unbegun
+    let new = g.H.Host.told c.settle_and_change.new.host in
+    let e = c.settle_and_change.ensures in
+    apply_exit c.args.doc.now c.args.opts.now c.args.now old new here (sound.fit old.state here) c.settle_and_change.result (e.exit honest sound) (idle_stops g.H.Host.tells c.args.now old new c.settle_and_change.result e.idle)
+
+pub returns-clause-unbegun : goal.returns-clause-unbegun
+returns-clause-unbegun g c = idle_stops g.H.Host.tells c.args.now (g.H.Host.told c.args.host.now) (g.H.Host.told c.settle_and_change.new.host) c.settle_and_change.result c.settle_and_change.ensures.idle
 
 pub returns-clause-reads : goal.returns-clause-reads
 returns-clause-reads g c = λ honest sound.

@@ -1,4 +1,4 @@
-use Rattle.std.proofs.Common.{◌≡◌, ◌∙◌, inl, refl, sym, ap, subst}
+use Rattle.std.proofs.Common.{◌≡◌, ◌∙◌, refl, sym, ap, subst}
 use Rattle.std.specs.Prelude.{⊤, Bool}
 use Rattle.checkpoint_cell.specs.Cell.{cell_of}
 use Rattle.checkpoint_cell.specs.Settled.{Standing, standing}
@@ -15,7 +15,7 @@ use Rattle.engine_model.proofs.lemmas.Failing.{fails_before, fails_counts}
 use Rattle.engine_model.proofs.lemmas.Finding.{rolled_exact, rollback_exact}
 use Rattle.engine_model.proofs.lemmas.Leading.{kept_wider}
 use Rattle.engine_model.proofs.lemmas.Machines.{ends_within, ends_reads, read_within, same_reads, going_as}
-use Rattle.engine_restore.proofs.Apart.{done_failed, none_memory, back_memory, err_is}
+use Rattle.engine_restore.proofs.Apart.{done_failed, none_memory, back_memory, err_is, begun_set}
 use Rattle.engine_restore.proofs.calls.rollback.Goals as goal
 use Rattle.engine_restore.proofs.calls.rollback.Goals.{After-go_back, In-Ok-true}
 
@@ -55,8 +55,9 @@ returns-in-Ok-true g c =
       counts = e.quiet;
       gave = λ tells. e.gave tells was;
       done = λ tells. has_set old.state (cell_of old.state.cell) (e.set tells was);
+      begun = λ tells. tt;
       memory = λ tells is. absurd (done_failed _ _ is);
-      before = tt;
+      unbegun = tt;
       moment = c.go_back.ensures.moves.later;
       later = c.go_back.ensures.later;
     }
@@ -75,23 +76,24 @@ returns-in-Ok-false g c =
           let tells = g.met.H.Host.honest_tells honest in
           record {
             answer = answer tells;
-            after = ap standing (e.none_same tells was) ∙ sym (ap (λ (o : Outcome ⊤ BackFault). o.after) (none tells));
+            after = ap standing ((e.idle was).same tells) ∙ sym (ap (λ (o : Outcome ⊤ BackFault). o.after) (none tells));
           };
       exact = λ honest. answer (g.met.H.Host.honest_tells honest);
       exit = λ honest sound.
           let tells = g.met.H.Host.honest_tells honest in
-          read_within old new (e.stays was) (subst (λ k. Holds k new) (sym (e.empty tells was)) (e.cleared tells));
+          read_within old new (e.idle was).stops (subst (λ k. Holds k new) (sym (e.empty tells was)) (e.cleared tells));
       reads = λ honest sound. λ stands is. record {
         station = standing old.state;
         is = (refl, refl);
-        like = same_reads old new (e.none_same (g.met.H.Host.honest_tells honest) was) stands is;
+        like = same_reads old new ((e.idle was).same (g.met.H.Host.honest_tells honest)) stands is;
       };
       kept = λ honest sound. kept g (goal.at.returns-in-Ok-false g c).After-go_back honest sound;
-      counts = inl (e.unmade was);
+      counts = (e.idle was).unmade;
       gave = λ tells. tt;
       done = λ tells. tt;
+      begun = λ tells begun. absurd (begun tt);
       memory = λ tells is. absurd (none_memory is);
-      before = λ before. e.stays was;
+      unbegun = λ before. e.idle was;
       moment = c.go_back.ensures.moves.later;
       later = c.go_back.ensures.later;
     }
@@ -121,8 +123,9 @@ returns-in-Err g c =
       counts = fails_counts tells_of old new ⊤ fault e.fails;
       gave = λ tells. tt;
       done = λ tells. tt;
+      begun = λ tells begun. begun_set (cell_of old.state.cell) fault (e.unset tells) begun;
       memory = λ tells is. memory tells (err_is fault is);
-      before = λ before. (fails_before tells_of old new fault e.fails before).stops;
+      unbegun = λ before. fails_before tells_of old new fault e.fails before;
       moment = c.go_back.ensures.moves.later;
       later = c.go_back.ensures.later;
     }

@@ -25,7 +25,7 @@ returns-in-Ok g c =
       counts = e.counts;
       memory = λ tells is. absurd (done_failed _ _ is);
       set_there = λ is. done_failed _ _ is;
-      before = tt;
+      unbegun = tt;
       moment = c.recover.ensures.moment;
       later = c.recover.ensures.later;
     }
@@ -47,7 +47,7 @@ returns-in-Err g c =
       counts = back_as Recovered (Option ℕ) old.kernel new.kernel fault e.counts;
       memory = λ tells is. e.memory tells (same_fault _ _ is);
       set_there = λ is. e.set_there (same_fault _ _ is);
-      before = e.before;
+      unbegun = e.unbegun;
       moment = c.recover.ensures.moment;
       later = c.recover.ensures.later;
     }
