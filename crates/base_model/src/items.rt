@@ -81,19 +81,3 @@ impl<T> Items<T> {
         self.items.clear();
     }
 }
-
-#[cfg(test)]
-mod tests {
-    use super::*;
-    use std::test::Fail;
-
-    #[test]
-    fn inserts_and_removes(rt: HostRuntime) -> Result<(), Fail> {
-        let mut items = Items::of(Vec::from_array(rt.alloc(), [1u8, 3])?);
-        items.insert(1, 2)?;
-        items.push(4)?;
-        assert_eq!(rt; items.remove(0), 1);
-        assert_eq!(rt; items.items().as_slice(), [2, 3, 4].as_slice());
-        Ok(())
-    }
-}

@@ -1,7 +1,10 @@
-//! Reads tables of cases from standard input and says which answer otherwise than they say: texts that are read and printed
-//! again, networks of lists and what is asked of them, stored bytes, policies, and words, scripts and answers of commands.
+//! Reads tables of cases from standard input and says which answer otherwise than they say: places and lists, texts that are
+//! read and printed again, networks of lists and what is asked of them, stored bytes, policies, and words, scripts and answers
+//! of commands.
 #![tactic(auto)]
 
+// Places in a document, and lists that a struct owns.
+mod bases;
 // Lines in the manner of ip(8).
 mod batches;
 // Checkpoint areas as they read.
@@ -68,14 +71,15 @@ fn push_of_bytes(
     Ok(is_answered)
 }
 
-// Appends the answer to a case of text, if it is one: networks, stored bytes, words, orders, answers.
+// Appends the answer to a case of text, if it is one: places and lists, networks, stored bytes, words, orders, answers.
 fn push_of_text(
     alloc: Global,
     kind: &str,
     case: &str,
     out: &mut Vec<u8>,
 ) -> Result<bool, OutOfMemory> {
-    let is_answered = networks::answer(alloc, kind, case, out)?
+    let is_answered = bases::answer(alloc, kind, case, out)?
+        || networks::answer(alloc, kind, case, out)?
         || kept::answer(alloc, kind, case, out)?
         || commands::answer(alloc, kind, case, out)?
         || orders::answer(alloc, kind, case, out)?
