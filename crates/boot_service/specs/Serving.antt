@@ -5,7 +5,7 @@ use Rattle.document_model.specs.declared.Doc.{Doc}
 use Rattle.host_core.specs.Faults.{Rose, RoseTwice}
 use Rattle.host_core.specs.Folders.{File, FolderView, HasFiles, MaybeMarked, without}
 use Rattle.host_core.specs.HostView.{State, HostView}
-use Rattle.host_core.specs.Stops.{Steps, Stays}
+use Rattle.host_core.specs.Stops.{Steps}
 use Rattle.checkpoint_cell.specs.Settled.{standing, restored_to}
 use Rattle.plan_model.specs.Undisturbed.{IsUndisturbed}
 use Rattle.merge_model.specs.MergedNet.{merge}
@@ -14,8 +14,8 @@ use Rattle.engine_model.specs.Sound.{Sound, WhereSound}
 use Rattle.engine_model.specs.Stations.{Only, Settled, Either, Kept, at, entry_of, left_by}
 use Rattle.engine_model.specs.Exit.{ApplyExit}
 use Rattle.engine_model.specs.Refusals.{ApplyCounts}
+use Rattle.engine_model.specs.Failing.{ApplyIdle, ApplyIntact}
 use Rattle.engine_model.specs.Faults.{ApplySays, ApplyAnswers, ApplyExact, MayStandHalf, Tries, FailsTwice, Dumps, Backs, HasTaken}
-use Rattle.engine_model.specs.declared.answers.Left.TheVariants.{NotBegun}
 use Rattle.engine_model.specs.declared.answers.ApplyOpts.{ApplyOpts}
 use Rattle.engine_model.specs.declared.answers.Applied.{Applied}
 use Rattle.engine_model.specs.declared.answers.ApplyFault.{ApplyFault}
@@ -73,8 +73,10 @@ pub record Applies (honest tells : Type 0) (a : Asked) (old new : HostView) (res
   pub counts : ApplyCounts old.kernel new.kernel result
   pub answer : WhereSound honest old (ApplyAnswers a old new result)
   pub exact : honest → ApplyExact (Rose old.faults new.faults) (apply a (standing old.state)) new result
-  -- on every host no more can be left than before, where it says that nothing was begun
-  pub unbegun : result ≡ Err (ap.HostFault NotBegun) → Steps Stays old.stops new.stops
+  -- where the answer comes before anything was begun, and on an honest host whose count didn't rise also where it tells damage or other
+  -- devices, the host is as it was
+  pub unbegun : ApplyIdle tells a.now old new result
+  pub intact : honest → (Rose old.faults new.faults → ⊥) → ApplyIntact tells old new result
   -- what stops leave at the exit, what the host reads as then, and what stops leave at each moment
   pub exit : WhereSound honest old (ApplyExit a (entry_of old) (left_by new) (Rose old.faults new.faults) (RoseTwice old.faults new.faults) result)
   pub reads : WhereSound honest old (ApplyExit a (at (standing old.state)) (Only (standing new.state)) (Rose old.faults new.faults) (RoseTwice old.faults new.faults) result)

@@ -53,7 +53,7 @@ use Rattle.answer_text.proofs.lemmas.Told.{written, told_refused}
 use Rattle.command_laws.specs.Begun.{side_of, Seen, Wants, told_side, fault_notes}
 use Rattle.command_laws.proofs.lemmas.Applies.{answer_of, tried}
 use Rattle.command_laws.proofs.lemmas.PolicySeen.{given, failed, same_given, same_doc, sided, never_pending, seen_faults, seen_moment, seen_quiet, seen_unbegun, seen_taken, seen_none, seen_answer, seen_after, seen_found, seen_kept, seen_left, seen_alone}
-use Rattle.command_laws.proofs.lemmas.PolicyAnswers.{Unpending, unpending, may, may_want, leaves, unbegun}
+use Rattle.command_laws.proofs.lemmas.PolicyAnswers.{Unpending, unpending, Unhurt, unhurt, may, may_want, leaves, unbegun}
 
 module _ (p : PolicyData) (opts : ApplyOpts) (now : ℕ) where
   ground_clear : (e : Standing) (answer : Result Recovered BackFault) (done : Recovered) → answer ≡ Ok done → IsClear done → ground_after e answer ≡ e.net
@@ -193,7 +193,7 @@ module _ (r : Run) (p : PolicyData) (opts : ApplyOpts) (doc : Doc) (done : Recov
   comes (Err (HostFault side)) says exact never wanted = (says.0, says.1)
   comes (Err (KernelRefused k n side)) says exact never wanted = (says.0, says.1)
   comes (Err (NotVerified found side)) says exact never wanted = (says.0, says.1, says.2, λ t. let s = says.4 t in record { doc = doc; saved = s.saved; is_doc = is_document; is_saved = s.is_saved; other = s.other })
-  comes (Err InDoubt) says exact never wanted = (says.0, says.1, λ t. tt)
+  comes (Err InDoubt) says exact never wanted = (says.0, says.1, λ t verifies. (doc, is_document, says.2 t verifies))
   comes (Err (Damaged area)) says exact never wanted = says
   comes (Err (HardwareDiffers names)) says exact never wanted = says
   comes (Err OutOfMemory) says exact never wanted = wanted
@@ -280,6 +280,11 @@ module _ (r : Run) (p : PolicyData) (opts : ApplyOpts) (doc : Doc) (done : Recov
     never_waits : Unpending r.host_tells told_result
     never_waits = unpending r.host_tells Ask back mid r.host_after none result says
 
+    -- after the recovery and the dump a network alone stands, on an honest host
+    unhurt_all : r.honest → (HostRose r → ⊥) → Unhurt result
+    unhurt_all h calm = unhurt Ask wants.net (standing mid.state) (Rose mid.faults r.host_after.faults) r.host_after (λ i. record { net = found h i; cell = none (tells_of h) i })
+        (λ risen. calm (rose_after r.host.faults mid.faults r.host_after.faults faults risen)) result (exact h)
+
     counts_all : PolicyCounted r.host_tells r.host.kernel r.host_after.kernel (answer_of told_result)
     counts_all = go.counts r.host_tells Ask back r.host mid r.host_after (never_pending done) faults quiet none same unmade taken result says counts
 
@@ -358,5 +363,5 @@ module _ (r : Run) (p : PolicyData) (opts : ApplyOpts) (doc : Doc) (done : Recov
           kept = λ a. policy_kept a.honest (kept_all a.honest a.sound);
           spares = λ a. spares a.honest a.sound;
           looks = tt;
-          unbegun = unbegun r p opts back mid (never_pending done) none idle taken result last never_waits;
+          unbegun = unbegun r p opts back mid (never_pending done) none idle taken result last never_waits unhurt_all;
         }

@@ -1,6 +1,6 @@
 -- What the answers of an apply say on every host, carried through its parts.
 use Rattle.std.proofs.Common.{◌≡◌, ◌≢◌, ◌⊎◌, ◌≤◌, inl, inr, arith, ℕ, Bool, refl, sym, ap, ◌∙◌, subst, true, false, Option, Some, None, Result, Ok, Err}
-use Rattle.std.specs.Prelude.{OnOk, OnErr, IfErr, IsSome}
+use Rattle.std.specs.Prelude.{OnErr, IfErr, IsSome}
 use Rattle.net_model.specs.NetData.{NetData}
 use Rattle.document_model.specs.declared.Doc.{Doc}
 use Rattle.document_model.specs.declared.Refused.{Refused}
@@ -16,7 +16,7 @@ use Rattle.engine_model.specs.Machine.{Asked, asked, apply, apply_step, apply_fa
 use Rattle.engine_model.specs.Stations.{Any, Waits}
 use Rattle.engine_model.specs.Refusals.{NoCallMade}
 use Rattle.engine_model.specs.Failing.{IsUnbegun, Fails}
-use Rattle.engine_model.specs.Faults.{IsDamaged, ApplySays, GaveSaved, GaveBack, StandsDamaged}
+use Rattle.engine_model.specs.Faults.{IsDamaged, ApplySays, Verified, GaveSaved, GaveBack, StandsDamaged}
 use Rattle.engine_model.specs.declared.answers.Left.{Left}
 use Rattle.engine_model.specs.declared.answers.Left.TheVariants.{NotBegun, RolledBack, Pending}
 use Rattle.engine_model.specs.declared.answers.Applied.{Applied}
@@ -211,18 +211,15 @@ stopped_begun missed.OutOfMemory fault = tt
 
 -- ---- where the change is made
 
-pub finished_says : (tells : Type 0) (doc : Doc) (opts : ApplyOpts) (made : ℕ) (start : Start) (from to : NetData) (mid new : HostView) (result : Result Applied ApplyFault) → merge from doc ≡ Ok to → start.faults ≤ mid.faults
-    → (tells → opts.no_verify ≡ false → mid.fresh ≡ Some to) → (tells → new.fresh ≡ mid.fresh) → (tells → OnOk result (saved_net new.state.cell ≡ Some from))
-    → IfErr result (λ fault. fault ≡ ap_.InDoubt) → OnErr result (Rose mid.faults new.faults) → OnErr result (opts.no_commit ≡ false) → Said tells (asked doc opts made) start new result
-finished_says tells doc opts made start from to mid new (Ok applied) merges le verified fresh saved doubt rose ended = λ told wanted. record {
-  saved = from;
-  fresh = to;
-  is_saved = saved told;
-  is_fresh = fresh told ∙ verified told wanted;
-  merges = merges;
-}
-finished_says tells doc opts made start from to mid new (Err fault) merges le verified fresh saved doubt rose ended =
-    subst (λ (f : ApplyFault). Said tells (asked doc opts made) start new (Err f)) (sym doubt) (rose_after start.faults mid.faults new.faults le rose, ended)
+module _ (tells : Type 0) (doc : Doc) (opts : ApplyOpts) (made : ℕ) (start : Start) (from to : NetData) (mid new : HostView) (merges : merge from doc ≡ Ok to) (le : start.faults ≤ mid.faults)
+    (verified : tells → opts.no_verify ≡ false → mid.fresh ≡ Some to) (fresh : tells → new.fresh ≡ mid.fresh) (saved : tells → saved_net new.state.cell ≡ Some from) where
+  -- what was dumped last is what was wanted
+  compared_as : tells → opts.no_verify ≡ false → Verified (asked doc opts made) new
+  compared_as told wanted = record { saved = from; fresh = to; is_saved = saved told; is_fresh = fresh told ∙ verified told wanted; merges = merges }
+
+  pub finished_says : (result : Result Applied ApplyFault) → IfErr result (λ fault. fault ≡ ap_.InDoubt) → OnErr result (Rose mid.faults new.faults) → OnErr result (opts.no_commit ≡ false) → Said tells (asked doc opts made) start new result
+  finished_says (Ok applied) doubt rose ended = compared_as
+  finished_says (Err fault) doubt rose ended = subst (λ (f : ApplyFault). Said tells (asked doc opts made) start new (Err f)) (sym doubt) (rose_after start.faults mid.faults new.faults le rose, ended, compared_as)
 
 pub finished_begun : (result : Result Applied ApplyFault) → IfErr result (λ fault. fault ≡ ap_.InDoubt) → IfErr result (λ fault. IsGivenUp fault ⊎ (fault ≡ ap_.InDoubt))
 finished_begun (Ok applied) doubt = tt

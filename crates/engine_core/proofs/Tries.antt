@@ -214,7 +214,7 @@ fresh_is mid new from net is (inl same) has = some_is mid from net is (sym same 
 fresh_is mid new from net is (inr none) has = let e : None ≡ Some net = sym none ∙ has in absurd (cc)
 
 pub dumped_as : (tells : Type 0) (no_verify : Bool) (from : NetData) (old mid new : HostView) (result : Result Applied ApplyFault) → (tells → old.fresh ≡ Some from) → (no_verify ≡ false → mid.kernel.calls ≡ 0) → new.kernel ≡ mid.kernel
-    → (tells → no_verify ≡ true → (mid.fresh ≡ old.fresh) ⊎ (mid.fresh ≡ None)) → (tells → new.fresh ≡ mid.fresh) → (tells → OnOk result (saved_net new.state.cell ≡ Some from))
+    → (tells → no_verify ≡ true → (mid.fresh ≡ old.fresh) ⊎ (mid.fresh ≡ None)) → (tells → new.fresh ≡ mid.fresh) → (tells → saved_net new.state.cell ≡ Some from)
     → IfErr result (λ fault. fault ≡ ap_.InDoubt) → Dumps tells no_verify new result
 dumped_as tells no_verify from old mid new (Ok done) was calls kernel fresh same saved doubt = (
   λ verified. (λ i. (kernel i).calls) ∙ calls verified,

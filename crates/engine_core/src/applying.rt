@@ -18,10 +18,10 @@ ghost use Rattle.engine_model.specs.Sound.{WhereSound};
 ghost use Rattle.engine_model.specs.Stations.{Only, Kept, Ends};
 ghost use Rattle.engine_model.specs.Answers.{IsUndone};
 ghost use Rattle.engine_model.specs.Refusals.{NoCallMade, ApplyCounts};
-ghost use Rattle.engine_model.specs.Failing.{ApplyIdle};
+ghost use Rattle.engine_model.specs.Failing.{ApplyIdle, ApplyIntact};
 ghost use Rattle.engine_model.specs.Faults.{ApplySays, ApplyExact, MayStandHalf, Tries, FailsTwice, Dumps, Backs, HasTaken};
 ghost use Rattle.engine_core.specs.Attempts.{sealed, done, IsEither, IsFault, WhereRuns};
-ghost use Rattle.engine_core.specs.Saying.{Start, Follows, WhereMerges, DamagedSince, Why, SettledBy, Said, taken_back_as, pending_as, damaged_as, stopped_as, IsGivenUp, ChangeIdle};
+ghost use Rattle.engine_core.specs.Saying.{Start, Follows, WhereMerges, DamagedSince, Why, SettledBy, Said, taken_back_as, pending_as, damaged_as, stopped_as, IsGivenUp, ChangeIdle, ChangeIntact};
 ghost use Rattle.engine_core.specs.Calm.{CalmSince, UpToNow};
 ghost use Rattle.engine_core.specs.Applying.{GaveUp, Hurt, Exit, IsStation, IsApplied, ExitApply};
 
@@ -129,8 +129,9 @@ fn give_up<H: Host>(host: &mut H, alloc: Global, missed: Missed) -> ApplyFault
 // Lets a change stand that is made: it waits, or its checkpoint is cleared.
 fn finish<H: Host>(host: &mut H, no_commit: bool, deadline: u64) -> Result<Applied, ApplyFault>
     requires { H.tells → (made : ℕ) × (d : ℕ) × (from : NetData) × Holds (sealed no_commit made d from) (H.told host.old) }
+    // The saved network stands in its place also where it fails.
     ensures saved { H.tells → (made d : ℕ) (from : NetData) → Holds (sealed no_commit made d from) (H.told host.old)
-        → OnOk result (saved_net (H.told host.new).state.cell ≡ Some from) }
+        → saved_net (H.told host.new).state.cell ≡ Some from }
     ensures kernel { SameKernel H.tells (H.told host.old) (H.told host.new) }
     ensures kept { WhereSound H.tells (H.told host.old) ((made d : ℕ) (from to : NetData) → Holds (sealed no_commit made d from) (H.told host.old)
         → Ends (stand to (sealed no_commit made d from)) (H.told host.old) → Kept (Only (done no_commit made d from to)) (H.told host.old) (H.told host.new)) }
@@ -239,6 +240,9 @@ fn change<H: Host>(
     ensures counts { (start : Start) → Follows start (H.told host.old) → (left ≡ Left.NotBegun → NoCallMade start.kernel (H.told host.old).kernel)
         → ApplyCounts start.kernel (H.told host.new).kernel result }
     ensures idle { ChangeIdle H.tells left (H.told host.old) (H.told host.new) result }
+    // On an honest host whose count didn't rise it tells damage only where there is no network, and no other devices.
+    ensures intact { H.honest → (Rose (H.told host.old).faults (H.told host.new).faults → ⊥)
+        → ChangeIntact H.tells (H.told host.old) (H.told host.new) result }
     ensures tries { (start : Start) → Follows start (H.told host.old)
         → Tries (opts.now.no_verify ≡ false) start.faults start.kernel.refusals (H.told host.new) result }
     ensures twice { H.honest → FailsTwice ⊥ (H.told host.old).faults (H.told host.new) result }
@@ -302,7 +306,10 @@ pub fn settle_and_change<H: Host>(
     // On every host.
     ensures says { ApplySays H.tells (asked doc.now opts.now now) (H.told host.old) (H.told host.new) result }
     ensures counts { ApplyCounts (H.told host.old).kernel (H.told host.new).kernel result }
-    ensures idle { ApplyIdle H.tells now (H.told host.old) (H.told host.new) result }
+    ensures unbegun { ApplyIdle H.tells now (H.told host.old) (H.told host.new) result }
+    // On an honest host whose count didn't rise, damage and other devices leave the host as it was.
+    ensures intact { H.honest → (Rose (H.told host.old).faults (H.told host.new).faults → ⊥)
+        → ApplyIntact H.tells (H.told host.old) (H.told host.new) result }
     ensures damaged { H.tells → UpToNow (H.told host.old) (λ t. (area : ℕ) → IsErrOf result (ApplyFault.Damaged area)
         → DamagedSince t area (H.told host.new)) }
     // That a change may stand half way is told only where a restoring was tried.

@@ -4,7 +4,6 @@ ghost use Rattle.net_model.specs.NetData.{NetData};
 ghost use Rattle.document_model.specs.Entries.{is_document};
 ghost use Rattle.host_core.specs.Faults.{Rose, RoseTwice};
 ghost use Rattle.host_core.specs.HostView.{State, SameKernel};
-ghost use Rattle.host_core.specs.Stops.{Steps, Stays};
 ghost use Rattle.checkpoint_cell.specs.Settled.{standing, restored_to};
 ghost use Rattle.plan_model.specs.Undisturbed.{IsUndisturbed};
 ghost use Rattle.merge_model.specs.MergedNet.{merge};
@@ -13,7 +12,7 @@ ghost use Rattle.engine_model.specs.Sound.{WhereSound};
 ghost use Rattle.engine_model.specs.Stations.{Only, Settled, Either, Kept, at, entry_of, left_by};
 ghost use Rattle.engine_model.specs.Exit.{ApplyExit, CommitExit};
 ghost use Rattle.engine_model.specs.Refusals.{ApplyCounts};
-ghost use Rattle.engine_model.specs.Failing.{IsUnbegun, ApplyIdle};
+ghost use Rattle.engine_model.specs.Failing.{IsUnbegun, ApplyIdle, ApplyIntact};
 ghost use Rattle.engine_model.specs.Faults.{ApplyAnswers, ApplyExact, CommitAnswers, ApplySays, MayStandHalf, Tries, FailsTwice, Dumps, Backs, HasTaken};
 ghost use Rattle.engine_core.specs.Calm.{CalmSince, UpToNow};
 ghost use Rattle.engine_core.specs.Committing.{IsRefusal};
@@ -22,7 +21,7 @@ ghost use Rattle.engine_core.specs.Saying.{DamagedSince};
 use crate::applying::settle_and_change;
 use crate::committing::end_waiting;
 use document_model::Doc;
-use engine_model::{Applied, ApplyFault, ApplyOpts, CommitFault, Left};
+use engine_model::{Applied, ApplyFault, ApplyOpts, CommitFault};
 use host_core::Host;
 use std::alloc::Global;
 
@@ -48,10 +47,12 @@ pub fn apply<H: Host>(
     // On an honest host that needn't be sound: but for faults and memory the answer is the machine's, and so is what the host reads as.
     ensures exact { H.honest → ApplyExact (Rose (H.told host.old).faults (H.told host.new).faults)
         (apply (asked doc.now opts.now now) (standing (H.told host.old).state)) (H.told host.new) result }
-    // On every host no more can be left than before, where it says that nothing was begun.
-    ensures unbegun { IsErrOf result (ApplyFault.HostFault Left.NotBegun) → Steps Stays (H.told host.old).stops (H.told host.new).stops }
-    // On every host: where the answer comes before anything was begun, the host is as it was.
-    ensures idle { ApplyIdle H.tells now (H.told host.old) (H.told host.new) result }
+    // On every host: where the answer comes before anything was begun, the host is as it was. Of a refused document this is said on
+    // hosts that tell their content, where no change was to be taken back first.
+    ensures unbegun { ApplyIdle H.tells now (H.told host.old) (H.told host.new) result }
+    // On an honest host, sound or not, whose count didn't rise: damage and other devices leave the host as it was.
+    ensures intact { H.honest → (Rose (H.told host.old).faults (H.told host.new).faults → ⊥)
+        → ApplyIntact H.tells (H.told host.old) (H.told host.new) result }
     // What stops leave at the exit, what the host reads as then, and what stops leave at each moment.
     ensures exit { WhereSound H.honest (H.told host.old) (ApplyExit (asked doc.now opts.now now) (entry_of (H.told host.old)) (left_by (H.told host.new))
         (Rose (H.told host.old).faults (H.told host.new).faults) (RoseTwice (H.told host.old).faults (H.told host.new).faults) result) }

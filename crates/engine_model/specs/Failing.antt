@@ -1,4 +1,4 @@
--- What a fault of a restoring says on every host, from where the restoring began.
+-- What a fault of a restoring says on every host, from where the restoring began, and what an apply leaves that ends before its change.
 use Rattle.std.specs.Prelude.{◌≡◌, ◌⊎◌, ℕ, Result, Ok, Err}
 use Rattle.host_core.specs.Faults.{Rose}
 use Rattle.host_core.specs.HostView.{HostView, WasRefused, NoneRefused}
@@ -31,9 +31,16 @@ Fails tells old new (HardwareDiffers names) = IsUnbegun tells old new × (tells 
 Fails tells old new OutOfMemory = NoneRefused old.kernel new.kernel
 
 -- What an apply leaves that ends before its change. A change that waits and a fault before the first write leave the host as it was; so
--- does a refused document, unless a change was to be taken back first.
+-- does a refused document, on hosts that tell their content, unless a change was to be taken back first.
 abbrev pub ApplyIdle : Type 0 → ℕ → HostView → HostView → Result Applied ApplyFault → Type 0
 ApplyIdle tells now old new (Err (ap.Pending deadline)) = IsUnbegun tells old new
 ApplyIdle tells now old new (Err (ap.HostFault NotBegun)) = IsUnbegun tells old new
 ApplyIdle tells now old new (Err (ap.MergeRefused refused)) = (tells → HasTaken now (standing old.state).cell) ⊎ IsUnbegun tells old new
 ApplyIdle tells now old new result = Unit {0}
+
+-- What an apply leaves that tells damage or other devices: the host as it was. It is said on an honest host whose
+-- count of faults didn't rise.
+abbrev pub ApplyIntact : Type 0 → HostView → HostView → Result Applied ApplyFault → Type 0
+ApplyIntact tells old new (Err (ap.Damaged area)) = IsUnbegun tells old new
+ApplyIntact tells old new (Err (ap.HardwareDiffers names)) = IsUnbegun tells old new
+ApplyIntact tells old new result = Unit {0}

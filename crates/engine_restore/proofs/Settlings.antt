@@ -1,13 +1,18 @@
--- A fault of a recovery is one of a settling.
-use Rattle.std.proofs.Common.{◌≡◌, ℕ, ap, Option, Result, Err}
+-- The answer of a recovery is one of a settling.
+use Rattle.std.proofs.Common.{◌≡◌, ◌∙◌, ℕ, Bool, true, false, refl, sym, ap, Option, Some, None, Result, Ok, Err}
+use Rattle.std.specs.Prelude.{IsSome, if◌then◌else◌}
+use Rattle.net_model.specs.NetData.{NetData}
 use Rattle.host_core.specs.HostView.{HostView}
+use Rattle.checkpoint_cell.specs.Cell.{Checkpoint}
 use Rattle.checkpoint_cell.specs.Settled.{Standing}
+use Rattle.engine_model.specs.Answers.{IsClear}
 use Rattle.engine_model.specs.Exit.{BackExit}
-use Rattle.engine_model.specs.Faults.{BackAnswers, BackExact, BackSays}
-use Rattle.engine_model.specs.Machine.{recover, settle, settled_as}
+use Rattle.engine_model.specs.Faults.{BackAnswers, BackExact, BackSays, HasTaken}
+use Rattle.engine_model.specs.Machine.{recover, recover_cell, restore, restored_as, saved_on, settle, settled_as, due_at, stays}
 use Rattle.engine_model.specs.Stations.{Stands, Entry}
 use Rattle.engine_model.specs.declared.answers.Left.TheVariants.{NotBegun, RolledBack, Pending}
 use Rattle.engine_model.specs.declared.answers.Recovered.{Recovered}
+use Rattle.engine_model.specs.declared.answers.Recovered.TheVariants.{Nothing, Waiting, Restored}
 use Rattle.engine_model.specs.declared.answers.BackFault.{BackFault}
 use Rattle.engine_model.specs.declared.answers.BackFault.TheVariants.{NoCheckpoint, HostFault, KernelRefused, Damaged, HardwareDiffers, OutOfMemory}
 
@@ -19,6 +24,9 @@ Settling = Result (Option ℕ) BackFault
 
 abbrev recovery : BackFault → Recovery
 recovery fault = Err fault
+
+abbrev done : Recovered → Recovery
+done recovered = Ok recovered
 
 abbrev settling : BackFault → Settling
 settling fault = Err fault
@@ -60,3 +68,37 @@ settle_exit after entry left (KernelRefused k n side) is = is
 settle_exit after entry left (Damaged area) is = is
 settle_exit after entry left (HardwareDiffers names) is = is
 settle_exit after entry left OutOfMemory is = is
+
+-- ---- where it is done
+
+-- the same answer
+pub same_done : (one two : Recovered) → one ≡ two → done one ≡ done two
+same_done one two is = ap done is
+
+-- where it tells when the change is due, nothing was restored
+pub due_kept : (recovered : Recovered) → IsSome (due_at recovered) → recovered ≡ Restored → ⊥
+due_kept Nothing due is = let e : false ≡ true = due in cc
+due_kept (Waiting deadline) due is = let e : Waiting deadline ≡ Restored = is in cc
+due_kept Restored due is = let e : false ≡ true = due in cc
+
+-- and where it doesn't, no checkpoint stands
+pub due_clear : (recovered : Recovered) → due_at recovered ≡ None → IsClear recovered
+due_clear Nothing is = tt
+due_clear (Waiting deadline) is = let e : Some deadline ≡ None = is in absurd (cc)
+due_clear Restored is = tt
+
+restored_only : (e : Standing) (found : Result NetData BackFault) (recovered : Recovered) → (restored_as Restored e found).answer ≡ done recovered → recovered ≡ Restored
+restored_only e (Ok saved) recovered is = let same : done Restored ≡ done recovered = is in cc
+restored_only e (Err fault) recovered is = let no : recovery fault ≡ done recovered = is in absurd (cc)
+
+taken_only : (now : ℕ) (e : Standing) (cell : Option Checkpoint) (recovered : Recovered) → HasTaken now cell → (recover_cell now e cell).answer ≡ done recovered → recovered ≡ Restored
+taken_only now e None recovered taken is = absurd taken
+taken_only now e (Some c) recovered taken is =
+    restored_only e (saved_on c.net e.net) recovered (ap (λ (b : Bool). (if b then restore Restored e c else stays e (Ok (Waiting c.deadline))).answer) (sym taken) ∙ is)
+
+-- what is to be taken back is restored where it is done
+pub taken_restored : (now : ℕ) (e : Standing) (cell : Option Checkpoint) (recovered : Recovered) → HasTaken now cell → (recovered ≡ Nothing → (recover_cell now e cell).answer ≡ done Nothing)
+    → ((deadline : ℕ) → recovered ≡ Waiting deadline → (recover_cell now e cell).answer ≡ done (Waiting deadline)) → recovered ≡ Restored
+taken_restored now e cell Nothing taken nothing waiting = taken_only now e cell Nothing taken (nothing refl)
+taken_restored now e cell (Waiting deadline) taken nothing waiting = taken_only now e cell (Waiting deadline) taken (waiting deadline refl)
+taken_restored now e cell Restored taken nothing waiting = refl

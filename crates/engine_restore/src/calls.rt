@@ -1,5 +1,5 @@
 //! The calls that take a change back.
-ghost use Rattle.std.specs.Prelude.{◌≡◌, ◌≢◌, ◌≤◌, ℕ, None, Ok, IfOk, IfErr, OnOk, IsErrOf};
+ghost use Rattle.std.specs.Prelude.{◌≡◌, ◌≢◌, ◌≤◌, ℕ, None, Ok, IfOk, IfErr, OnOk, IsErrOf, IsSome};
 ghost use Rattle.checkpoint_cell.specs.Steps.{Holds};
 ghost use Rattle.checkpoint_cell.specs.Settled.{standing};
 ghost use Rattle.engine_model.specs.Machine.{rollback, recover, settle, due_at};
@@ -122,12 +122,23 @@ pub fn settle<H: Host>(host: &mut H, alloc: Global, now: u64) -> Result<Option<u
         (H.told host.old).state)) (Only (standing (H.told host.new).state)) result) }
     ensures kept { WhereSound H.honest (H.told host.old) (Kept (Only (recover now (standing (H.told host.old).state)).after) (H.told host.old)
         (H.told host.new)) }
-    // What every host counts.
+    // What every host counts, and by what calls the saved network was given.
     ensures counts { BackCounts (H.told host.old).kernel (H.told host.new).kernel result }
+    ensures gave { H.tells → HasTaken now (standing (H.told host.old).state).cell → OnOk result (GaveSaved (H.told host.new)) }
     // It takes memory only where a change is to be taken back.
     ensures memory { H.tells → IsErrOf result BackFault.OutOfMemory → HasTaken now (standing (H.told host.old).state).cell }
     // It never answers, as a rollback does, that there is no checkpoint.
     ensures set_there { IsErrOf result BackFault.NoCheckpoint → ⊥ }
+    // Once it is done, no checkpoint stands but one that waits. Where one waits, or nothing was to be taken back, nothing was
+    // changed.
+    ensures cleared { H.tells → IfOk result (λ due. due ≡ None → Holds None (H.told host.new)) }
+    ensures idle { IfOk result (λ due. IsSome due → IsUnbegun H.tells (H.told host.old) (H.told host.new)) }
+    ensures untaken { H.tells → (HasTaken now (standing (H.told host.old).state).cell → ⊥)
+        → OnOk result (IsUnbegun H.tells (H.told host.old) (H.told host.new)) }
+    // Also where the host isn't sound: once it is done, the host reads as what the machine leaves.
+    ensures after { H.honest → OnOk result (standing (H.told host.new).state ≡ (recover now (standing (H.told host.old).state)).after) }
+    // It begins only where a change is to be taken back.
+    ensures begun { H.tells → IfErr result (λ fault. (IsBefore fault → ⊥) → HasTaken now (standing (H.told host.old).state).cell) }
     // What is answered before anything was begun leaves the host as it was.
     ensures unbegun { IfErr result (λ fault. IsBefore fault → IsUnbegun H.tells (H.told host.old) (H.told host.new)) }
     ensures moment { (H.told host.old).stops.moment ≤ (H.told host.new).stops.moment }

@@ -142,8 +142,11 @@ IsToStay (applying doc opts) = opts.no_commit ≡ false
 IsToStay (applying_policy p opts) = opts.no_commit ≡ false
 IsToStay order = Unit {0}
 
--- a commit that is in doubt found a change that waits and isn't due
+-- An apply that verifies and is in doubt dumped what one does that is done. A commit that is in doubt found a change that waits and
+-- isn't due.
 abbrev pub IsDoubted : Run → Result Order Cause → Type 0
+IsDoubted r (Ok (applying doc opts)) = IsVerified r (Ok (applying doc opts))
+IsDoubted r (Ok (applying_policy p opts)) = IsVerified r (Ok (applying_policy p opts))
 IsDoubted r (Ok committing) = expected r (Ok committing) ≡ Ok committed
 IsDoubted r order = Unit {0}
 

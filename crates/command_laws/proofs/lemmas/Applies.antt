@@ -12,7 +12,7 @@ use Rattle.engine_model.specs.Sound.{Sound}
 use Rattle.engine_model.specs.Stations.{Stands, Entry, Only, Settled, Either, Kept, at}
 use Rattle.engine_model.specs.Exit.{ApplyExit}
 use Rattle.engine_model.specs.Refusals.{ApplyCounts}
-use Rattle.engine_model.specs.Failing.{ApplyIdle}
+use Rattle.engine_model.specs.Failing.{ApplyIdle, ApplyIntact}
 use Rattle.engine_model.specs.Faults.{ApplyAnswers, ApplyExact, ApplySays, Tries, FailsTwice, Dumps, Backs, HasTaken}
 use Rattle.engine_model.specs.declared.Left.TheVariants as sides
 use Rattle.engine_model.specs.declared.Applied.{Applied}
@@ -115,7 +115,7 @@ module _ (r : Run) (doc : Doc) (opts : ApplyOpts) where
   comes (Err (HostFault side)) says exact wants = (says.0, says.1)
   comes (Err (KernelRefused k n side)) says exact wants = (says.0, says.1)
   comes (Err (NotVerified found side)) says exact wants = (says.0, says.1, says.2, λ t. let s = says.4 t in record { doc = doc; saved = s.saved; is_doc = refl; is_saved = s.is_saved; other = s.other })
-  comes (Err InDoubt) says exact wants = (says.0, says.1, λ t. tt)
+  comes (Err InDoubt) says exact wants = says
   comes (Err (Damaged area)) says exact wants = says
   comes (Err (HardwareDiffers names)) says exact wants = says
   comes (Err OutOfMemory) says exact wants = wants
@@ -147,23 +147,25 @@ module _ (r : Run) (doc : Doc) (opts : ApplyOpts) where
   expects (Err OutOfMemory) is wants = wants
 
   -- what it leaves where it began nothing
-  unbegun : (result : Result Applied ApplyFault) → ApplyIdle r.host_tells r.now r.host r.host_after result → Unbegun r (Ok (applying doc opts)) (answer_of result)
-  unbegun (Ok done) idle = tt
-  unbegun (Err (Pending deadline)) idle = unchanged r idle
-  unbegun (Err (MergeRefused refused)) idle = unchanged_or_taken r idle
-  unbegun (Err (HostFault sides.NotBegun)) idle = unchanged r idle
-  unbegun (Err (HostFault sides.RolledBack)) idle = tt
-  unbegun (Err (HostFault sides.Pending)) idle = tt
-  unbegun (Err (KernelRefused k n side)) idle = tt
-  unbegun (Err (NotVerified found side)) idle = tt
-  unbegun (Err InDoubt) idle = tt
-  unbegun (Err (Damaged area)) idle = tt
-  unbegun (Err (HardwareDiffers names)) idle = tt
-  unbegun (Err OutOfMemory) idle = tt
+  unbegun : (result : Result Applied ApplyFault) → ApplyIdle r.host_tells r.now r.host r.host_after result → (r.honest → (HostRose r → ⊥) → ApplyIntact r.host_tells r.host r.host_after result)
+      → Unbegun r (Ok (applying doc opts)) (answer_of result)
+  unbegun (Ok done) idle intact = tt
+  unbegun (Err (Pending deadline)) idle intact = unchanged r idle
+  unbegun (Err (MergeRefused refused)) idle intact = unchanged_or_taken r idle
+  unbegun (Err (HostFault sides.NotBegun)) idle intact = unchanged r idle
+  unbegun (Err (HostFault sides.RolledBack)) idle intact = tt
+  unbegun (Err (HostFault sides.Pending)) idle intact = tt
+  unbegun (Err (KernelRefused k n side)) idle intact = tt
+  unbegun (Err (NotVerified found side)) idle intact = tt
+  unbegun (Err InDoubt) idle intact = tt
+  unbegun (Err (Damaged area)) idle intact = λ honest calm. unchanged r (intact honest calm)
+  unbegun (Err (HardwareDiffers names)) idle intact = λ honest calm. unchanged r (intact honest calm)
+  unbegun (Err OutOfMemory) idle intact = tt
 
   module _ (inputs : Inputs) (may_read : MayRead r inputs) (is : order_of r.in_script inputs r.words ≡ Ok (applying doc opts)) (result : Result Applied ApplyFault)
       (says : ApplySays r.host_tells Ask r.host r.host_after result) (counts : ApplyCounts r.host.kernel r.host_after.kernel result)
       (idle : ApplyIdle r.host_tells r.now r.host r.host_after result)
+      (intact : r.honest → (HostRose r → ⊥) → ApplyIntact r.host_tells r.host r.host_after result)
       (tries : Tries (HasExcuse r opts) r.host.faults r.host.kernel.refusals r.host_after result)
       (twice : r.honest → FailsTwice (HasTaken r.now (reads r).cell) r.host.faults r.host_after result) (dumps : Dumps r.host_tells opts.no_verify r.host_after result)
       (backs : r.honest → Backs (recover r.now (reads r)).after.net r.host_after result)
@@ -195,5 +197,5 @@ module _ (r : Run) (doc : Doc) (opts : ApplyOpts) where
       kept = λ a. kept a.honest a.sound;
       spares = λ a from to stood merges quiet other. undisturbed a.honest a.sound from to stood merges quiet (λ memory. other (ap answer_of memory));
       looks = tt;
-      unbegun = unbegun result idle;
+      unbegun = unbegun result idle intact;
     }

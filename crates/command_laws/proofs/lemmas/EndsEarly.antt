@@ -261,13 +261,13 @@ module _ (r : Run) (p : PolicyData) (opts : ApplyOpts) where
   fault_tried tells ba.OutOfMemory says begun = tt
 
   fault_unbegun : (fault : BackFault) → (IsBefore fault → IsUnbegun r.host_tells r.host r.host_after) → Unbegun r Policy (told_fault fault)
-  fault_unbegun ba.NoCheckpoint idle = tt
+  fault_unbegun ba.NoCheckpoint idle = λ honest calm. unchanged r (idle tt)
   fault_unbegun (ba.HostFault side.NotBegun) idle = unchanged r (idle tt)
   fault_unbegun (ba.HostFault side.RolledBack) idle = tt
   fault_unbegun (ba.HostFault side.Pending) idle = tt
   fault_unbegun (ba.KernelRefused k n left) idle = tt
-  fault_unbegun (ba.Damaged area) idle = tt
-  fault_unbegun (ba.HardwareDiffers names) idle = tt
+  fault_unbegun (ba.Damaged area) idle = λ honest calm. unchanged r (idle tt)
+  fault_unbegun (ba.HardwareDiffers names) idle = λ honest calm. unchanged r (idle tt)
   fault_unbegun ba.OutOfMemory idle = tt
 
   -- the machine's answer is the cause of the machine's fault

@@ -218,7 +218,7 @@ module _ (r : Run) (p : PolicyData) (opts : ApplyOpts) (inputs : Inputs) (may_re
         told = told;
         goes_on = goes_on;
         looks = tt;
-        unbegun = tt;
+        unbegun = λ honest calm. unrestored r p opts done clear (unchanged_back r p opts goes_on done clear mid first look.state look.stops) (unrestored_net honest);
         exactly = λ honest. inr (refused_answer p opts r.now (reads r) (Damaged 0) (refused honest));
         expects = λ a. refused_outcome p opts r.now (reads r) (Damaged 0) r.host_after (refused a.honest) (reads_back r p opts goes_on done clear mid first look.state look.stops a.honest);
         leaves = λ a. unrestored r p opts done clear (unbegun_exit r p opts goes_on done clear mid first look.state look.stops) (unrestored_net a.honest);

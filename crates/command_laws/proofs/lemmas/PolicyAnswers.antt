@@ -1,15 +1,16 @@
 -- What an apply of a policy may answer, and what it leaves, by the answer of the change of its document.
 use Rattle.std.proofs.Common.{◌≡◌, ◌⊎◌, inl, inr, refl, sym, subst, Option, None}
 use Rattle.std.specs.Prelude.{◌≢◌, Result, Ok, Err}
+use Rattle.net_model.specs.NetData.{NetData}
 use Rattle.policy_model.specs.Values.{PolicyData}
 use Rattle.host_core.specs.HostView.{HostView}
 use Rattle.checkpoint_cell.specs.Cell.{Checkpoint}
-use Rattle.checkpoint_cell.specs.Settled.{standing}
+use Rattle.checkpoint_cell.specs.Settled.{Standing, standing, restored_to}
 use Rattle.engine_model.specs.Machine.{Asked, apply}
 use Rattle.engine_model.specs.Stations.{Stands, Entry}
 use Rattle.engine_model.specs.Exit.{ApplyExit}
 use Rattle.engine_model.specs.Failing.{IsUnbegun, ApplyIdle}
-use Rattle.engine_model.specs.Faults.{HasTaken, ApplySays}
+use Rattle.engine_model.specs.Faults.{HasTaken, ApplySays, ApplyExact}
 use Rattle.engine_model.specs.declared.Left.{Left}
 use Rattle.engine_model.specs.declared.Left.TheVariants as sides
 use Rattle.engine_model.specs.declared.Applied.{Applied}
@@ -17,7 +18,7 @@ use Rattle.engine_model.specs.declared.ApplyFault.{ApplyFault}
 use Rattle.engine_model.specs.declared.ApplyFault.TheVariants.{Pending, MergeRefused, HostFault, KernelRefused, NotVerified, InDoubt, Damaged, HardwareDiffers, OutOfMemory}
 use Rattle.engine_model.specs.declared.ApplyOpts.{ApplyOpts}
 use Rattle.top_model.specs.Orders.{Inputs, applying_policy, committing, rolling_back, recovering, order_of}
-use Rattle.top_model.specs.Runs.{Run, entry, reads}
+use Rattle.top_model.specs.Runs.{Run, HostRose, entry, reads}
 use Rattle.top_model.specs.Causes.{MayWant, MayAnswer}
 use Rattle.top_model.specs.Exits.{PolicyLeaves}
 use Rattle.top_model.specs.Answered.{UnchangedOrTaken, Unbegun}
@@ -46,6 +47,27 @@ unpending tells a back mid new none (Err InDoubt) says = tt
 unpending tells a back mid new none (Err (Damaged area)) says = tt
 unpending tells a back mid new none (Err (HardwareDiffers names)) says = tt
 unpending tells a back mid new none (Err OutOfMemory) says = tt
+
+-- it tells neither damage nor other devices
+abbrev pub Unhurt : Result Applied ApplyFault → Type 0
+Unhurt (Err (Damaged area)) = ⊥
+Unhurt (Err (HardwareDiffers names)) = ⊥
+Unhurt result = Unit {0}
+
+-- where a network alone stood, and the count didn't rise
+pub unhurt : (a : Asked) (from : NetData) (e : Standing) (rose : Type 0) (new : HostView) → e ≡ restored_to from → (rose → ⊥) → (result : Result Applied ApplyFault) → ApplyExact rose (apply a e) new result → Unhurt result
+unhurt a from e rose new stood calm (Ok done) exact = tt
+unhurt a from e rose new stood calm (Err (Pending until)) exact = tt
+unhurt a from e rose new stood calm (Err (MergeRefused refused)) exact = tt
+unhurt a from e rose new stood calm (Err (HostFault left)) exact = tt
+unhurt a from e rose new stood calm (Err (KernelRefused k n left)) exact = tt
+unhurt a from e rose new stood calm (Err (NotVerified found left)) exact = tt
+unhurt a from e rose new stood calm (Err InDoubt) exact = tt
+unhurt a from e rose new stood calm (Err (Damaged area)) (inl risen) = calm risen
+unhurt a from e rose new stood calm (Err (Damaged area)) (inr is) = go.none_damaged a e from area stood is.answer
+unhurt a from e rose new stood calm (Err (HardwareDiffers names)) (inl risen) = calm risen
+unhurt a from e rose new stood calm (Err (HardwareDiffers names)) (inr is) = go.none_differs a e from names stood is.answer
+unhurt a from e rose new stood calm (Err OutOfMemory) exact = tt
 
 pub may : (p : PolicyData) (opts : ApplyOpts) (result : Result Applied ApplyFault) → MayAnswer (Ok (applying_policy p opts)) (answer_of result)
 may p opts (Ok done) = tt
@@ -106,16 +128,16 @@ module _ (r : Run) (p : PolicyData) (opts : ApplyOpts) (back : Left) (mid : Host
   refused_as (inr last) = settled_as back refl last
 
   pub unbegun : (result : Result Applied ApplyFault) → ApplyIdle r.host_tells r.now mid r.host_after result → Unpending r.host_tells (go.told_as back result)
-      → Unbegun r (Ok (applying_policy p opts)) (answer_of (go.told_as back result))
-  unbegun (Ok done) last never = tt
-  unbegun (Err (Pending until)) last never = λ t. absurd (never t)
-  unbegun (Err (MergeRefused refused)) last never = refused_as last
-  unbegun (Err (HostFault sides.NotBegun)) last never = begun_as back refl last
-  unbegun (Err (HostFault sides.RolledBack)) last never = tt
-  unbegun (Err (HostFault sides.Pending)) last never = tt
-  unbegun (Err (KernelRefused k n left)) last never = tt
-  unbegun (Err (NotVerified found left)) last never = tt
-  unbegun (Err InDoubt) last never = tt
-  unbegun (Err (Damaged area)) last never = tt
-  unbegun (Err (HardwareDiffers names)) last never = tt
-  unbegun (Err OutOfMemory) last never = tt
+      → (r.honest → (HostRose r → ⊥) → Unhurt result) → Unbegun r (Ok (applying_policy p opts)) (answer_of (go.told_as back result))
+  unbegun (Ok done) last never clean = tt
+  unbegun (Err (Pending until)) last never clean = λ t. absurd (never t)
+  unbegun (Err (MergeRefused refused)) last never clean = refused_as last
+  unbegun (Err (HostFault sides.NotBegun)) last never clean = begun_as back refl last
+  unbegun (Err (HostFault sides.RolledBack)) last never clean = tt
+  unbegun (Err (HostFault sides.Pending)) last never clean = tt
+  unbegun (Err (KernelRefused k n left)) last never clean = tt
+  unbegun (Err (NotVerified found left)) last never clean = tt
+  unbegun (Err InDoubt) last never clean = tt
+  unbegun (Err (Damaged area)) last never clean = λ honest calm. absurd (clean honest calm)
+  unbegun (Err (HardwareDiffers names)) last never clean = λ honest calm. absurd (clean honest calm)
+  unbegun (Err OutOfMemory) last never clean = tt

@@ -1,6 +1,6 @@
 -- What an apply says from the beginning of its command, where a recovery that left no checkpoint and a dump came before it:
 -- it is what an apply from that beginning says.
-use Rattle.std.proofs.Common.{◌≡◌, ◌≢◌, ◌⊎◌, ◌≤◌, ◌∙◌, inl, inr, refl, sym, ap, subst, arith, ℕ, Bool, true, false, Option, Some, None, Result, Ok, Err}
+use Rattle.std.proofs.Common.{◌≡◌, ◌≢◌, ◌⊎◌, ◌≤◌, ◌∙◌, inl, inr, refl, sym, ap, subst, arith, ℕ, Bool, true, false, List, Option, Some, None, Result, Ok, Err}
 use Rattle.std.specs.Prelude.{if◌then◌else◌, IsSome}
 use Rattle.net_model.specs.NetData.{NetData}
 use Rattle.document_model.specs.declared.Refused.{Refused}
@@ -83,6 +83,19 @@ module _ (a : Asked) where
   none_damaged e from area stood is =
       merged_damaged from (merge from a.doc) area (ap (λ (x : Standing). (change a x x.net).answer) (sym stood) ∙ ap (λ (o : Made). o.answer) (sym (begins_there e (ap (λ (x : Standing). x.cell) stood))) ∙ is)
 
+  made_differs : (from to : NetData) (names : List (List ℕ)) (b : Bool) → (made_as from to b).answer ≡ failed (fa.HardwareDiffers names) → ⊥
+  made_differs from to names true is = cc
+  made_differs from to names false is = cc
+
+  merged_differs : (from : NetData) (m : Result NetData Refused) (names : List (List ℕ)) → (merged_as a from m).answer ≡ failed (fa.HardwareDiffers names) → ⊥
+  merged_differs from (Ok to) names is = made_differs from to names a.opts.no_commit is
+  merged_differs from (Err broken) names is = let e : failed (fa.MergeRefused broken) ≡ failed (fa.HardwareDiffers names) = is in cc
+
+  -- nor are its devices others
+  pub none_differs : (e : Standing) (from : NetData) (names : List (List ℕ)) → e ≡ restored_to from → (apply a e).answer ≡ failed (fa.HardwareDiffers names) → ⊥
+  none_differs e from names stood is =
+      merged_differs from (merge from a.doc) names (ap (λ (x : Standing). (change a x x.net).answer) (sym stood) ∙ ap (λ (o : Made). o.answer) (sym (begins_there e (ap (λ (x : Standing). x.cell) stood))) ∙ is)
+
 -- ---- counts
 
 -- ---- what was left before it
@@ -156,7 +169,7 @@ module _ (tells : Type 0) (a : Asked) (back : Left) (old mid new : HostView) (si
     says (Err (fa.HostFault NotBegun)) is damaged = (rose is.0, unbegun back refl is.1, gave_before)
     says (Err (fa.HostFault RolledBack)) is damaged = (rose is.0, is.1, λ rolled told. gave_first (is.2 rolled told))
     says (Err (fa.HostFault Pending)) is damaged = (rose is.0, tt, λ rolled told. gave_first (is.2 rolled told))
-    says (Err fa.InDoubt) is damaged = (rose is.0, is.1)
+    says (Err fa.InDoubt) is damaged = (rose is.0, is.1, is.2)
     says (Err (fa.KernelRefused k n left)) is damaged = (refused_left left is.1 is.0, is.1, is.2)
     says (Err (fa.NotVerified found left)) is damaged = is
     says (Err (fa.Damaged area)) is damaged = λ told. (damaged area refl told, stands_first area (is told).1)

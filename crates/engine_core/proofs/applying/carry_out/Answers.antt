@@ -105,8 +105,8 @@ returns-in-Ok-clause-exit g c = λ honest sound ends is runs doc merges until.
 pub returns-in-Ok-clause-says : goal.returns-in-Ok-clause-says
 returns-in-Ok-clause-says g c = λ doc start follows calls merges settled.
     let mid = g.H.Host.told c.attempt.new.host in
-    finished_says g.H.Host.tells doc c.args.opts.now c.args.made start c.args.from.now c.args.to.now mid (g.H.Host.told c.finish.new.host) c.finish.result merges (omega (arith, follows.faults, c.attempt.ensures.later))
-    c.in-Ok.ensures.verified c.finish.ensures.kernel.fresh (λ tells. c.finish.ensures.saved tells c.args.made c.args.deadline c.args.from.now (c.in-Ok.ensures.set tells)) c.finish.ensures.doubt c.finish.ensures.fault c.finish.ensures.ended
+    finished_says g.H.Host.tells doc c.args.opts.now c.args.made start c.args.from.now c.args.to.now mid (g.H.Host.told c.finish.new.host) merges (omega (arith, follows.faults, c.attempt.ensures.later))
+    c.in-Ok.ensures.verified c.finish.ensures.kernel.fresh (λ tells. c.finish.ensures.saved tells c.args.made c.args.deadline c.args.from.now (c.in-Ok.ensures.set tells)) c.finish.result c.finish.ensures.doubt c.finish.ensures.fault c.finish.ensures.ended
 
 pub returns-in-Err-clause-says : goal.returns-in-Err-clause-says
 returns-in-Err-clause-says g c = λ doc start follows calls merges settled.

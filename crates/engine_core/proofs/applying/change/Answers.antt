@@ -41,7 +41,7 @@ use Rattle.engine_model.specs.declared.answers.Left.TheVariants.{NotBegun, Rolle
 use Rattle.engine_model.specs.declared.answers.ApplyFault.TheVariants as ap_
 use Rattle.engine_model.proofs.lemmas.Leading.{near_ends}
 use Rattle.engine_core.proofs.Apart.{later_on}
-use Rattle.engine_core.proofs.Idles.{begun_idle, left_idle}
+use Rattle.engine_core.proofs.Idles.{begun_idle, left_idle, hurt_intact}
 use Rattle.engine_model.specs.Failing.{IsUnbegun}
 use Rattle.engine_model.specs.Refusals.{NoCallMade}
 use Rattle.engine_core.proofs.applying.change.Goals as goal
@@ -140,6 +140,14 @@ returns-clause-counts g c = λ start follows unmade.
 pub returns-clause-idle : goal.returns-clause-idle
 returns-clause-idle g c = begun_idle g.H.Host.tells c.args.left (g.H.Host.told c.args.host.now) (g.H.Host.told c.carry_out.new.host) c.carry_out.result c.carry_out.ensures.begun
 
+pub returns-clause-intact : goal.returns-clause-intact
+returns-clause-intact g c = λ honest calm.
+    let old = g.H.Host.told c.args.host.now in
+    let mid = g.H.Host.told c.dump.new.self in
+    let net = ap (λ (s : State). s.net) (c.dump.ensures.state (g.met.H.Host.honest_tells honest)) ∙ c.in-Ok.ensures.net honest in
+    hurt_intact g.H.Host.tells c.in-Ok-merge.to old.faults mid.faults old (g.H.Host.told c.carry_out.new.host) c.dump.ensures.cause.later calm c.carry_out.result
+    (c.carry_out.ensures.hurt honest net (subst (λ (l : List Call). Runs l c.in-Ok.found c.in-Ok-merge.to) (sym c.deref.ensures.value) c.in-Ok-plan.ensures.run))
+
 -- ---- what isn't touched
 
 pub returns-clause-calm : goal.returns-clause-calm
@@ -232,6 +240,7 @@ returns-in-Err-Failed g c = record {
   counts = λ start follows unmade.
       left_counts start.kernel (g.H.Host.told c.args.host.now).kernel (g.H.Host.told c.dump.new.self).kernel c.args.left c.requires.left follows.quiet unmade c.in-Err-Failed.ensures.kernel;
   idle = left_idle g.H.Host.tells (g.H.Host.told c.args.host.now) (g.H.Host.told c.dump.new.self) c.args.left (unbegun g (goal.at.returns-in-Err-Failed g c).After-dump (inl c.in-Err-Failed.ensures.kernel));
+  intact = λ honest calm. tt;
   tries = λ start follows. left_tries (c.args.opts.now.no_verify ≡ false) start.faults start.kernel.refusals (g.H.Host.told c.dump.new.self) c.args.left c.requires.left;
   twice = λ honest. left_twice ⊥ (g.H.Host.told c.args.host.now).faults (g.H.Host.told c.dump.new.self) c.args.left c.requires.left;
   dumps = tt;
@@ -267,6 +276,10 @@ returns-in-Err-Damaged g c = record {
       let mid = (g.H.Host.told c.dump.new.self).kernel in
       inl (quiet_on start.kernel old mid follows.quiet (quiet_same old mid c.in-Err-Damaged.ensures.kernel));
   idle = tt;
+  intact = λ honest calm. (
+    c.in-Err-Damaged.ensures.damaged (g.met.H.Host.honest_tells honest) (ap (λ e. Err e) c.in-Err-Damaged.field-0-is),
+    unbegun g (goal.at.returns-in-Err-Damaged g c).After-dump (inl c.in-Err-Damaged.ensures.kernel),
+  );
   tries = λ start follows. tt;
   twice = λ honest. tt;
   dumps = tt;
@@ -288,6 +301,7 @@ returns-in-Err-OutOfMemory g c = record {
       let mid = (g.H.Host.told c.dump.new.self).kernel in
       inl (quiet_on start.kernel old mid follows.quiet (quiet_same old mid c.in-Err-OutOfMemory.ensures.kernel));
   idle = tt;
+  intact = λ honest calm. tt;
   tries = λ start follows. tt;
   twice = λ honest. tt;
   dumps = tt;
@@ -329,6 +343,7 @@ returns-in-Err-Refused g c = record {
       );
   counts = λ start follows unmade. dumped_quiet g (goal.at.returns-in-Err-Refused g c).In-Ok start follows;
   idle = unbegun g (goal.at.returns-in-Err-Refused g c).After-dump (inr c.in-Ok.ensures.calls);
+  intact = λ honest calm. tt;
   tries = λ start follows. tt;
   twice = λ honest. tt;
   dumps = tt;
@@ -347,6 +362,7 @@ returns-in-Err-OutOfMemory-merge g c = record {
   says = λ start follows settled was. tt;
   counts = λ start follows unmade. inl (dumped_quiet g (goal.at.returns-in-Err-OutOfMemory-merge g c).In-Ok start follows);
   idle = tt;
+  intact = λ honest calm. tt;
   tries = λ start follows. tt;
   twice = λ honest. tt;
   dumps = tt;
@@ -365,6 +381,7 @@ returns-in-Err g c = record {
   says = λ start follows settled was. tt;
   counts = λ start follows unmade. inl (dumped_quiet g (goal.at.returns-in-Err g c).In-Ok start follows);
   idle = tt;
+  intact = λ honest calm. tt;
   tries = λ start follows. tt;
   twice = λ honest. tt;
   dumps = tt;

@@ -1,6 +1,6 @@
-use Rattle.std.proofs.Common.{◌∙◌, ℕ, Some, false, subst, sym, refl}
+use Rattle.std.proofs.Common.{◌≡◌, ◌∙◌, ℕ, Some, false, subst, sym, refl}
 use Rattle.net_model.specs.NetData.{NetData}
-use Rattle.checkpoint_cell.specs.Cell.{applying}
+use Rattle.checkpoint_cell.specs.Cell.{applying, saved_net}
 use Rattle.checkpoint_cell.specs.Steps.{Holds, NoneOr}
 use Rattle.checkpoint_cell.proofs.lemmas.Saved.{saved_stays}
 use Rattle.engine_model.specs.Sound.{Sound}
@@ -17,9 +17,16 @@ use Rattle.engine_core.proofs.applying.finish.Goals.{After-clear}
 pub returns-then-no_commit-clause-saved : goal.returns-then-no_commit-clause-saved
 returns-then-no_commit-clause-saved g c = λ tells made d from holds. sealed_net c.args.no_commit made d from (g.H.Host.told c.args.host.now) holds
 
+-- the clearing writes before the saved network alone
+saved : (g : _) (c : After-clear g) → g.H.Host.tells → (made d : ℕ) (from : NetData) → Holds (sealed c.args.no_commit made d from) (g.H.Host.told c.args.host.now) → saved_net (g.H.Host.told c.clear.new.host).state.cell ≡ Some from
+saved g c tells made d from holds =
+    saved_stays (g.H.Host.told c.args.host.now).state.cell (g.H.Host.told c.clear.new.host).state.cell (c.clear.ensures.behind tells) ∙ sealed_net c.args.no_commit made d from (g.H.Host.told c.args.host.now) holds
+
 pub returns-in-Ok-clause-saved : goal.returns-in-Ok-clause-saved
-returns-in-Ok-clause-saved g c = λ tells made d from holds.
-    saved_stays (g.H.Host.told c.args.host.now).state.cell (g.H.Host.told c.clear.new.host).state.cell (c.in-Ok.ensures.behind tells) ∙ sealed_net c.args.no_commit made d from (g.H.Host.told c.args.host.now) holds
+returns-in-Ok-clause-saved g c = λ tells made d from holds. saved g (goal.at.returns-in-Ok-clause-saved g c).After-clear tells made d from holds
+
+pub returns-in-Err-clause-saved : goal.returns-in-Err-clause-saved
+returns-in-Err-clause-saved g c = λ tells made d from holds. saved g (goal.at.returns-in-Err-clause-saved g c).After-clear tells made d from holds
 
 kept : (g : _) (c : After-clear g) → g.H.Host.tells → Sound (g.H.Host.told c.args.host.now) → (made d : ℕ) (from to : NetData) → Holds (sealed c.args.no_commit made d from) (g.H.Host.told c.args.host.now) → Ends (stand to (sealed c.args.no_commit made d from)) (g.H.Host.told c.args.host.now)
     → Kept (Only (done c.args.no_commit made d from to)) (g.H.Host.told c.args.host.now) (g.H.Host.told c.clear.new.host)

@@ -36,9 +36,10 @@ use Rattle.engine_model.proofs.lemmas.Backs.{has_taken}
 use Rattle.engine_model.specs.Machine.{recover}
 use Rattle.engine_core.proofs.Exacts.{nothing_after, restored_after}
 use Rattle.engine_core.proofs.Tries.{tries_more, unsettled_tries, twice_before, unsettled_twice, unsettled_dumps, unsettled_backs}
+use Rattle.host_core.proofs.lemmas.Counts.{rose_after}
 use Rattle.engine_core.proofs.Apart.{waiting_kept, nothing_kept, back_begun}
-use Rattle.engine_core.proofs.Idles.{settled_idle, unsettled_idle}
-use Rattle.engine_model.specs.Failing.{IsUnbegun, ApplyIdle}
+use Rattle.engine_core.proofs.Idles.{settled_idle, unsettled_idle, settled_intact, restored_intact, unsettled_intact}
+use Rattle.engine_model.specs.Failing.{IsUnbegun, ApplyIdle, ApplyIntact}
 use Rattle.engine_core.proofs.applying.settle_and_change.Goals as goal
 use Rattle.engine_core.proofs.applying.settle_and_change.Goals.{After-take_back, In-Ok-Nothing, In-Ok-Restored}
 
@@ -140,25 +141,56 @@ returns-in-Err-clause-says g c =
 
 -- ---- what is left where nothing is begun
 
-pub returns-in-Ok-Waiting-clause-idle : goal.returns-in-Ok-Waiting-clause-idle
-returns-in-Ok-Waiting-clause-idle g c = c.in-Ok-Waiting.ensures.idle (waiting_kept c.in-Ok-Waiting.deadline c.in-Ok-Waiting.field-0-is)
+pub returns-in-Ok-Waiting-clause-unbegun : goal.returns-in-Ok-Waiting-clause-unbegun
+returns-in-Ok-Waiting-clause-unbegun g c = c.in-Ok-Waiting.ensures.idle (waiting_kept c.in-Ok-Waiting.deadline c.in-Ok-Waiting.field-0-is)
 
-pub returns-in-Ok-Nothing-clause-idle : goal.returns-in-Ok-Nothing-clause-idle
-returns-in-Ok-Nothing-clause-idle g c =
-    let first = nothing_begun g (goal.at.returns-in-Ok-Nothing-clause-idle g c).In-Ok-Nothing in
+pub returns-in-Ok-Nothing-clause-unbegun : goal.returns-in-Ok-Nothing-clause-unbegun
+returns-in-Ok-Nothing-clause-unbegun g c =
+    let first = nothing_begun g (goal.at.returns-in-Ok-Nothing-clause-unbegun g c).In-Ok-Nothing in
     settled_idle g.H.Host.tells c.args.now NotBegun (g.H.Host.told c.args.host.now) (g.H.Host.told c.take_back.new.host) (g.H.Host.told c.change.new.host) c.change.result (λ is. first) (inr first) c.change.ensures.idle
 
-pub returns-in-Ok-Restored-clause-idle : goal.returns-in-Ok-Restored-clause-idle
-returns-in-Ok-Restored-clause-idle g c =
+pub returns-in-Ok-Restored-clause-unbegun : goal.returns-in-Ok-Restored-clause-unbegun
+returns-in-Ok-Restored-clause-unbegun g c =
     let old = g.H.Host.told c.args.host.now in
     settled_idle g.H.Host.tells c.args.now RolledBack old (g.H.Host.told c.take_back.new.host) (g.H.Host.told c.change-in-Ok-Restored.new.host) c.change-in-Ok-Restored.result (λ is. absurd (back_begun is))
-    (inl (restored_taken g (goal.at.returns-in-Ok-Restored-clause-idle g c).In-Ok-Restored)) c.change-in-Ok-Restored.ensures.idle
+    (inl (restored_taken g (goal.at.returns-in-Ok-Restored-clause-unbegun g c).In-Ok-Restored)) c.change-in-Ok-Restored.ensures.idle
 
-pub returns-in-Err-clause-idle : goal.returns-in-Err-clause-idle
-returns-in-Err-clause-idle g c =
+pub returns-in-Err-clause-unbegun : goal.returns-in-Err-clause-unbegun
+returns-in-Err-clause-unbegun g c =
     let old = g.H.Host.told c.args.host.now in
     let new = g.H.Host.told c.take_back.new.host in
     subst (λ (a : ApplyFault). ApplyIdle g.H.Host.tells c.args.now old new (Err a)) (sym c.unsettled.ensures) (unsettled_idle g.H.Host.tells c.args.now old new c.in-Err.fault c.in-Err.ensures.fails)
+
+-- ---- what is left where damage or other devices are told
+
+-- the count of the change alone didn't rise either
+calm_behind : (g : _) (c : After-take_back g) (last : ℕ) → (Rose (g.H.Host.told c.args.host.now).faults last → ⊥) → Rose (g.H.Host.told c.take_back.new.host).faults last → ⊥
+calm_behind g c last calm rose = calm (rose_after (g.H.Host.told c.args.host.now).faults (g.H.Host.told c.take_back.new.host).faults last c.take_back.ensures.later rose)
+
+pub returns-in-Ok-Nothing-clause-intact : goal.returns-in-Ok-Nothing-clause-intact
+returns-in-Ok-Nothing-clause-intact g c = λ honest calm.
+    let at = goal.at.returns-in-Ok-Nothing-clause-intact g c in
+    let new = g.H.Host.told c.change.new.host in
+    settled_intact g.H.Host.tells (g.H.Host.told c.args.host.now) (g.H.Host.told c.take_back.new.host) new c.change.result (nothing_begun g at.In-Ok-Nothing) (c.change.ensures.intact honest (calm_behind g at.After-take_back new.faults calm))
+
+pub returns-in-Ok-Restored-clause-intact : goal.returns-in-Ok-Restored-clause-intact
+returns-in-Ok-Restored-clause-intact g c = λ honest calm.
+    let at = goal.at.returns-in-Ok-Restored-clause-intact g c in
+    let tells = g.met.H.Host.honest_tells honest in
+    let old = g.H.Host.told c.args.host.now in
+    let new = g.H.Host.told c.change-in-Ok-Restored.new.host in
+    let restored = c.in-Ok-Restored.is ∙ ap (λ r. Ok r) c.in-Ok-Restored.field-0-is in
+    let t = c.take_back.ensures.restored tells restored in
+    let found : Finds {A = Recovered} (saved_on t.checkpoint.net old.state.net) (Ok Restored) = subst (λ (r : Result Recovered BackFault). Finds (saved_on t.checkpoint.net old.state.net) r) restored (c.take_back.ensures.exact honest t) in
+    let has = found_saved t.checkpoint.net old.state.net found.0 found.1 in
+    restored_intact g.H.Host.tells old (g.H.Host.told c.take_back.new.host) new found.0 (ap (λ (x : Standing). x.net) (c.take_back.ensures.restored_reads honest t found.0 has restored)) c.change-in-Ok-Restored.result
+    (c.change-in-Ok-Restored.ensures.intact honest (calm_behind g at.After-take_back new.faults calm))
+
+pub returns-in-Err-clause-intact : goal.returns-in-Err-clause-intact
+returns-in-Err-clause-intact g c = λ honest calm.
+    let old = g.H.Host.told c.args.host.now in
+    let new = g.H.Host.told c.take_back.new.host in
+    subst (λ (a : ApplyFault). ApplyIntact g.H.Host.tells old new (Err a)) (sym c.unsettled.ensures) (unsettled_intact g.H.Host.tells old new c.in-Err.fault c.in-Err.ensures.fails)
 
 -- ---- what every host counts
 

@@ -25,10 +25,7 @@ returns-clause-exit g c = λ honest sound.
     let here = (g.met.H.Host.lawful c.args.host.now).reads (g.met.H.Host.honest_tells honest) in
     let new = g.H.Host.told c.settle_and_change.new.host in
     let e = c.settle_and_change.ensures in
-    apply_exit c.args.doc.now c.args.opts.now c.args.now old new here (sound.fit old.state here) c.settle_and_change.result (e.exit honest sound) (idle_stops g.H.Host.tells c.args.now old new c.settle_and_change.result e.idle)
-
-pub returns-clause-unbegun : goal.returns-clause-unbegun
-returns-clause-unbegun g c = idle_stops g.H.Host.tells c.args.now (g.H.Host.told c.args.host.now) (g.H.Host.told c.settle_and_change.new.host) c.settle_and_change.result c.settle_and_change.ensures.idle
+    apply_exit c.args.doc.now c.args.opts.now c.args.now old new here (sound.fit old.state here) c.settle_and_change.result (e.exit honest sound) (idle_stops g.H.Host.tells c.args.now old new c.settle_and_change.result e.unbegun)
 
 pub returns-clause-reads : goal.returns-clause-reads
 returns-clause-reads g c = λ honest sound.

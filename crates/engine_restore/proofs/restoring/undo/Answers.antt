@@ -104,7 +104,7 @@ returns-in-Ok-clear g c =
         quiet = quiet g at;
         made = ap (λ (k : Kernel). k.calls) c.clear.ensures.kernel.kernel ∙ c.in-Ok.ensures.made c.requires.zero;
         idle = λ tells none. c.clear.ensures.kernel.fresh tells ∙ c.run.ensures.idle tells none;
-        saved = λ tells. saved_stays mid.state.cell new.state.cell (c.in-Ok-clear.ensures.behind tells) ∙ ap saved_net (c.run.ensures.cell tells);
+        saved = λ tells. saved_stays mid.state.cell new.state.cell (c.clear.ensures.behind tells) ∙ ap saved_net (c.run.ensures.cell tells);
       };
       fault = tt;
       kept = λ honest sound made deadline from saved ends is built runs. done g at honest sound made deadline from saved ends is built runs;
