@@ -1,0 +1,10 @@
+pub mod Options
+pub mod Bytes
+pub mod Spaces
+pub mod Parts
+pub mod Operands
+pub mod Sound
+pub mod Runs
+pub mod Paths
+pub mod Written
+pub mod Complete
