@@ -1,5 +1,5 @@
 -- Bytes of one kind are none of another; texts whose bytes all pass a test.
-use Rattle.std.proofs.Common.{◌≡◌, ◌∙◌, ℕ, zero, suc, Bool, true, false, eqb, ◌==◌, List, [], ◌∷◌, ◌++◌, replicate, refl, sym, ap}
+use Rattle.std.proofs.Common.{◌≡◌, ◌∙◌, ℕ, zero, suc, Bool, true, false, eqb, ◌==◌, [], ◌∷◌, ◌++◌, replicate, refl, sym, ap}
 use Rattle.std.specs.List.{list_all}
 use Rattle.std.proofs.lemmas.Bool.{ne_eqb, eqb-true, both_ways, and_parts, and_from, false≢true}
 use Rattle.yaml_read.specs.Bytes.{space, is_same}

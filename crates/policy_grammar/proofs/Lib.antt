@@ -8,3 +8,4 @@ pub mod Runs
 pub mod Paths
 pub mod Written
 pub mod Complete
+pub mod Places

@@ -16,6 +16,11 @@ pub if_mapped : {X Y : Type 0} (f : X → Y) (o : Option X) (P : X → Type 0) (
 if_mapped f None P Q h made = tt
 if_mapped f (Some x) P Q h made = made x h
 
+-- a wider thing is said of it
+pub if_such : {X : Type 0} (o : Option X) (P Q : X → Type 0) → IfSome o P → ((x : X) → P x → Q x) → IfSome o Q
+if_such None P Q h made = tt
+if_such (Some x) P Q h made = made x h
+
 -- it is this one
 pub of_some : {X : Type 0} (o : Option X) (x : X) (P : X → Type 0) → IfSome o P → o ≡ Some x → P x
 of_some o x P h e = subst (λ u. IfSome u P) e h

@@ -1,6 +1,6 @@
 -- Steps and expressions: what a text is read as, it spells.
-use Rattle.std.proofs.Common.{◌≡◌, ◌∙◌, ℕ, Bool, true, false, cond, eqb, ◌&&◌, List, [], ◌∷◌, ◌++◌, replicate, Option, Some, None, IfSome, bytes_eq, codes, refl, sym, ap, subst, append_assoc}
-use Rattle.std.specs.List.{list_all, join_with_byte}
+use Rattle.std.proofs.Common.{◌≡◌, ◌∙◌, ℕ, Bool, true, false, cond, eqb, ◌&&◌, List, [], ◌∷◌, ◌++◌, replicate, Option, Some, None, IfSome, bytes_eq, refl, sym, ap, subst, append_assoc}
+use Rattle.std.specs.List.{join_with_byte}
 use Rattle.std.proofs.lemmas.Bool.{eqb-true, and_parts, cond_both}
 use Rattle.std.proofs.lemmas.Slice.Eq.{bytes_eq-Decides}
 use Rattle.yaml_read.specs.Bytes.{space, skip_spaces}

@@ -1,5 +1,5 @@
 -- References and operands are read as what their texts spell.
-use Rattle.std.proofs.Common.{◌≡◌, ◌≢◌, ◌∙◌, ℕ, Bool, true, false, not, ◌&&◌, ◌||◌, cond, eqb, ◌==◌, List, [], ◌∷◌, ◌++◌, Option, Some, None, option_map, option_and_then, bytes_eq, codes, refl, sym, ap, subst, inl, inr}
+use Rattle.std.proofs.Common.{◌≡◌, ◌≢◌, ◌∙◌, ℕ, Bool, true, false, not, ◌||◌, cond, eqb, ◌==◌, List, [], ◌∷◌, ◌++◌, Some, None, option_map, option_and_then, bytes_eq, codes, refl, sym, ap, subst, inl, inr}
 use Rattle.std.specs.List.{list_all, list_any}
 use Rattle.std.specs.Char.{is_digit}
 use Rattle.std.specs.Str.Parse.{signed_digits_value}
@@ -9,7 +9,7 @@ use Rattle.yaml_read.specs.Bytes.{quote, dash, is_empty, is_same}
 use Rattle.yaml_read.specs.Plain.{is_digits, is_whole, is_integer}
 use Rattle.policy_model.specs.Keys.{Text, is_key, dotted, capture_word}
 use Rattle.policy_model.specs.Grammar.{IsPath, SpellsReference, SpellsOperand, bar}
-use Rattle.policy_model.specs.Reading.{path_of, referring, reference_of, ends_here, up_to_quote, operand_of, is_path_byte}
+use Rattle.policy_model.specs.Reading.{referring, reference_of, ends_here, up_to_quote, operand_of, is_path_byte}
 use Rattle.policy_model.specs.declared.expression.Constant.TheVariants as constant
 use Rattle.policy_model.specs.declared.expression.Reference.{Reference}
 use Rattle.policy_model.specs.declared.expression.Operand.{Operand}
