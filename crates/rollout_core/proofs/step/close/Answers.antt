@@ -1,7 +1,6 @@
-use Rattle.std.proofs.Common.{length, ◌∙◌, ℕ, [], ◌∷◌, ap, sym, subst, refl}
+use Rattle.std.proofs.Common.{length, ℕ, [], ◌∷◌, ap, sym, subst, refl}
 use Rattle.std.proofs.lemmas.Option.{slice_get_read}
 use Rattle.rollout_model.specs.declared.node.Event.{Event}
-use Rattle.rollout_core.specs.Answers.{closing}
 use Rattle.rollout_core.specs.Calls.{Commits}
 use Rattle.rollout_core.proofs.step.close.Goals as goal
 
@@ -17,6 +16,7 @@ returns g c = λ a is.
         called = subst (λ (n : ℕ). Commits g.H.Host.tells g.H.Host.honest (g.H.Host.told c.index_mut-host.result.now) (g.H.Host.told c.commit-answer.new.host) n c.commit-answer.result) (sym is)
             (record {
               answers = done.answer;
+              unbegun = done.unbegun;
               exit = done.exit;
               reads = done.reads;
               kept = done.kept;
