@@ -109,6 +109,7 @@ fn carry_out<H: Host>(
     requires document { is_document doc.now ≡ true }
     ensures did { Did H.Host (change doc.now timeout now) (next core.old) hosts.old.items hosts.new.items (events_of result) }
     ensures core { core.new ≡ run core.old (events_of result) }
+    ensures first { result.first ≡ None → result.second ≡ None }
 {
     match core.next() {
         Action::Start(i) => {
@@ -150,6 +151,8 @@ pub fn rollout_step<H: Host>(
     // What was done, with what answer, and what was told of it: on every host.
     ensures did { Did H.Host (change doc.now timeout now) (next core.old) hosts.old.items hosts.new.items (events_of result) }
     ensures core { core.new ≡ run core.old (events_of result) }
+    // An event that comes alone is the first.
+    ensures first { result.first ≡ None → result.second ≡ None }
     // The events carry out what was next, and each was accepted.
     ensures carries { Carries (next core.old) (events_of result) }
     ensures accepted { AllAccepted core.old (events_of result) }
