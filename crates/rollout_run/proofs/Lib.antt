@@ -1,3 +1,4 @@
 mod Prints
 mod Going
+mod Few
 mod Rolling

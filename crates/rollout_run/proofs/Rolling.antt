@@ -18,7 +18,7 @@ use Rattle.rollout_model.specs.declared.node.Event.{Event}
 use Rattle.rollout_model.specs.declared.node.Event.TheVariants as ev
 use Rattle.rollout_model.specs.declared.node.Action.{Action}
 use Rattle.rollout_model.specs.declared.node.Action.TheVariants.{Start, Probe, Commit, Rollback, Finish}
-use Rattle.rollout_model.proofs.lemmas.Together.{joined, run_together, accepted_together}
+use Rattle.rollout_model.proofs.lemmas.Together.{run_together, accepted_together}
 use Rattle.rollout_core.specs.Calm.{first_halting}
 use Rattle.rollout_core.specs.Holding.{Holds, AllClean}
 use Rattle.rollout_core.specs.Holdings.{Begins, GoesOn, KeepsPromises, CommitsAll}
@@ -29,6 +29,7 @@ use Rattle.rollout_run.specs.Texts.{event_lines, summary_line}
 use Rattle.rollout_run.specs.Whole.{Stands, Between, Rolled}
 use Rattle.rollout_run.specs.declared.printing.Printed.{Printed}
 use Rattle.rollout_run.specs.declared.roll.Ended.{Ended}
+use Rattle.rollout_run.proofs.Few.{joined_all, few_told}
 use Rattle.rollout_run.proofs.Going.{goes_push, goes_cut, holds_along, gave_push, moments_push, rolls_push, each_push, all_push}
 use Rattle.rollout_run.proofs.Prints.{prints_nothing, prints_lines, prints_more}
 
@@ -112,10 +113,6 @@ module _ {H C W : Type 0} (G : HostGhosts H) (K : ClockGhosts C) (S : SinkGhosts
 
   -- ---- all of them
 
-  joined_all : (steps : List Stepped) → joined (told_each steps) ≡ told_all steps
-  joined_all [] = refl
-  joined_all (s ∷ steps) = ap (λ (l : List Event). s.events ++ l) (joined_all steps)
-
   all_accepted : (steps : List Stepped) (last : Rollout) → Rolls (begun (length hosts) limit) (told_each steps) last → AllAccepted (begun (length hosts) limit) (told_all steps)
   all_accepted steps last rolls = subst (λ (l : List Event). accepted (begun (length hosts) limit) l ≡ l) (joined_all steps) (accepted_together (told_each steps) (begun (length hosts) limit) last rolls)
 
@@ -164,6 +161,7 @@ module _ {H C W : Type 0} (G : HostGhosts H) (K : ClockGhosts C) (S : SinkGhosts
           goes = goes;
           rolls = rolls;
           accepted = all_accepted so_far.steps last rolls;
+          few = λ i. few_told so_far.steps (begun (length hosts) limit) last rolls i;
           finished = finished;
           gave = gave_push K (moments_of so_far.steps) finishes.now clock clock_mid clock_after so_far.gave finishes.gave;
           prints = prints_more S.tells printed stopped.printed ended_after.printed (event_lines (told_all so_far.steps)) (summary_line last) (S.told out) (S.told out_then) (S.told out_after) lines prints;

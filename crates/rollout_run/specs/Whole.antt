@@ -7,7 +7,7 @@ use Rattle.host_core.specs.declared.Sink.{Ghosts as SinkGhosts}
 use Rattle.rollout_model.specs.Rollout.{Rollout, begun}
 use Rattle.rollout_model.specs.Rolls.{Rolls, IsFinished}
 use Rattle.rollout_model.specs.Safe.{IsAt}
-use Rattle.rollout_model.specs.Steps.{AllAccepted}
+use Rattle.rollout_model.specs.Steps.{AllAccepted, of_node}
 use Rattle.rollout_model.specs.declared.node.NodeState.{NodeState}
 use Rattle.rollout_core.specs.Calm.{Calm, Completes, first_halting}
 use Rattle.rollout_core.specs.Holding.{Holds, AllClean}
@@ -50,6 +50,8 @@ pub record Rolled {H C W : Type 0} (G : HostGhosts H) (K : ClockGhosts C) (S : S
   -- the events are a run of the table and of what is next, up to the finish, and each was accepted
   pub rolls : Rolls (begun (length hosts) limit) (told_each steps) last
   pub accepted : AllAccepted (begun (length hosts) limit) (told_all steps)
+  -- and of no node there are more than four
+  pub few : (i : ℕ) → length (of_node i (told_all steps)) ≤ 4
   pub finished : IsFinished last
   -- the k-th step has the k-th moment of the clock
   pub gave : Gave K clock (moments_of steps ++ at_end ∷ []) clock_after
