@@ -10,6 +10,7 @@ use Rattle.host_core.specs.declared.Clock.{Ghosts as ClockGhosts}
 use Rattle.host_core.specs.declared.Sink.{Ghosts as SinkGhosts}
 use Rattle.rollout_model.specs.Rollout.{Rollout, begun}
 use Rattle.rollout_model.specs.Laws.{IsSafe}
+use Rattle.rollout_model.specs.Going.{Ends}
 use Rattle.rollout_model.specs.Rolls.{Rolls, Carries, IsFinished}
 use Rattle.rollout_model.specs.Safe.{is_halting}
 use Rattle.rollout_model.specs.Steps.{run, accepted, AllAccepted}
@@ -140,11 +141,11 @@ module _ {H C W : Type 0} (G : HostGhosts H) (K : ClockGhosts C) (S : SinkGhosts
         record { core = cut.core; mid = cut.mid; before = cut.before; behind = cut.behind; stands = stands_then trust clean front cut.core cut.mid cut.before }
 
     -- nothing was left to be done, and the line at the end was printed
-    pub rolled : IsSafe → (mid ends : List H) (clock_mid clock_after : C) (out_mid out_then out_after : W) (core last : Rollout) (ended stopped ended_after : Ended)
+    pub rolled : IsSafe → Ends → (mid ends : List H) (clock_mid clock_after : C) (out_mid out_then out_after : W) (core last : Rollout) (ended stopped ended_after : Ended)
         → SoFar mid clock_mid out_mid core ended → Finishes K core last mid ends clock_mid clock_after ended stopped out_mid out_then
         → Prints S.tells stopped.printed (summary_line last) (S.told out_then) (S.told out_after) ended_after.printed → ended_after.halted_by ≡ stopped.halted_by
         → Rolled G K S doc timeout limit hosts ends clock clock_after printed out out_after last ended_after
-    rolled safe mid ends clock_mid clock_after out_mid out_then out_after core last ended stopped ended_after so_far finishes prints same =
+    rolled safe at_finish mid ends clock_mid clock_after out_mid out_then out_after core last ended stopped ended_after so_far finishes prints same =
         let goes : Goes G doc timeout (begun (length hosts) limit) hosts so_far.steps last ends =
         subst (λ (q : Rollout). Goes G doc timeout (begun (length hosts) limit) hosts so_far.steps q ends) (sym finishes.core_is)
         (subst (λ (h : List H). Goes G doc timeout (begun (length hosts) limit) hosts so_far.steps core h) (sym finishes.hosts_are) so_far.goes) in
@@ -163,6 +164,7 @@ module _ {H C W : Type 0} (G : HostGhosts H) (K : ClockGhosts C) (S : SinkGhosts
           accepted = all_accepted so_far.steps last rolls;
           few = λ i. few_told so_far.steps (begun (length hosts) limit) last rolls i;
           finished = finished;
+          is_end = λ some. at_finish (length hosts) limit (told_each so_far.steps) last some rolls finished;
           gave = gave_push K (moments_of so_far.steps) finishes.now clock clock_mid clock_after so_far.gave finishes.gave;
           prints = prints_more S.tells printed stopped.printed ended_after.printed (event_lines (told_all so_far.steps)) (summary_line last) (S.told out) (S.told out_then) (S.told out_after) lines prints;
           halted_by = halted_by;

@@ -5,7 +5,7 @@ use Rattle.host_core.specs.declared.Host.{Ghosts as HostGhosts}
 use Rattle.host_core.specs.declared.Clock.{Ghosts as ClockGhosts}
 use Rattle.host_core.specs.declared.Sink.{Ghosts as SinkGhosts}
 use Rattle.rollout_model.specs.Rollout.{Rollout, begun}
-use Rattle.rollout_model.specs.Rolls.{Rolls, IsFinished}
+use Rattle.rollout_model.specs.Rolls.{Rolls, IsFinished, IsEnd}
 use Rattle.rollout_model.specs.Safe.{IsAt}
 use Rattle.rollout_model.specs.Steps.{AllAccepted, of_node}
 use Rattle.rollout_model.specs.declared.node.NodeState.{NodeState}
@@ -53,6 +53,8 @@ pub record Rolled {H C W : Type 0} (G : HostGhosts H) (K : ClockGhosts C) (S : S
   -- and of no node there are more than four
   pub few : (i : ℕ) → length (of_node i (told_all steps)) ≤ 4
   pub finished : IsFinished last
+  -- at the end no node is on the way, and where nothing halted it each is committed: on every host
+  pub is_end : 1 ≤ limit → IsEnd last
   -- the k-th step has the k-th moment of the clock
   pub gave : Gave K clock (moments_of steps ++ at_end ∷ []) clock_after
   -- the lines of the events and the one at the end are printed, or a beginning of them where the sink failed

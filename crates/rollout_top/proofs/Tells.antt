@@ -1,5 +1,5 @@
 -- What was printed, and what it says of the report.
-use Rattle.std.proofs.Common.{◌≡◌, ◌⊎◌, inl, inr, ◌∙◌, ℕ, List, refl, ap, sym, subst}
+use Rattle.std.proofs.Common.{◌≡◌, ◌⊎◌, inl, inr, ◌∙◌, ℕ, List, refl, ap, sym, subst, arith}
 use Rattle.std.specs.Prelude.{⊤, Option, Some, None, Ok, Err}
 use Rattle.document_model.specs.declared.Doc.{Doc}
 use Rattle.host_core.specs.Faults.{Rose}
@@ -18,9 +18,11 @@ use Rattle.rollout_run.specs.Printing.{Prints}
 use Rattle.rollout_run.specs.declared.printing.Printed.{Printed}
 use Rattle.rollout_run.specs.declared.printing.Printed.TheVariants.{Whole, Cut}
 use Rattle.top_model.specs.Orders.{Text}
+use Rattle.top_model.specs.Texts.{status_of}
 use Rattle.top_model.specs.Told.{report_of}
 use Rattle.top_model.specs.declared.report.Report.{Report}
-use Rattle.top_model.specs.declared.report.Cause.TheVariants.{Done, OutOfMemory}
+use Rattle.top_model.specs.declared.report.Cause.{Cause}
+use Rattle.top_model.specs.declared.report.Cause.TheVariants.{Done, WriteFault, Halted, OutOfMemory}
 use Rattle.answer_text.specs.Writing.{Writes}
 use Rattle.order_reading.specs.Reading.{Reads, Took, itself}
 use Rattle.rollout_top.specs.Rollouts.{World, AllCommitted, halted_cause, cause_printed, document_named, RollsDocument, Refuses, RollsOut}
@@ -56,6 +58,28 @@ done_by steps last halted_by printed report is reported whole completes =
       | inl all ↦ inl (told ∙ ap (λ (e : Option Event). report_of (halted_cause e)) (is ∙ all.0), all.1)
       | inr starved ↦ inr (told ∙ ap (λ (e : Option Event). report_of (halted_cause e)) (is ∙ starved.1))
     ]
+
+-- nothing halted a rollout whose status is 0
+none_by : (h : Option Event) → status_of (halted_cause h) ≡ 0 → h ≡ None
+none_by None is = refl
+none_by (Some (Starved i)) is = let no : 8 ≡ 0 = is in absurd (omega (arith, no))
+none_by (Some event) is = let no : 14 ≡ 0 = is in absurd (omega (arith, no))
+
+no_fault : (h : Option Event) (status : ℕ) → halted_cause h ≡ WriteFault status → ⊥
+no_fault None status is = let no : Done ≡ WriteFault status = is in cc
+no_fault (Some (Starved i)) status is = let no : OutOfMemory ≡ WriteFault status = is in cc
+no_fault (Some event) status is = let no : Halted event ≡ WriteFault status = is in cc
+
+-- nor one that is told as done, or as done but for what wasn't written
+pub none_told : (h : Option Event) (printed : Printed) (cause : Cause) → cause ≡ cause_printed printed (halted_cause h) → (cause ≡ Done) ⊎ (cause ≡ WriteFault 0) → h ≡ None
+none_told h Whole cause is told = elim told [
+  | inl done ↦ none_by h (ap status_of (sym is ∙ done))
+  | inr fault ↦ absurd (no_fault h 0 (sym is ∙ fault))
+]
+none_told h Cut cause is told = elim told [
+  | inl done ↦ let no : WriteFault (status_of (halted_cause h)) ≡ Done = sym is ∙ done in absurd (cc)
+  | inr fault ↦ let e : WriteFault (status_of (halted_cause h)) ≡ WriteFault 0 = sym is ∙ fault in none_by h (cc)
+]
 
 -- what is answered of a document that was read
 pub answered : {H S W C : Type 0} (G : HostGhosts H) (F : SourceGhosts S) (K : ClockGhosts C) (P : SinkGhosts W) (limit : ℕ) (file : Text) (old new : World H S W C) (report : Report) (doc : Doc)

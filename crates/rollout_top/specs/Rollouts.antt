@@ -99,6 +99,8 @@ pub record RolledOut {H W C : Type 0} (G : HostGhosts H) (K : ClockGhosts C) (P 
   pub line : Prints P.tells ended.printed (error_line (halted_cause ended.halted_by)) (P.told err_between) (P.told err_after) printed
   -- done, halted by its first event, or out of memory; or a write that failed, with the status of that
   pub reported : report ≡ report_of (cause_printed printed (halted_cause ended.halted_by))
+  -- on every host: done is told only where each node is committed, also where that answer wasn't written whole
+  pub acknowledged : (report.cause ≡ Done) ⊎ (report.cause ≡ WriteFault 0) → AllCommitted last
   -- where the hosts are honest, were sound and had no checkpoint, where nothing fails, the document fits each node and the clock
   -- goes on: done with each node committed, or out of memory
   pub done : G.honest → AllClean G nodes → Calm G doc ROLLOUT_TIMEOUT nodes rolled.steps ends

@@ -15,6 +15,6 @@ steps-smaller g c = (c.if-not-advance.ensures).less
 
 pub returns : goal.returns
 returns g c = rolled g.H.Host g.C.Clock g.W.Sink c.args.doc.now c.args.timeout c.args.core.now.limit c.args.hosts.now.items c.args.clock.now c.args.printed c.args.out.now
-    c.holding_laws.ensures.begins c.holding_laws.ensures.goes_on c.holding_laws.ensures.promises c.holding_laws.ensures.commits_all c.rollout_laws.ensures.safe
+    c.holding_laws.ensures.begins c.holding_laws.ensures.goes_on c.holding_laws.ensures.promises c.holding_laws.ensures.commits_all c.rollout_laws.ensures.safe c.rollout_laws.ensures.ends
     c.steps.hosts.items c.advance.new.hosts.items c.steps.clock c.advance.new.clock c.steps.out c.advance.new.out c.print_summary-ended.new.out c.steps.core c.advance.new.core c.steps.ended c.advance.new.ended _
     c.steps.invariant c.if-not-advance.ensures c.print_summary-ended.ensures refl

@@ -1,13 +1,15 @@
 use Rattle.std.proofs.Common.{◌≡◌, ◌∙◌, ap, subst}
+use Rattle.std.specs.Prelude.{is_some}
 use Rattle.rollout_run.specs.Printing.{Prints}
 use Rattle.rollout_run.specs.Whole.{text_of}
 use Rattle.rollout_run.specs.declared.printing.Printed.TheVariants.{Whole}
 use Rattle.top_model.specs.Orders.{Text}
 use Rattle.top_model.specs.Texts.{error_line, note_lines}
 use Rattle.top_model.specs.Told.{report_of}
+use Rattle.top_model.specs.declared.report.Report.{Report}
 use Rattle.top_model.specs.declared.report.Cause.{Cause}
 use Rattle.rollout_top.specs.Rollouts.{halted_cause, cause_printed}
-use Rattle.rollout_top.proofs.Tells.{all_printed, done_by}
+use Rattle.rollout_top.proofs.Tells.{all_printed, done_by, none_told}
 use Rattle.rollout_top.proofs.run.carry_out.Goals as goal
 
 pub returns : goal.returns
@@ -36,6 +38,8 @@ returns g c =
       printed = printed;
       line = line;
       reported = reported;
+      acknowledged = λ told.
+          (rolled.is_end c.requires.held).all (rolled.halted ∙ ap is_some (none_told ended.halted_by printed c.report.result.cause (ap (λ (r : Report). r.cause) reported) told));
       done = λ trust clean calm quiet_out quiet_err.
           done_by rolled.steps c.roll_out-ended.new.core ended.halted_by printed c.report.result rolled.halted_by reported
           (all_printed tells noted ended.printed printed (note_lines doc.notes) (text_of rolled.steps c.roll_out-ended.new.core) (error_line (halted_cause ended.halted_by))
