@@ -28,7 +28,6 @@ use Rattle.top_model.specs.declared.report.Cause.TheVariants.{Done, WriteFault, 
 use Rattle.answer_text.specs.Speaking.{Spoken}
 use Rattle.order_reading.specs.Reading.{Reads, GoesOn, Took, Takes, itself}
 use Rattle.rollout_top.specs.declared.prepare.Prepared.{Prepared}
-use Rattle.rollout_top.specs.declared.run.TheConstants.{ROLLOUT_TIMEOUT}
 
 -- ---- what is asked
 
@@ -79,6 +78,10 @@ pub record World (H S W C : Type 0) : Type 0 where
 abbrev pub world : {H S W C : Type 0} → List H → S → W → W → C → World H S W C
 world nodes source out err clock = record { nodes = nodes; source = source; out = out; err = err; clock = clock }
 
+-- how long the change of a node waits for its commit, in seconds
+abbrev pub waiting_time : ℕ
+waiting_time = 60
+
 -- each node is committed
 abbrev pub AllCommitted : Rollout → Type 0
 AllCommitted r = (i : ℕ) (state : NodeState) → IsAt r i state → state ≡ Committed
@@ -93,7 +96,7 @@ pub record RolledOut {H W C : Type 0} (G : HostGhosts H) (K : ClockGhosts C) (P 
   pub last : Rollout
   pub ended : Ended
   -- then the rollout, with a line for each event and one at the end
-  pub rolled : Rolled G K P doc ROLLOUT_TIMEOUT limit nodes ends clock clock_after noted out out_after last ended
+  pub rolled : Rolled G K P doc waiting_time limit nodes ends clock clock_after noted out out_after last ended
   pub printed : Printed
   -- then the line of the answer: that memory ran out, where it did
   pub line : Prints P.tells ended.printed (error_line (halted_cause ended.halted_by)) (P.told err_between) (P.told err_after) printed
@@ -103,7 +106,7 @@ pub record RolledOut {H W C : Type 0} (G : HostGhosts H) (K : ClockGhosts C) (P 
   pub acknowledged : (report.cause ≡ Done) ⊎ (report.cause ≡ WriteFault 0) → AllCommitted last
   -- where the hosts are honest, were sound and had no checkpoint, where nothing fails, the document fits each node and the clock
   -- goes on: done with each node committed, or out of memory
-  pub done : G.honest → AllClean G nodes → Calm G doc ROLLOUT_TIMEOUT nodes rolled.steps ends
+  pub done : G.honest → AllClean G nodes → Calm G doc waiting_time nodes rolled.steps ends
       → (Rose (P.told out).faults (P.told out_after).faults → ⊥) → (Rose (P.told err).faults (P.told err_after).faults → ⊥)
       → ((report ≡ report_of Done) × AllCommitted last) ⊎ (report ≡ report_of OutOfMemory)
 
