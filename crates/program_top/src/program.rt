@@ -2,6 +2,7 @@
 ghost use Rattle.std.specs.Prelude.{◌≡◌, map, string_bytes};
 ghost use Rattle.program_top.specs.Programs.{world, begins_with, Answers, Programmed};
 
+use crate::limits::limit_laws;
 use answer_text::tell_refused;
 use base_model::OutOfMemory;
 use command_words::{Command, command_of};
@@ -68,6 +69,7 @@ pub fn run_program<H: Host, S: Source, F: Folder, W: Sink, C: Clock>(
         (world host.old nodes.old.items src.old folder.old out.old err.old clock.old)
         (world host.new nodes.new.items src.new folder.new out.new err.new clock.new) result }
 {
+    limit_laws();
     let words_given = words.as_slice();
     if begins_with("service", words_given) || begins_with("rollout", words_given) {
         return run_folders(alloc, words, host, nodes, src, folder, out, err, clock);
