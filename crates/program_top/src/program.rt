@@ -9,7 +9,7 @@ use command_words::{Command, command_of};
 use host_core::{Clock, Folder, Host, Sink, Source};
 use nmstate_top::run_command;
 use rollout_top::run_rollout;
-use service_run::serve_all;
+use service_run::{serve_all, service_laws};
 use std::alloc::Global;
 use top_model::{Cause, Report};
 
@@ -39,7 +39,10 @@ fn run_folders<H: Host, S: Source, F: Folder, W: Sink, C: Clock>(
         (world host.new nodes.new.items src.new folder.new out.new err.new clock.new) result }
 {
     match command_of(alloc, words.as_slice()) {
-        Ok(Some(Command::Service { .. })) => serve_all(alloc, host, folder, out, err, clock),
+        Ok(Some(Command::Service { .. })) => {
+            service_laws::<H, F, S, W, C>();
+            serve_all(alloc, host, folder, out, err, clock)
+        }
         Ok(Some(Command::Rollout { limit, file, dirs })) => {
             if nodes.len() != dirs.items().len() {
                 return tell_refused(b"", Cause::Usage, out, err);

@@ -20,6 +20,7 @@ use Rattle.top_model.specs.Texts.{status_of}
 use Rattle.top_model.specs.declared.report.Report.{Report}
 use Rattle.top_model.specs.declared.report.Cause.{Cause}
 use Rattle.top_model.specs.declared.report.Cause.TheVariants.{Done, NoSuchName, FolderFault, WriteFault, OutOfMemory}
+use Rattle.engine_model.specs.Sound.{Sound}
 use Rattle.engine_model.specs.declared.answers.ApplyFault.{ApplyFault}
 use Rattle.service_run.specs.Documents.{taking, why, applied_line, applied_lines, serve_cause}
 use Rattle.service_run.specs.Reading.{GoesOn, DocumentOutcome, IsReadAs}
@@ -187,6 +188,7 @@ module _ {X Y Z V : Type 0} (H : HostGhosts X) (F : FolderGhosts Y) (W : SinkGho
     pub during : (s : State) → (H.told new.host).stops.left_since (H.told start.host).stops.moment s → (rest : List File) × SettlesAt taking first all rest s
     pub exit : (s : State) (files : Files) → (H.told new.host).stops.may_leave s → (F.told new.folder).stops.may_leave files → SettlesAt taking first all (pending files) s
     pub inside : (s : State) (files : Files) → leaves s files → SettlesAt taking first all (pending files) s
+    pub sound : Sound (H.told new.host)
 
   -- what it came to is what stands
   pub came_stands : (start : World') (first : NetData) (all : List File) (new : World') (leaves : State → Files → Type 0) → Came first all (H.told start.host) (H.told new.host) (F.told new.folder) → ((s : State) (files : Files) → leaves s files → ⊥)
@@ -195,6 +197,7 @@ module _ {X Y Z V : Type 0} (H : HostGhosts X) (F : FolderGhosts Y) (W : SinkGho
     during = came.during;
     exit = λ s files left after. record { net = came.net; settles = came.at.left s left; stage = subst (λ (fs : Files). IsStage taking first all came.net (pending fs)) (sym (came.files files after)) came.stage };
     inside = λ s files leaves. absurd (none s files leaves);
+    sound = came.at.sound;
   }
 
   -- nothing was done on the host
@@ -216,6 +219,7 @@ module _ {X Y Z V : Type 0} (H : HostGhosts X) (F : FolderGhosts Y) (W : SinkGho
         during = during_on first all (H.told start.host) (H.told old.host) (H.told new.host) (F.told served.read) (F.told new.folder) head.heads.file head.heads.rest head.heads.is here (Err fault) adv;
         exit = adv.exit;
         inside = inside H F W C lawful_host lawful_folder name now old new (Err fault) served honest t names head first all (H.told start.host) here;
+        sound = (served.serves.applies.kept honest here.at.sound).sound;
       }
 
   -- ---- where no count rose

@@ -7,3 +7,4 @@ mod Steps
 mod Refusals
 mod Ends
 mod Wholes
+mod Restarts

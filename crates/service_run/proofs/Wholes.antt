@@ -226,6 +226,7 @@ module _ {X Y Z V : Type 0} (H : HostGhosts X) (F : FolderGhosts Y) (W : SinkGho
             during = s.during;
             exit = s.exit;
             inside = λ p files leaves. elim leaves [ inl went ↦ by.inside p files went | inr stop ↦ s.inside p files stop ];
+            sound = s.sound;
           }
 
       listed_folds : (first : NetData) (all : List File) → Enters (service_of H F W C old new report (inr l)) first all → (report.cause ≡ Done) ⊎ (report.cause ≡ WriteFault 0)
@@ -290,7 +291,7 @@ module _ {X Y Z V : Type 0} (H : HostGhosts X) (F : FolderGhosts Y) (W : SinkGho
       pub unlisted_promises : Promises (service_of H F W C old new report (inl u))
       unlisted_promises = record {
         staged = λ first all e.
-            let s = came_stands H F W C lawful_host lawful_folder old first all new (λ p files. ⊥) (unlisted_came first all e) (λ p files leaves. leaves) in record { during = s.during; exit = s.exit; inside = s.inside };
+            let s = came_stands H F W C lawful_host lawful_folder old first all new (λ p files. ⊥) (unlisted_came first all e) (λ p files leaves. leaves) in record { during = s.during; exit = s.exit; inside = s.inside; sound = s.sound };
         folds = λ first all e ack. absurd (done_told u.cause new.is_open report stop u.told ack);
         complete = unlisted_quiet;
         finds = λ t is.

@@ -4,3 +4,4 @@ pub mod Telling
 pub mod Steps
 pub mod Course
 pub mod Services
+pub mod Restarts

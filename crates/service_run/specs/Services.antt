@@ -10,6 +10,7 @@ use Rattle.host_core.specs.declared.Host.{Ghosts as HostGhosts}
 use Rattle.host_core.specs.declared.Folder.{Ghosts as FolderGhosts}
 use Rattle.host_core.specs.declared.Sink.{Ghosts as SinkGhosts}
 use Rattle.host_core.specs.declared.Clock.{Ghosts as ClockGhosts}
+use Rattle.engine_model.specs.Sound.{Sound}
 use Rattle.boot_service.specs.Fold.{folded, IsStage}
 use Rattle.boot_service.specs.Stops.{pending, IsAt, SettlesAt, LeavesInside}
 use Rattle.boot_service.specs.declared.fault.ServeFault.{ServeFault}
@@ -62,7 +63,7 @@ pub record Undisturbed (r : Service) : Type 0 where
 -- ---- on an honest host that is sound
 
 -- From a first network, with all documents, services came to what stands at the entry: at the first service itself, or after any
--- number of services that were stopped or failed, each with a recovery without fault behind it. No mark is in doubt.
+-- number of services that were stopped or ended, behind each of which a recovery was done (Restarts). No mark is in doubt.
 pub record Enters (r : Service) (first : NetData) (all : List File) : Type 0 where
   pub honest : r.honest
   pub tells : r.folder_tells
@@ -79,6 +80,8 @@ pub record Stays (r : Service) (first : NetData) (all : List File) : Type 0 wher
   pub exit : (s : State) (files : Files) → r.host_after.stops.may_leave s → r.folder_after.stops.may_leave files → SettlesAt taking first all (pending files) s
   -- and so it is inside the serving of each document
   pub inside : (s : State) (files : Files) → r.leaves_inside s files → SettlesAt taking first all (pending files) s
+  -- at the exit the host is sound
+  pub sound : Sound r.host_after
 
 -- what the documents are that are left settles to the stage that they are at
 abbrev pub Staged : Service → Type 0

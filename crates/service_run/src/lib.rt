@@ -7,5 +7,8 @@ mod reading;
 mod telling;
 // The documents one after another.
 mod service;
+// What is known of services one after another.
+mod laws;
 
+pub use laws::service_laws;
 pub use service::serve_all;
