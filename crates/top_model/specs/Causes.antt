@@ -354,15 +354,15 @@ abbrev pub IsRecovered : Run → Said → Type 0
 IsRecovered r restored = HasTaken r.now (reads r).cell
 IsRecovered r said = expected r (Ok recovering) ≡ Ok said
 
--- what is done; a commit is the machine's, and so is a workload, on every host; an apply that verifies dumped the merge of the network
--- that was saved
+-- what is done; a commit is the machine's, with what it leaves, and so is a workload, on every host; an apply that verifies dumped the
+-- merge of the network that was saved
 abbrev pub IsDoneAs : Run → Order → Said → Type 0
 IsDoneAs r (showing only json) said = Prints r only json said
 IsDoneAs r (planning doc in_batch) said = Plans r doc in_batch said
 IsDoneAs r (evaluating p) said = Evaluates r p said
 IsDoneAs r (planning_policy p in_batch) said = PlansPolicy r p in_batch said
 IsDoneAs r (simulating calls) said = Simulates r calls said
-IsDoneAs r committing said = r.host_tells → expected r (Ok committing) ≡ Ok said
+IsDoneAs r committing said = r.host_tells → IsOutcome (machine_of r.now (Ok committing) (reads r)) r.host_after (Ok said)
 IsDoneAs r checking said = Checks r said × (r.honest → SaysSound r)
 IsDoneAs r (generating devices first second) said = expected r (Ok (generating devices first second)) ≡ Ok said
 IsDoneAs r rolling_back said = r.host_tells → HasSet (reads r).cell

@@ -112,9 +112,9 @@ module _ (r : Run) (devices : List Link) (first second : Doc) where
     expects want (Err cause) w = absurd w
 
     -- all that is said of a workload
-    pub generate_answered : ChangesNothing r.host_tells r.host r.host_after → (result : Result Summary Cause) → Works devices first second result
+    pub generate_answered : r.untouched → ChangesNothing r.host_tells r.host r.host_after → (result : Result Summary Cause) → Works devices first second result
         → Ran r Asks (answer_of devices first second result) → Answered r
-    generate_answered nothing result w ran =
+    generate_answered untouched nothing result w ran =
         let want : MayWant r = may_want_order r ran.inputs Asks ran.is (generating_committing devices first second) (generating_rolling_back devices first second) (generating_recovering devices first second) in
         record {
           order = Ok Asks;
@@ -132,6 +132,6 @@ module _ (r : Run) (devices : List Link) (first second : Doc) where
           reads_as = λ a. reads_before r nothing (ran.goes_on.tells a.honest);
           kept = λ a. kept_stays _ r.host r.host_after a.sound nothing.stops;
           spares = λ a. tt;
-          looks = tt;
+          looks = untouched;
           unbegun = tt;
         }

@@ -31,7 +31,7 @@ use Rattle.top_model.specs.Runs.{Run, entry, reads, left_at_exit}
 use Rattle.top_model.specs.Told.{Answer, Told}
 use Rattle.top_model.specs.Causes.{MayWant, MayAnswer, Comes, Expects}
 use Rattle.top_model.specs.Exits.{MakeLeaves, MakesKept, IsClear, MaybeMade as MaybeMade_at}
-use Rattle.top_model.specs.Answered.{Answered}
+use Rattle.top_model.specs.Answered.{Unchanged, Unbegun, Answered}
 use Rattle.top_model.specs.declared.report.Cause.{Cause}
 use Rattle.top_model.specs.declared.report.Cause.TheVariants.{Done, Exists, ReadFault, HostFault, OutOfMemory}
 use Rattle.top_model.proofs.lemmas.Wanting.{may_want_order}
@@ -256,6 +256,16 @@ module _ (r : Run) (links : List Link) where
   may (Err OutOfMemory) m = tt
   may (Err cause) m = absurd m.answer
 
+  unmoved : Unmoved r.host r.host_after → Unchanged r
+  unmoved same = record { state = λ t. same.state; stops = same.stops }
+
+  unbegun : (result : Result ℕ Cause) → Makes r.host_tells links r.host r.host_after result → Unbegun r (Ok (making links)) (answer_of links result)
+  unbegun (Ok count) m = λ t some. unmoved (m.stays t some)
+  unbegun (Err Exists) m = λ t some. unmoved (m.stays t some)
+  unbegun (Err (HostFault side.NotBegun)) m = λ t some. unmoved (m.stays t some)
+  unbegun (Err OutOfMemory) m = λ t. unmoved (m.answer t)
+  unbegun (Err cause) m = absurd m.answer
+
   -- all that is said of a making
   pub make_answered : (result : Result ℕ Cause) → Makes r.host_tells links r.host r.host_after result → Ran r (making links) (answer_of links result) → Answered r
   make_answered result m ran =
@@ -277,5 +287,5 @@ module _ (r : Run) (links : List Link) where
         kept = λ honest. kept r links (ran.goes_on.tells honest) result m;
         spares = λ honest. tt;
         looks = tt;
-        unbegun = tt;
+        unbegun = unbegun result m;
       }

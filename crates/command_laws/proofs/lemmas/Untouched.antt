@@ -360,23 +360,23 @@ exactly_unread r (Err refusal) rose = tt
 looks_still : (r : Run) → Unchanged (still r)
 looks_still r = record { state = λ t. refl; stops = stays r.host.stops }
 
-looks : (r : Run) (order : Result Order Cause) → LooksAlone (still r) order
-looks r (Ok (showing only json)) = looks_still r
-looks r (Ok (planning doc in_batch)) = looks_still r
-looks r (Ok (evaluating p)) = looks_still r
-looks r (Ok (planning_policy p in_batch)) = looks_still r
-looks r (Ok (simulating calls)) = looks_still r
-looks r (Ok (applying doc how)) = tt
-looks r (Ok (applying_policy p how)) = tt
-looks r (Ok committing) = tt
-looks r (Ok rolling_back) = tt
-looks r (Ok recovering) = tt
-looks r (Ok checking) = looks_still r
-looks r (Ok (making links)) = tt
-looks r (Ok (generating devices first second)) = tt
-looks r (Err refusal) = tt
+looks : (r : Run) → r.untouched → (order : Result Order Cause) → LooksAlone (still r) order
+looks r untouched (Ok (showing only json)) = looks_still r
+looks r untouched (Ok (planning doc in_batch)) = looks_still r
+looks r untouched (Ok (evaluating p)) = looks_still r
+looks r untouched (Ok (planning_policy p in_batch)) = looks_still r
+looks r untouched (Ok (simulating calls)) = looks_still r
+looks r untouched (Ok (applying doc how)) = tt
+looks r untouched (Ok (applying_policy p how)) = tt
+looks r untouched (Ok committing) = tt
+looks r untouched (Ok rolling_back) = tt
+looks r untouched (Ok recovering) = tt
+looks r untouched (Ok checking) = looks_still r
+looks r untouched (Ok (making links)) = tt
+looks r untouched (Ok (generating devices first second)) = untouched
+looks r untouched (Err refusal) = tt
 
--- these answers don't say that nothing was begun
+-- nothing is said but of a making, which leaves the host as it was
 unbegun_memory : (r : Run) (order : Result Order Cause) → Unbegun (still r) order (Err OutOfMemory)
 unbegun_memory r (Ok (showing only json)) = tt
 unbegun_memory r (Ok (planning doc in_batch)) = tt
@@ -389,7 +389,7 @@ unbegun_memory r (Ok committing) = tt
 unbegun_memory r (Ok rolling_back) = tt
 unbegun_memory r (Ok recovering) = tt
 unbegun_memory r (Ok checking) = tt
-unbegun_memory r (Ok (making links)) = tt
+unbegun_memory r (Ok (making links)) = λ t. looks_still r
 unbegun_memory r (Ok (generating devices first second)) = tt
 unbegun_memory r (Err refusal) = tt
 
@@ -405,7 +405,7 @@ unbegun_unread r (Ok committing) = tt
 unbegun_unread r (Ok rolling_back) = tt
 unbegun_unread r (Ok recovering) = tt
 unbegun_unread r (Ok checking) = tt
-unbegun_unread r (Ok (making links)) = tt
+unbegun_unread r (Ok (making links)) = λ t some. looks_still r
 unbegun_unread r (Ok (generating devices first second)) = tt
 unbegun_unread r (Err refusal) = tt
 
@@ -428,7 +428,7 @@ module _ (r : Run) (untouched : r.untouched) (goes_on : GoesOn (still r)) where
     reads_as = λ rests. exit_memory r.now (at (reads r)) (Only (standing r.host.state)) (λ s is. near_same (Before (at (reads r))) s is) (HostRose (still r)) (HostRoseTwice (still r)) order;
     kept = λ rests. kept r order OutOfMemory (rests_still r order rests);
     spares = λ rests. spares r order (Err OutOfMemory) goes_on.lawful goes_on.tells (rests_still r order rests);
-    looks = looks r order;
+    looks = looks r untouched order;
     unbegun = unbegun_memory r order;
   }
 
@@ -450,7 +450,7 @@ module _ (r : Run) (untouched : r.untouched) (goes_on : GoesOn (still r)) where
     reads_as = λ rests. exit_unread r.now (at (reads r)) (Only (standing r.host.state)) (λ s is. near_same (Before (at (reads r))) s is) (HostRose (still r)) (HostRoseTwice (still r)) order file;
     kept = λ rests. kept r order ReadFault (rests_still r order rests);
     spares = λ rests. spares r order (Err ReadFault) goes_on.lawful goes_on.tells (rests_still r order rests);
-    looks = looks r order;
+    looks = looks r untouched order;
     unbegun = unbegun_unread r order;
   }
 

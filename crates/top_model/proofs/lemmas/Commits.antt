@@ -52,7 +52,7 @@ module _ (r : Run) (is : command_of r.words ≡ Some Commit) (tells_if : r.hones
   may (Err InDoubt) = tt
 
   comes : (result : Result ⊤ CommitFault) → CommitAnswers r.host_tells r.now r.host r.host_after result → Comes r (Ok committing) (answer_of result)
-  comes (Ok x) a = λ t. ap answer_of (a t).answer
+  comes (Ok x) a = λ t. record { answer = ap answer_of (a t).answer; after = (a t).after }
   comes (Err NoCheckpoint) a = λ t. ap answer_of (a t).answer
   comes (Err (Unfinished since deadline)) a = λ t. ap answer_of (a t).answer
   comes (Err (Expired since deadline)) a = λ t. ap answer_of (a t).answer

@@ -120,7 +120,7 @@ waits_still : (r : Run) → Answered r → r.host_tells → Asks r (Ok committin
 waits_still r a tells asks done =
     let said = is_done r a.order a.answer a.comes (reported r a) done in
     let comes : Comes r (Ok committing) (Ok said.0) = subst (λ o. Comes r o (Ok said.0)) (order_is r a (Ok committing) asks) (subst (Comes r a.order) said.1 a.comes) in
-    waits_cell r.now (reads r) said.0 (reads r).cell refl (comes tells)
+    waits_cell r.now (reads r) said.0 (reads r).cell refl (comes tells).answer
 
 applying_waiting : Applying ≡ Waiting → ⊥
 applying_waiting e = cc

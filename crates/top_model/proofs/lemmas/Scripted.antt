@@ -36,7 +36,7 @@ keeps_memory r (Err refusal) may = may
 
 -- memory ran out before the words were known
 pub ran_out : (r : Run) (runs : List Timed → Type 0) → MayWant r → r.untouched → Told r (Err OutOfMemory) (Err OutOfMemory) → IsScript r runs
-ran_out r runs may untouched told script asks = inl (record { cause = OutOfMemory; keeps = keeps_memory r script may; untouched = untouched; told = told })
+ran_out r runs may untouched told script asks = inl (record { cause = OutOfMemory; keeps = keeps_memory r script may; untouched = untouched; takes = λ file is. tt; told = told })
 
 -- ---- the steps are run after the lines were read
 

@@ -25,5 +25,5 @@ returns-in-Err g c =
       answered = λ none. ran_out (of c.args.now) refl (record { host = omega arith; source = omega arith; out = t.out; err = t.err; inputs = λ told. refl; takes = nothing_taken (of c.args.now) refl (told_of _ OutOfMemory _ _ _ _ _ _ c.tell_refused.result t.told) _; lawful = g.met.H.Host.lawful c.args.host.now; tells = g.met.H.Host.honest_tells }) alone t.told;
       apart = λ none count seed is. (refl, refl);
       script = script_ran_out (of 0) _ (may_want_words (of 0) alone) refl (told_refused (of 0) (Err OutOfMemory) OutOfMemory [] (inl refl) t.told);
-      ran = λ file is. refused (of 0) _ file is refl OutOfMemory tt t.told;
+      ran = λ file is. refused (of 0) _ file is refl OutOfMemory tt tt t.told;
     }

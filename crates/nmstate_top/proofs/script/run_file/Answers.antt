@@ -23,4 +23,4 @@ returns-in-Err g c = λ words is.
     let r = run_of g.H.Host g.S.Source g.W.Sink words false 0 c.args.host.now c.args.host.now c.args.src.now c.read_script.new.src c.args.out.now c.tell_refused.new.out c.args.err.now c.tell_refused.new.err c.tell_refused.result in
     let first = world c.args.host.now c.args.src.now c.args.out.now c.args.err.now in
     let last = world c.args.host.now c.read_script.new.src c.tell_refused.new.out c.tell_refused.new.err in
-    refused r (RanFrom g.H.Host g.S.Source g.W.Sink (map string_bytes words) first last c.tell_refused.result) c.args.file.now is refl c.in-Err.refusal c.in-Err.ensures.steps c.tell_refused.ensures.told
+    refused r (RanFrom g.H.Host g.S.Source g.W.Sink (map string_bytes words) first last c.tell_refused.result) c.args.file.now is refl c.in-Err.refusal c.in-Err.ensures.steps c.in-Err.ensures.taken c.tell_refused.ensures.told
