@@ -191,7 +191,7 @@ module _ (r : Run) (p : PolicyData) (opts : ApplyOpts) (doc : Doc) (done : Recov
     },
   )
   comes (Err (HostFault side)) says exact never wanted = (says.0, says.1)
-  comes (Err (KernelRefused k n side)) says exact never wanted = (says.0, says.1)
+  comes (Err (KernelRefused k n side)) says exact never wanted = (says.0, says.1, says.3)
   comes (Err (NotVerified found side)) says exact never wanted = (says.0, says.1, says.2, λ t. let s = says.4 t in record { doc = doc; saved = s.saved; is_doc = is_document; is_saved = s.is_saved; other = s.other })
   comes (Err InDoubt) says exact never wanted = (says.0, says.1, λ t verifies. (doc, is_document, says.2 t verifies))
   comes (Err (Damaged area)) says exact never wanted = says

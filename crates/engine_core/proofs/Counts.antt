@@ -31,7 +31,7 @@ module _ (tells : Type 0) (doc : Doc) (start : Start) (old new : HostView) where
   taken_counts (missed.Refused k n) is quiet = (refused_before k n start.kernel old.kernel new.kernel is.0 quiet, λ back. once_before start.kernel old.kernel new.kernel is.1 quiet)
   taken_counts missed.Damaged is quiet = inl (quiet_on start.kernel old.kernel new.kernel is.0 quiet)
   taken_counts (missed.Differs found) is quiet = quiet_on start.kernel old.kernel new.kernel is.0 quiet
-  taken_counts missed.OutOfMemory is quiet = inl (quiet_on start.kernel old.kernel new.kernel is quiet)
+  taken_counts missed.OutOfMemory is quiet = inl (quiet_on start.kernel old.kernel new.kernel is.0 quiet)
 
   few_counts : NoneRefused start.kernel old.kernel → (fault : BackFault) → Fails tells old new fault → FewRefused start.kernel new.kernel
   few_counts quiet fault fails = few_after start.kernel old.kernel new.kernel quiet (fails_few tells old new fault fails)
@@ -52,7 +52,7 @@ module _ (tells : Type 0) (doc : Doc) (start : Start) (old new : HostView) where
   next_counts j m was once (ba.KernelRefused k n left) fails = (refused_both j m k n start.kernel old.kernel new.kernel was fails.1, λ is. let e : Pending ≡ RolledBack = is in absurd (cc))
   next_counts j m was once (ba.Damaged area) fails = inr (once_before start.kernel old.kernel new.kernel once (unbegun_quiet tells old new fails.0))
   next_counts j m was once (ba.HardwareDiffers names) fails = inr (once_before start.kernel old.kernel new.kernel once (unbegun_quiet tells old new fails.0))
-  next_counts j m was once ba.OutOfMemory fails = inr (once_before start.kernel old.kernel new.kernel once fails)
+  next_counts j m was once ba.OutOfMemory fails = inr (once_before start.kernel old.kernel new.kernel once fails.0)
 
   -- no network was there to be compared
   damaged_counts : NoneRefused start.kernel old.kernel → (fault : BackFault) → Fails tells old new fault → ApplyCounts start.kernel new.kernel (Err (damaged_as fault))
@@ -69,7 +69,7 @@ module _ (tells : Type 0) (doc : Doc) (start : Start) (old new : HostView) where
   stopped_counts (missed.Refused k n) fault is fails = next_counts k n is.0 is.1 fault fails
   stopped_counts missed.Damaged fault is fails = damaged_counts is.0 fault fails
   stopped_counts (missed.Differs found) fault is fails = first_counts is.0 fault fails
-  stopped_counts missed.OutOfMemory fault is fails = few_counts is fault fails
+  stopped_counts missed.OutOfMemory fault is fails = few_counts is.0 fault fails
 
 -- where the attempt succeeded
 pub finished_counts : (a b : Kernel) (result : Result Applied ApplyFault) → IfErr result (λ fault. fault ≡ ap_.InDoubt) → NoneRefused a b → ApplyCounts a b result
@@ -91,4 +91,4 @@ unsettled_counts tells old new (ba.HostFault Pending) fails = inl fails.1
 unsettled_counts tells old new (ba.KernelRefused k n left) fails = (fails.1, λ back. fails.2)
 unsettled_counts tells old new (ba.Damaged area) fails = inl (unbegun_quiet tells old new fails.0)
 unsettled_counts tells old new (ba.HardwareDiffers names) fails = inl (unbegun_quiet tells old new fails.0)
-unsettled_counts tells old new ba.OutOfMemory fails = inl fails
+unsettled_counts tells old new ba.OutOfMemory fails = inl fails.0

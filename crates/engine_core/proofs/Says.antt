@@ -8,7 +8,7 @@ use Rattle.host_core.specs.Faults.{Rose}
 use Rattle.host_core.specs.HostView.{State, HostView, NoneRefused}
 use Rattle.host_core.specs.Stops.{Steps, Stays, IsLawful}
 use Rattle.host_core.proofs.lemmas.Counts.{rose_after, rose_before}
-use Rattle.checkpoint_cell.specs.Cell.{Checkpoint, cell_of, saved_net}
+use Rattle.checkpoint_cell.specs.Cell.{Checkpoint, cell_of, saved_net, applying}
 use Rattle.checkpoint_cell.specs.Settled.{standing, taken_back}
 use Rattle.checkpoint_cell.specs.declared.Phase.{Phase}
 use Rattle.merge_model.specs.MergedNet.{merge}
@@ -16,7 +16,7 @@ use Rattle.engine_model.specs.Machine.{Asked, asked, apply, apply_step, apply_fa
 use Rattle.engine_model.specs.Stations.{Any, Waits}
 use Rattle.engine_model.specs.Refusals.{NoCallMade}
 use Rattle.engine_model.specs.Failing.{IsUnbegun, Fails}
-use Rattle.engine_model.specs.Faults.{IsDamaged, ApplySays, Verified, GaveSaved, GaveBack, StandsDamaged}
+use Rattle.engine_model.specs.Faults.{HasTaken, HasOpen, IsDamaged, ApplySays, Verified, GaveSaved, GaveBack, StandsDamaged, Starves}
 use Rattle.engine_model.specs.declared.answers.Left.{Left}
 use Rattle.engine_model.specs.declared.answers.Left.TheVariants.{NotBegun, RolledBack, Pending}
 use Rattle.engine_model.specs.declared.answers.Applied.{Applied}
@@ -27,10 +27,10 @@ use Rattle.engine_model.specs.declared.answers.ApplyFault.{ApplyFault}
 use Rattle.engine_model.specs.declared.answers.ApplyFault.TheVariants as ap_
 use Rattle.engine_model.proofs.lemmas.Backs.{recover_waits}
 use Rattle.engine_model.proofs.lemmas.Refusals.{quiet_on, settled_on}
-use Rattle.engine_model.proofs.lemmas.Failing.{fails_rose}
+use Rattle.engine_model.proofs.lemmas.Failing.{open_same, open_on, fails_rose, fails_quiet}
 use Rattle.engine_core.specs.declared.missed.Missed.{Missed}
 use Rattle.engine_core.specs.declared.missed.Missed.TheVariants as missed
-use Rattle.engine_core.specs.Saying.{Start, start_of, Follows, DamagedSince, IsSet, Why, SettledBy, Said, taken_back_as, pending_as, damaged_as, stopped_as, IsGivenUp}
+use Rattle.engine_core.specs.Saying.{Start, start_of, Follows, DamagedSince, IsOpen, Why, SettledBy, Said, taken_back_as, pending_as, damaged_as, stopped_as, IsGivenUp}
 
 abbrev merged_with : NetData → Result NetData Refused
 merged_with to = Ok to
@@ -52,10 +52,15 @@ since_keeps step t area old new le steps had = record { pair = had.pair; left = 
 
 -- ---- a checkpoint that stands
 
-pub set_as : (host : HostView) (checkpoint : Checkpoint) → cell_of host.state.cell ≡ Some checkpoint → IsSet host
-set_as host checkpoint is = subst (λ (k : Option Checkpoint). IsSome k) (sym is) refl
+-- that of a change which is being made
+pub open_as : (host : HostView) (made deadline : ℕ) (from : NetData) → cell_of host.state.cell ≡ Some (applying made deadline from) → IsOpen host
+open_as host made deadline from is = subst (λ (k : Option Checkpoint). HasOpen k) (sym is) (refl, refl)
 
-set_same : (old mid : HostView) → mid.state ≡ old.state → IsSet old → IsSet mid
+open_some : (cell : Option Checkpoint) → HasOpen cell → IsSome cell
+open_some None is = absurd is
+open_some (Some checkpoint) is = refl
+
+set_same : (old mid : HostView) → mid.state ≡ old.state → IsSome (cell_of old.state.cell) → IsSome (cell_of mid.state.cell)
 set_same old mid same set = subst (λ (s : State). IsSome (cell_of s.cell)) (sym same) set
 
 unless_none : (cell : Option Checkpoint) → (cell ≡ None → ⊥) → IsSome cell
@@ -68,7 +73,7 @@ never_none (Some checkpoint) some none = cc
 
 -- ---- why a change misses
 
-pub differs_why : (tells : Type 0) (doc : Doc) (start : Start) (from to found : NetData) (old mid : HostView) → Follows start old → merge from doc ≡ Ok to → (tells → saved_net old.state.cell ≡ Some from) → (tells → IsSet old)
+pub differs_why : (tells : Type 0) (doc : Doc) (start : Start) (from to found : NetData) (old mid : HostView) → Follows start old → merge from doc ≡ Ok to → (tells → saved_net old.state.cell ≡ Some from) → (tells → IsOpen old)
     → (tells → mid.state ≡ old.state) → NoneRefused old.kernel mid.kernel → (found ≡ to → ⊥) → Why tells doc start mid (missed.Differs found)
 differs_why tells doc start from to found old mid follows merges saved set same quiet differs = (
   quiet_on start.kernel old.kernel mid.kernel follows.quiet quiet,
@@ -78,12 +83,12 @@ differs_why tells doc start from to found old mid follows merges saved set same 
       is_saved = ap (λ (s : State). saved_net s.cell) (same told) ∙ saved told;
       other = λ is. let e : merged_with found ≡ merged_with to = sym is ∙ merges in differs (cc);
     },
-    set_same old mid (same told) (set told),
+    open_same old mid (same told) (set told),
   ),
 )
 
 -- no network was there to be compared
-pub damaged_why : (tells : Type 0) (doc : Doc) (start : Start) (old mid : HostView) → Follows start old → old.stops.moment ≤ mid.stops.moment → (tells → IsSet old) → (tells → mid.state ≡ old.state) → NoneRefused old.kernel mid.kernel
+pub damaged_why : (tells : Type 0) (doc : Doc) (start : Start) (old mid : HostView) → Follows start old → old.stops.moment ≤ mid.stops.moment → (tells → IsOpen old) → (tells → mid.state ≡ old.state) → NoneRefused old.kernel mid.kernel
     → IsLawful mid.stops → (tells → mid.stops.may_leave mid.state) → (tells → old.state.net ≡ None) → Why tells doc start mid missed.Damaged
 damaged_why tells doc start old mid follows later set same quiet lawful reads none = (
   quiet_on start.kernel old.kernel mid.kernel follows.quiet quiet,
@@ -91,14 +96,14 @@ damaged_why tells doc start old mid follows later set same quiet lawful reads no
       let bare : mid.state.net ≡ None = ap (λ (s : State). s.net) (same told) ∙ none told in (
         since start.moment 0 mid lawful (reads told) (omega (arith, follows.moment, later)) (inl (refl, bare)),
         bare,
-        set_same old mid (same told) (set told),
+        open_same old mid (same told) (set told),
       ),
 )
 
 -- ---- where the change is taken back
 
 -- what still stands is damaged, with the checkpoint by which to take it back
-still_damaged : (tells : Type 0) (area now : ℕ) (start : Start) (old new : HostView) → new.state ≡ old.state → IsSet old → IsDamaged area old.state → StandsDamaged tells area now start.state start.kernel new
+still_damaged : (tells : Type 0) (area now : ℕ) (start : Start) (old new : HostView) → new.state ≡ old.state → IsSome (cell_of old.state.cell) → IsDamaged area old.state → StandsDamaged tells area now start.state start.kernel new
 still_damaged tells area now start old new same set damaged = record {
   damaged = subst (λ (s : State). IsDamaged area s) (sym same) damaged;
   held = inr (set_same old new same set);
@@ -117,9 +122,9 @@ returned tells old new true gave empty idle told = inl (gave told refl)
 returned tells old new false gave empty idle told = inr (empty told refl, (idle refl).unmade)
 
 -- with a checkpoint, by calls
-gave_of : (tells : Type 0) (old new : HostView) → IsSet old → Returned old new → GaveSaved new
+gave_of : (tells : Type 0) (old new : HostView) → IsOpen old → Returned old new → GaveSaved new
 gave_of tells old new set (inl gave) = gave
-gave_of tells old new set (inr none) = absurd (never_none (cell_of old.state.cell) set none.0)
+gave_of tells old new set (inr none) = absurd (never_none (cell_of old.state.cell) (open_some (cell_of old.state.cell) set) none.0)
 
 back_of : (tells : Type 0) (now : ℕ) (start : Start) (old new : HostView) → (cell_of old.state.cell ≡ None → SettledBy tells now start old) → Returned old new → GaveBack tells now start.state start.kernel new
 back_of tells now start old new settled (inl gave) = inl gave
@@ -129,54 +134,85 @@ module _ (tells : Type 0) (doc : Doc) (opts : ApplyOpts) (made : ℕ) (start : S
   -- it was
   pub taken_says : (why : Missed) → Why tells doc start old why → ((found : NetData) → why ≡ missed.Differs found → opts.no_verify ≡ false) → old.faults ≤ new.faults → Steps Any old.stops new.stops
       → (tells → cell_of new.state.cell ≡ None) → (tells → saved_net new.state.cell ≡ saved_net old.state.cell) → (tells → Returned old new) → (tells → cell_of old.state.cell ≡ None → SettledBy tells made start old)
-      → Said tells (asked doc opts made) start new (Err (taken_back_as why))
-  taken_says missed.Failed is compared later steps none saved back settled = (rose_before start.faults old.faults new.faults is.1 later, none, λ same told. back_of tells made start old new (settled told) (back told))
-  taken_says (missed.Refused k n) is compared later steps none saved back settled = (none, λ same. cc, λ same told. gave_of tells old new (is.2 told) (back told))
-  taken_says missed.Damaged is compared later steps none saved back settled = λ told.
+      → NoneRefused old.kernel new.kernel → Said tells (asked doc opts made) start new (Err (taken_back_as why))
+  taken_says missed.Failed is compared later steps none saved back settled quiet = (rose_before start.faults old.faults new.faults is.1 later, none, λ same told. back_of tells made start old new (settled told) (back told))
+  taken_says (missed.Refused k n) is compared later steps none saved back settled quiet = (
+    none,
+    (λ same. cc),
+    (λ same told. gave_of tells old new (is.2 told) (back told)),
+    (λ same. let e : RolledBack ≡ Pending = same in absurd (cc)),
+  )
+  taken_says missed.Damaged is compared later steps none saved back settled quiet = λ told.
       let why = is.1 told in
-      (since_keeps Any start.moment 0 old new moment steps why.0, still_damaged tells 0 made start old new (bare told why.1) why.2 (inl (refl, why.1)))
-  taken_says (missed.Differs found) is compared later steps none saved back settled = (
+      (since_keeps Any start.moment 0 old new moment steps why.0, still_damaged tells 0 made start old new (bare told why.1) (open_some (cell_of old.state.cell) why.2) (inl (refl, why.1)))
+  taken_says (missed.Differs found) is compared later steps none saved back settled quiet = (
     refl,
     compared found refl,
     none,
     (λ told. gave_of tells old new (is.1 told).1 (back told)),
     (λ told. let o = (is.1 told).0 in record { saved = o.saved; is_saved = saved told ∙ o.is_saved; other = o.other }),
   )
-  taken_says missed.OutOfMemory is compared later steps none saved back settled = tt
+  taken_says missed.OutOfMemory is compared later steps none saved back settled quiet =
+      inr (quiet_on start.kernel old.kernel new.kernel is.0 quiet, inr (λ told. back_of tells made start old new (settled told) (back told)))
 
   module _ (lawful : IsLawful old.stops) (reads : tells → old.stops.may_leave old.state) where
-    pending_says : (fault : BackFault) → Fails tells old new fault → (tells → cell_of old.state.cell ≡ None → fault ≡ ba.HostFault NotBegun) → Said tells (asked doc opts made) start new (Err (pending_as fault))
-    pending_says ba.NoCheckpoint fails unset = absurd fails
-    pending_says (ba.HostFault left) fails unset = (rose_after start.faults old.faults new.faults faults (fails_rose tells old new left fails), tt, λ is. let e : Pending ≡ RolledBack = is in absurd (cc))
-    pending_says (ba.KernelRefused k n left) fails unset = (tt, (λ is. cc), λ is. let e : Pending ≡ RolledBack = is in absurd (cc))
-    pending_says (ba.Damaged area) fails unset = λ told.
-        let there : IsSet old = unless_none (cell_of old.state.cell) (λ none. let e : ba.Damaged area ≡ ba.HostFault NotBegun = unset told none in cc) in
+    -- the host failed before it, or the change was being made
+    abbrev FailedOrOpen : Type 0
+    FailedOrOpen = (NoneRefused start.kernel old.kernel × Rose start.faults old.faults) ⊎ (tells → IsOpen old)
+
+    starved_behind : old.faults ≤ new.faults → FailedOrOpen → Fails tells old new ba.OutOfMemory → Starves tells made start.faults start.state start.kernel new
+    starved_behind later (inl failed) fails = inr (quiet_on start.kernel old.kernel new.kernel failed.0 fails.0, inl (rose_before start.faults old.faults new.faults failed.1 later))
+    starved_behind later (inr being) fails = inl (λ told. open_on old new (fails.1 told) (being told))
+
+    pending_says : (fault : BackFault) → Fails tells old new fault → (tells → cell_of old.state.cell ≡ None → fault ≡ ba.HostFault NotBegun) → old.faults ≤ new.faults → FailedOrOpen
+        → Said tells (asked doc opts made) start new (Err (pending_as fault))
+    pending_says ba.NoCheckpoint fails unset later why = absurd fails
+    pending_says (ba.HostFault left) fails unset later why = (rose_after start.faults old.faults new.faults faults (fails_rose tells old new left fails), tt, λ is. let e : Pending ≡ RolledBack = is in absurd (cc))
+    pending_says (ba.KernelRefused k n left) fails unset later why = (tt, (λ is. cc), (λ is. let e : Pending ≡ RolledBack = is in absurd (cc)), λ is. fails.3)
+    pending_says (ba.Damaged area) fails unset later why = λ told.
+        let there : IsSome (cell_of old.state.cell) = unless_none (cell_of old.state.cell) (λ none. let e : ba.Damaged area ≡ ba.HostFault NotBegun = unset told none in cc) in
         let had = fails.1 told in (
           since_keeps Stays start.moment area old new moment fails.0.stops (since start.moment area old lawful (reads told) moment had),
           still_damaged tells area made start old new (fails.0.same told) there had,
         )
-    pending_says (ba.HardwareDiffers names) fails unset = fails.1
-    pending_says ba.OutOfMemory fails unset = tt
+    pending_says (ba.HardwareDiffers names) fails unset later why = fails.1
+    pending_says ba.OutOfMemory fails unset later why = starved_behind later why fails
 
-    bare_says : Steps Any old.stops new.stops → tells → DamagedSince start.moment 0 old × (old.state.net ≡ None) × IsSet old → DamagedSince start.moment 0 new × StandsDamaged tells 0 made start.state start.kernel new
-    bare_says steps told had = (since_keeps Any start.moment 0 old new moment steps had.0, still_damaged tells 0 made start old new (bare told had.1) had.2 (inl (refl, had.1)))
+    bare_says : Steps Any old.stops new.stops → tells → DamagedSince start.moment 0 old × (old.state.net ≡ None) × IsOpen old → DamagedSince start.moment 0 new × StandsDamaged tells 0 made start.state start.kernel new
+    bare_says steps told had = (since_keeps Any start.moment 0 old new moment steps had.0, still_damaged tells 0 made start old new (bare told had.1) (open_some (cell_of old.state.cell) had.2) (inl (refl, had.1)))
 
-    damaged_says : (fault : BackFault) → Steps Any old.stops new.stops → (tells → DamagedSince start.moment 0 old × (old.state.net ≡ None) × IsSet old) → Said tells (asked doc opts made) start new (Err (damaged_as fault))
-    damaged_says ba.NoCheckpoint steps had = λ told. bare_says steps told (had told)
-    damaged_says (ba.HostFault left) steps had = λ told. bare_says steps told (had told)
-    damaged_says (ba.KernelRefused k n left) steps had = λ told. bare_says steps told (had told)
-    damaged_says (ba.Damaged area) steps had = λ told. bare_says steps told (had told)
-    damaged_says (ba.HardwareDiffers names) steps had = λ told. bare_says steps told (had told)
-    damaged_says ba.OutOfMemory steps had = tt
+    damaged_says : (fault : BackFault) → Steps Any old.stops new.stops → Fails tells old new fault → (tells → DamagedSince start.moment 0 old × (old.state.net ≡ None) × IsOpen old) → Said tells (asked doc opts made) start new (Err (damaged_as fault))
+    damaged_says ba.NoCheckpoint steps fails had = λ told. bare_says steps told (had told)
+    damaged_says (ba.HostFault left) steps fails had = λ told. bare_says steps told (had told)
+    damaged_says (ba.KernelRefused k n left) steps fails had = λ told. bare_says steps told (had told)
+    damaged_says (ba.Damaged area) steps fails had = λ told. bare_says steps told (had told)
+    damaged_says (ba.HardwareDiffers names) steps fails had = λ told. bare_says steps told (had told)
+    damaged_says ba.OutOfMemory steps fails had = inl (λ told. open_on old new (fails.1 told) (had told).2)
+
+    -- a change that was being made, where the restoring tells another fault than that it had nothing to take back
+    being_made : (fault : BackFault) → (fault ≡ ba.HostFault NotBegun → ⊥) → (cell_of old.state.cell ≡ None → fault ≡ ba.HostFault NotBegun) → (cell_of old.state.cell ≡ None) ⊎ IsOpen old → IsOpen old
+    being_made fault other unset (inl none) = absurd (other (unset none))
+    being_made fault other unset (inr being) = being
+
+    -- memory ran out before it
+    starved_says : NoneRefused start.kernel old.kernel → (tells → (cell_of old.state.cell ≡ None) ⊎ IsOpen old) → (fault : BackFault) → Fails tells old new fault
+        → (tells → cell_of old.state.cell ≡ None → fault ≡ ba.HostFault NotBegun) → Starves tells made start.faults start.state start.kernel new
+    starved_says quiet was ba.NoCheckpoint fails unset = absurd fails
+    starved_says quiet was (ba.HostFault left) fails unset =
+        inr (quiet_on start.kernel old.kernel new.kernel quiet (fails_quiet tells old new left fails), inl (rose_after start.faults old.faults new.faults faults (fails_rose tells old new left fails)))
+    starved_says quiet was (ba.KernelRefused k n left) fails unset = inl fails.3
+    starved_says quiet was (ba.Damaged area) fails unset = inl (λ told. open_same old new (fails.0.same told) (being_made (ba.Damaged area) (λ is. cc) (unset told) (was told)))
+    starved_says quiet was (ba.HardwareDiffers names) fails unset = inl (λ told. open_same old new (fails.0.same told) (being_made (ba.HardwareDiffers names) (λ is. cc) (unset told) (was told)))
+    starved_says quiet was ba.OutOfMemory fails unset = inl (λ told. open_on old new (fails.1 told) (being_made ba.OutOfMemory (λ is. cc) (unset told) (was told)))
 
     -- it wasn't
     pub stopped_says : (why : Missed) (fault : BackFault) → Why tells doc start old why → Steps Any old.stops new.stops → Fails tells old new fault → (tells → cell_of old.state.cell ≡ None → fault ≡ ba.HostFault NotBegun)
-        → Said tells (asked doc opts made) start new (Err (stopped_as why fault))
-    stopped_says missed.Failed fault is steps fails unset = pending_says fault fails unset
-    stopped_says (missed.Refused k n) fault is steps fails unset = pending_says fault fails unset
-    stopped_says missed.Damaged fault is steps fails unset = damaged_says fault steps is.1
-    stopped_says (missed.Differs found) fault is steps fails unset = pending_says fault fails unset
-    stopped_says missed.OutOfMemory fault is steps fails unset = tt
+        → old.faults ≤ new.faults → Said tells (asked doc opts made) start new (Err (stopped_as why fault))
+    stopped_says missed.Failed fault is steps fails unset later = pending_says fault fails unset later (inl is)
+    stopped_says (missed.Refused k n) fault is steps fails unset later = pending_says fault fails unset later (inr is.2)
+    stopped_says missed.Damaged fault is steps fails unset later = damaged_says fault steps fails is.1
+    stopped_says (missed.Differs found) fault is steps fails unset later = pending_says fault fails unset later (inr (λ told. (is.1 told).1))
+    stopped_says missed.OutOfMemory fault is steps fails unset later = starved_says is.0 is.1 fault fails unset
 
 -- none of it says that nothing was begun, nor that the end is in doubt
 pub taken_begun : (why : Missed) → IsGivenUp (taken_back_as why)
@@ -233,6 +269,10 @@ left_says tells a start old new NotBegun side rose same was none settled = (rose
 left_says tells a start old new RolledBack side rose same was none settled = (rose, (λ told. ap (λ (s : State). cell_of s.cell) (same told) ∙ none told), λ is told. inr settled)
 left_says tells a start old new Pending side rose same was none settled = absurd (side refl)
 
+-- memory ran out before anything was changed
+pub starved_before : (tells : Type 0) (now : ℕ) (start : Start) (new : HostView) → NoneRefused start.kernel new.kernel → SettledBy tells now start new → Starves tells now start.faults start.state start.kernel new
+starved_before tells now start new quiet settled = inr (quiet, inr (λ told. inr settled))
+
 -- ---- of the whole
 
 module _ (tells : Type 0) (a : Asked) (old new : HostView) where
@@ -268,21 +308,21 @@ module _ (tells : Type 0) (a : Asked) (old new : HostView) where
       }
 
   -- the settling failed
-  pub unsettled_says : IsLawful old.stops → (tells → old.stops.may_leave old.state) → (fault : BackFault) → Fails tells old new fault → ApplySays tells a old new (Err (apply_fault fault))
-  unsettled_says lawful reads ba.NoCheckpoint fails = absurd fails
-  unsettled_says lawful reads (ba.HostFault NotBegun) fails = (fails.0, fails.1.same, λ is. let e : NotBegun ≡ RolledBack = is in absurd (cc))
-  unsettled_says lawful reads (ba.HostFault RolledBack) fails = absurd fails
-  unsettled_says lawful reads (ba.HostFault Pending) fails = (fails.0, tt, λ is. let e : Pending ≡ RolledBack = is in absurd (cc))
-  unsettled_says lawful reads (ba.KernelRefused k n NotBegun) fails = let e : NotBegun ≡ Pending = fails.0 in absurd (cc)
-  unsettled_says lawful reads (ba.KernelRefused k n RolledBack) fails = let e : RolledBack ≡ Pending = fails.0 in absurd (cc)
-  unsettled_says lawful reads (ba.KernelRefused k n Pending) fails = (tt, (λ is. cc), λ is. let e : Pending ≡ RolledBack = is in absurd (cc))
-  unsettled_says lawful reads (ba.Damaged area) fails = λ told.
+  pub unsettled_says : IsLawful old.stops → (tells → old.stops.may_leave old.state) → (fault : BackFault) → Fails tells old new fault → (fault ≡ ba.OutOfMemory → tells → HasTaken a.now (cell_of old.state.cell)) → ApplySays tells a old new (Err (apply_fault fault))
+  unsettled_says lawful reads ba.NoCheckpoint fails taken = absurd fails
+  unsettled_says lawful reads (ba.HostFault NotBegun) fails taken = (fails.0, fails.1.same, λ is. let e : NotBegun ≡ RolledBack = is in absurd (cc))
+  unsettled_says lawful reads (ba.HostFault RolledBack) fails taken = absurd fails
+  unsettled_says lawful reads (ba.HostFault Pending) fails taken = (fails.0, tt, λ is. let e : Pending ≡ RolledBack = is in absurd (cc))
+  unsettled_says lawful reads (ba.KernelRefused k n NotBegun) fails taken = let e : NotBegun ≡ Pending = fails.0 in absurd (cc)
+  unsettled_says lawful reads (ba.KernelRefused k n RolledBack) fails taken = let e : RolledBack ≡ Pending = fails.0 in absurd (cc)
+  unsettled_says lawful reads (ba.KernelRefused k n Pending) fails taken = (tt, (λ is. cc), (λ is. let e : Pending ≡ RolledBack = is in absurd (cc)), λ is. fails.3)
+  unsettled_says lawful reads (ba.Damaged area) fails taken = λ told.
       let had = since_keeps Stays old.stops.moment area old new (omega arith) fails.0.stops (since old.stops.moment area old lawful (reads told) (omega arith) (fails.1 told)) in (
         record { pair = had.pair; left = had.left; damaged = had.damaged },
         record { damaged = subst (λ (s : State). IsDamaged area s) (sym (fails.0.same told)) (fails.1 told); held = inl (inr fails.0.unmade) },
       )
-  unsettled_says lawful reads (ba.HardwareDiffers names) fails = fails.1
-  unsettled_says lawful reads ba.OutOfMemory fails = tt
+  unsettled_says lawful reads (ba.HardwareDiffers names) fails taken = fails.1
+  unsettled_says lawful reads ba.OutOfMemory fails taken = inr (fails.0, inr (λ told. inr (inl (taken refl))))
 
   -- what it says of a fault
   pub said_left : (result : Result Applied ApplyFault) (left : Left) → result ≡ Err (ap_.HostFault left) → ApplySays tells a old new result → ApplySays tells a old new (Err (ap_.HostFault left))

@@ -14,7 +14,7 @@ ghost use Rattle.engine_model.specs.Undone.{stand};
 ghost use Rattle.engine_model.specs.Sound.{WhereSound};
 ghost use Rattle.engine_model.specs.Stations.{Only, Kept, Ends, AllNear};
 ghost use Rattle.engine_core.specs.Attempts.{sealed, IsOnWay, IsFault, WhereRuns};
-ghost use Rattle.engine_core.specs.Saying.{Start, Follows, WhereMerges, IsSet, Why};
+ghost use Rattle.engine_core.specs.Saying.{Start, Follows, WhereMerges, IsOpen, Why};
 ghost use Rattle.engine_core.specs.Calm.{CalmSince, UpToNow};
 
 use crate::missed::Missed;
@@ -83,7 +83,7 @@ fn verify<H: Host>(host: &mut H, alloc: Global, to: &Net, no_verify: bool) -> Re
     ensures quiet { NoneRefused (H.told host.old).kernel (H.told host.new).kernel }
     ensures compared { (found : NetData) → IsErrOf result (Missed.Differs found) → no_verify ≡ false }
     ensures says { (doc : Doc) (start : Start) (from : NetData) → Follows start (H.told host.old)
-        → merge from doc ≡ Ok to.now → (H.tells → saved_net (H.told host.old).state.cell ≡ Some from) → (H.tells → IsSet (H.told host.old))
+        → merge from doc ≡ Ok to.now → (H.tells → saved_net (H.told host.old).state.cell ≡ Some from) → (H.tells → IsOpen (H.told host.old))
         → IfErr result (λ missed. Why H.tells doc start (H.told host.new) missed) }
     ensures dumped { OnOk result (no_verify ≡ false → (H.told host.new).kernel.calls ≡ 0) }
     ensures fresh { H.tells → no_verify ≡ true → (H.told host.new).fresh ≡ (H.told host.old).fresh }

@@ -1,11 +1,11 @@
 -- What a fault of a restoring says on every host, from where the restoring began, and what an apply leaves that ends before its change.
-use Rattle.std.specs.Prelude.{◌≡◌, ◌⊎◌, ℕ, Result, Ok, Err}
+use Rattle.std.specs.Prelude.{◌≡◌, ◌⊎◌, ℕ, Result, Err}
 use Rattle.host_core.specs.Faults.{Rose}
 use Rattle.host_core.specs.HostView.{HostView, WasRefused, NoneRefused}
 use Rattle.host_core.specs.Stops.{Steps, Stays}
 use Rattle.checkpoint_cell.specs.Settled.{standing}
 use Rattle.engine_model.specs.Refusals.{NoCallMade, RefusedOnce}
-use Rattle.engine_model.specs.Faults.{HasTaken, IsDamaged, Differs}
+use Rattle.engine_model.specs.Faults.{HasTaken, IsDamaged, Differs, StillOpen, WantsBack}
 use Rattle.engine_model.specs.declared.answers.Applied.{Applied}
 use Rattle.engine_model.specs.declared.answers.ApplyFault.{ApplyFault}
 use Rattle.engine_model.specs.declared.answers.ApplyFault.TheVariants as ap
@@ -25,10 +25,10 @@ Fails tells old new NoCheckpoint = ⊥
 Fails tells old new (HostFault NotBegun) = Rose old.faults new.faults × IsUnbegun tells old new
 Fails tells old new (HostFault RolledBack) = ⊥
 Fails tells old new (HostFault Pending) = Rose old.faults new.faults × NoneRefused old.kernel new.kernel
-Fails tells old new (KernelRefused k n left) = (left ≡ Pending) × WasRefused k n old.kernel new.kernel × RefusedOnce old.kernel new.kernel
+Fails tells old new (KernelRefused k n left) = (left ≡ Pending) × WasRefused k n old.kernel new.kernel × RefusedOnce old.kernel new.kernel × StillOpen tells new
 Fails tells old new (Damaged area) = IsUnbegun tells old new × (tells → IsDamaged area old.state)
 Fails tells old new (HardwareDiffers names) = IsUnbegun tells old new × (tells → Differs names new)
-Fails tells old new OutOfMemory = NoneRefused old.kernel new.kernel
+Fails tells old new OutOfMemory = NoneRefused old.kernel new.kernel × WantsBack tells old new
 
 -- What an apply leaves that ends before its change. A change that waits and a fault before the first write leave the host as it was; so
 -- does a refused document, on hosts that tell their content, unless a change was to be taken back first.

@@ -7,9 +7,10 @@ use Rattle.document_model.specs.declared.Doc.{Doc}
 use Rattle.document_model.specs.declared.Refused.{Refused}
 use Rattle.plan_model.specs.Plans.{IsPlan}
 use Rattle.host_core.specs.Faults.{Rose, RoseTwice}
-use Rattle.host_core.specs.HostView.{State, Kernel, HostView, HasNet}
+use Rattle.host_core.specs.HostView.{State, Kernel, HostView, HasNet, NoneRefused}
 use Rattle.merge_model.specs.MergedNet.{merge}
 use Rattle.engine_model.specs.Refusals.{NoCallMade}
+use Rattle.checkpoint_cell.specs.declared.Phase.TheVariants.{Applying}
 use Rattle.checkpoint_cell.specs.Cell.{Checkpoint, saved_net}
 use Rattle.checkpoint_cell.specs.Loaded.{IsBad}
 use Rattle.checkpoint_cell.specs.Settled.{standing, taken_back}
@@ -96,6 +97,18 @@ ApplyExact rose machine new result = IsOutcome machine new result
 
 -- ---- on every host; of its content only where the host tells it
 
+-- a change is being made, and its checkpoint has the network that it saved: a recovery takes it back
+abbrev pub HasOpen : Option Checkpoint → Type 0
+HasOpen None = ⊥
+HasOpen (Some c) = (c.phase ≡ Applying) × IsSome c.net
+
+abbrev pub StillOpen : Type 0 → HostView → Type 0
+StillOpen tells new = tells → HasOpen (standing new.state).cell
+
+-- where memory ran out in a restoring, the host reads as before, or the change is being made
+abbrev pub WantsBack : Type 0 → HostView → HostView → Type 0
+WantsBack tells old new = tells → (new.state ≡ old.state) ⊎ HasOpen (standing new.state).cell
+
 -- what was dumped last is the merge of the network that was saved
 pub record Verified (a : Asked) (new : HostView) : Type 0 where
   pub saved : NetData
@@ -120,10 +133,11 @@ pub record IsOther (doc : Doc) (found : NetData) (new : HostView) : Type 0 where
   pub is_saved : saved_net new.state.cell ≡ Some saved
   pub other : merge saved doc ≢ Ok found
 
--- the network that was dumped and the saved one have other devices, and these are all such names
+-- the network that was dumped and the saved one of the checkpoint that stands have other devices, and these are all such names
 pub record Differs (names : List (List ℕ)) (new : HostView) : Type 0 where
   pub saved : NetData
   pub found : NetData
+  pub set : HasSet (standing new.state).cell
   pub is_saved : saved_net new.state.cell ≡ Some saved
   pub is_found : new.fresh ≡ Some found
   pub all : differing saved found ≡ names
@@ -160,26 +174,31 @@ pub record StandsDamaged (tells : Type 0) (area now : ℕ) (state : State) (kern
   pub damaged : IsDamaged area new.state
   pub held : SettlesOnly tells now state kernel new.kernel ⊎ IsSome (standing new.state).cell
 
+-- Where memory ran out in an apply, its change is being made, and its checkpoint has the saved network. Or else no call was refused; and the
+-- host failed, or calls gave the saved network, or none was made, unless a change was to be taken back first.
+abbrev pub Starves : Type 0 → ℕ → ℕ → State → Kernel → HostView → Type 0
+Starves tells now faults state kernel new = StillOpen tells new ⊎ (NoneRefused kernel new.kernel × (Rose faults new.faults ⊎ (tells → GaveBack tells now state kernel new)))
+
 abbrev pub ApplySays : Type 0 → Asked → HostView → HostView → Result Applied ApplyFault → Type 0
 ApplySays tells a old new (Ok done) = tells → a.opts.no_verify ≡ false → Verified a new
 ApplySays tells a old new (Err (ap.Pending deadline)) = tells → IsOutcome (apply a (standing old.state)) new (Err (ap.Pending deadline))
 ApplySays tells a old new (Err (ap.MergeRefused refused)) = SettlesOnly tells a.now old.state old.kernel new.kernel × (tells → BrokeRule a.doc refused new)
 ApplySays tells a old new (Err (ap.HostFault left)) = Rose old.faults new.faults × LeftSays tells old new left × (left ≡ RolledBack → tells → GaveBack tells a.now old.state old.kernel new)
 ApplySays tells a old new (Err ap.InDoubt) = Rose old.faults new.faults × (a.opts.no_commit ≡ false) × (tells → a.opts.no_verify ≡ false → Verified a new)
-ApplySays tells a old new (Err (ap.KernelRefused k n left)) = LeftSays tells old new left × (left ≢ NotBegun) × (left ≡ RolledBack → tells → GaveSaved new)
+ApplySays tells a old new (Err (ap.KernelRefused k n left)) = LeftSays tells old new left × (left ≢ NotBegun) × (left ≡ RolledBack → tells → GaveSaved new) × (left ≡ Pending → StillOpen tells new)
 ApplySays tells a old new (Err (ap.NotVerified found left)) = (left ≡ RolledBack) × (a.opts.no_verify ≡ false) × LeftSays tells old new RolledBack × (tells → GaveSaved new) × (tells → IsOther a.doc found new)
 ApplySays tells a old new (Err (ap.Damaged area)) = tells → HadDamaged area old new × StandsDamaged tells area a.now old.state old.kernel new
 ApplySays tells a old new (Err (ap.HardwareDiffers names)) = tells → Differs names new
-ApplySays tells a old new (Err ap.OutOfMemory) = Unit {0}
+ApplySays tells a old new (Err ap.OutOfMemory) = Starves tells a.now old.faults old.state old.kernel new
 
 -- of a rollback or a recovery, where the machine answers so
 abbrev pub BackSays : {A : Type 0} → Type 0 → Result A BackFault → HostView → HostView → Result A BackFault → Type 0
 BackSays tells machine old new (Err ba.NoCheckpoint) = tells → machine ≡ Err ba.NoCheckpoint
 BackSays tells machine old new (Err (ba.HostFault left)) = Rose old.faults new.faults × LeftSays tells old new left × (left ≢ RolledBack)
-BackSays tells machine old new (Err (ba.KernelRefused k n left)) = left ≡ Pending
+BackSays tells machine old new (Err (ba.KernelRefused k n left)) = (left ≡ Pending) × StillOpen tells new
 BackSays tells machine old new (Err (ba.Damaged area)) = tells → HadDamaged area old new × IsDamaged area new.state
 BackSays tells machine old new (Err (ba.HardwareDiffers names)) = tells → Differs names new
-BackSays tells machine old new (Err ba.OutOfMemory) = Unit {0}
+BackSays tells machine old new (Err ba.OutOfMemory) = WantsBack tells old new
 BackSays tells machine old new (Ok done) = Unit {0}
 
 -- ---- whether it tried, and what it did in doing so

@@ -16,6 +16,7 @@ use Rattle.checkpoint_cell.proofs.lemmas.Saved.{saved_is}
 use Rattle.engine_model.specs.Answers.{Finds}
 use Rattle.engine_model.specs.Differing.{differing}
 use Rattle.engine_model.specs.Failing.{IsUnbegun}
+use Rattle.engine_model.specs.Faults.{HasSet}
 use Rattle.engine_model.specs.Machine.{saved_on, unless_differing}
 use Rattle.engine_model.specs.Sound.{Sound, IsWhole}
 use Rattle.engine_model.specs.declared.answers.Left.TheVariants.{NotBegun}
@@ -58,6 +59,10 @@ told_others saved (name ∷ names) some = refl
 saved_there : (saved : NetData) (old new : HostView) → IsSet saved old → new.state ≡ old.state → saved_net new.state.cell ≡ Some saved
 saved_there saved old new set same = ap (λ (s : State). saved_net s.cell) same ∙ saved_is set.checkpoint old.state.cell set.holds.cell ∙ set.is_saved
 
+-- and so does its checkpoint
+set_there : (saved : NetData) (old new : HostView) → IsSet saved old → new.state ≡ old.state → HasSet (cell_of new.state.cell)
+set_there saved old new set same = subst (λ (k : Option Checkpoint). HasSet k) (sym (ap (λ (s : State). cell_of s.cell) same ∙ set.holds.cell)) tt
+
 -- ---- faults
 
 module _ (tells honest : Type 0) (told : honest → tells) (old new : HostView) (begun : IsUnbegun tells old new) where
@@ -65,7 +70,7 @@ module _ (tells honest : Type 0) (told : honest → tells) (old new : HostView) 
   host_failed rose = record { fails = (rose, begun); healthy = λ h sound. tt; exact = λ h checkpoint holds. tt }
 
   pub no_memory : Hinders tells honest old new OutOfMemory
-  no_memory = record { fails = unbegun_quiet tells old new begun; healthy = λ h sound. tt; exact = λ h checkpoint holds. tt }
+  no_memory = record { fails = (unbegun_quiet tells old new begun, λ t. inl (begun.same t)); healthy = λ h sound. tt; exact = λ h checkpoint holds. tt }
 
   module _ (reads : tells → old.stops.may_leave old.state) where
     -- no image stands behind the gate
@@ -96,7 +101,15 @@ module _ (tells honest : Type 0) (told : honest → tells) (old new : HostView) 
     other_devices saved found set stands fresh names all some = record {
       fails = (
         begun,
-        λ t. record { saved = saved; found = found; is_saved = saved_there saved old new (set t) (begun.same t); is_found = fresh t; all = all; some = some },
+        λ t. record {
+          saved = saved;
+          found = found;
+          set = set_there saved old new (set t) (begun.same t);
+          is_saved = saved_there saved old new (set t) (begun.same t);
+          is_found = fresh t;
+          all = all;
+          some = some;
+        },
       );
       healthy = λ h sound.
           let s = set (told h) in

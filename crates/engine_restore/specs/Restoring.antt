@@ -13,7 +13,7 @@ use Rattle.checkpoint_cell.specs.Steps.{Holds}
 use Rattle.engine_model.specs.Answers.{IsBefore, IsHealthy, Finds}
 use Rattle.engine_model.specs.Differing.{differing}
 use Rattle.engine_model.specs.Failing.{Fails}
-use Rattle.engine_model.specs.Faults.{GaveSaved}
+use Rattle.engine_model.specs.Faults.{GaveSaved, StillOpen}
 use Rattle.engine_model.specs.Machine.{saved_on}
 use Rattle.engine_model.specs.Sound.{WhereSound}
 use Rattle.engine_model.specs.Stations.{Ends}
@@ -79,9 +79,9 @@ pub record Undoes (tells honest : Type 0) (calls : List Call) (old new : HostVie
   pub idle : tells → calls ≡ [] → new.fresh ≡ old.fresh
   pub saved : tells → saved_net new.state.cell ≡ saved_net old.state.cell
 
--- a fault on the way
+-- a fault on the way, once the change was taken up
 pub record Interrupts (tells honest : Type 0) (calls : List Call) (old new : HostView) (fault : BackFault) : Type 0 where
-  pub fails : Fails tells old new fault
+  pub fails : StillOpen tells old → Fails tells old new fault
   pub begun : IsBefore fault → ⊥
   pub healthy : honest → (from saved : NetData) → old.state.net ≡ Some from → Runs calls from saved → IsHealthy fault
 

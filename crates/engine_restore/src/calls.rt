@@ -35,8 +35,11 @@ pub fn rollback<H: Host>(host: &mut H, alloc: Global) -> Result<(), BackFault>
     // What every host counts, and by what calls the saved network was given.
     ensures counts { BackCounts (H.told host.old).kernel (H.told host.new).kernel result }
     ensures gave { H.tells → OnOk result (GaveSaved (H.told host.new)) }
-    // It is done only where one stands.
+    // It is done only where one stands, and then none does.
     ensures done { H.tells → OnOk result (HasSet (standing (H.told host.old).state).cell) }
+    ensures cleared { H.tells → OnOk result (Holds None (H.told host.new)) }
+    // Also where the host isn't sound: once it is done, the host reads as what the machine leaves.
+    ensures after { H.honest → OnOk result (standing (H.told host.new).state ≡ (rollback (standing (H.told host.old).state)).after) }
     // It begins only where one stands.
     ensures begun { H.tells → IfErr result (λ fault. (IsBefore fault → ⊥) → HasSet (standing (H.told host.old).state).cell) }
     // It takes memory only where a checkpoint stands.

@@ -75,11 +75,11 @@ apply_past tells a old new (ap_.Pending deadline) s = s
 apply_past tells a old new (ap_.MergeRefused r) s = s
 apply_past tells a old new (ap_.HostFault left) s = (s.0, left_past tells old new left s.1, s.2)
 apply_past tells a old new ap_.InDoubt s = s
-apply_past tells a old new (ap_.KernelRefused k n left) s = (left_past tells old new left s.0, s.1, s.2)
+apply_past tells a old new (ap_.KernelRefused k n left) s = (left_past tells old new left s.0, s.1, s.2, s.3)
 apply_past tells a old new (ap_.NotVerified found left) s = s
 apply_past tells a old new (ap_.Damaged area) s = λ t. (had_past area old new (s t).0, (s t).1)
 apply_past tells a old new (ap_.HardwareDiffers names) s = s
-apply_past tells a old new ap_.OutOfMemory s = tt
+apply_past tells a old new ap_.OutOfMemory s = s
 
 -- nor does that of a taking back
 pub back_past : (tells : Type 0) (machine : Result ⊤ BackFault) (old new : HostView) (fault : BackFault) → BackSays tells machine old new (Err fault) → BackSays tells machine (host_at (past_of old)) new (Err fault)
@@ -88,7 +88,7 @@ back_past tells machine old new (ba.HostFault left) s = (s.0, left_past tells ol
 back_past tells machine old new (ba.KernelRefused k n left) s = s
 back_past tells machine old new (ba.Damaged area) s = λ t. (had_past area old new (s t).0, (s t).1)
 back_past tells machine old new (ba.HardwareDiffers names) s = s
-back_past tells machine old new ba.OutOfMemory s = tt
+back_past tells machine old new ba.OutOfMemory s = s
 
 -- ---- where no plan was made
 

@@ -13,7 +13,7 @@ use Rattle.checkpoint_cell.specs.Cell.{saved_net}
 use Rattle.checkpoint_cell.specs.Settled.{settled}
 use Rattle.engine_model.specs.Machine.{asked}
 use Rattle.engine_model.specs.Sound.{Sound}
-use Rattle.engine_model.specs.Faults.{IsOutcome, LeftSays, HasSet, HasTaken, Verified, HadDamaged, Differs, SettlesOnly, StandsDamaged}
+use Rattle.engine_model.specs.Faults.{IsOutcome, LeftSays, HasSet, HasTaken, Verified, HadDamaged, Differs, SettlesOnly, StandsDamaged, StillOpen}
 use Rattle.engine_model.specs.declared.Left.{Left}
 use Rattle.engine_model.specs.declared.Left.TheVariants.{NotBegun, RolledBack, Pending as Unknown}
 use Rattle.command_words.specs.Words.{lone}
@@ -66,10 +66,8 @@ MayPutHalf r (applying doc opts) = HostRose r
 MayPutHalf r (applying_policy p opts) = HostRose r
 MayPutHalf r order = ⊥
 
--- where it is done, what stands is what the machine leaves; of a restoring that is said where the host is sound
+-- where it is done, what stands is what the machine leaves
 abbrev pub StandsAs : Run → Order → Type 0
-StandsAs r rolling_back = Unit {0}
-StandsAs r recovering = Unit {0}
 StandsAs r order = reads_after r ≡ (machine_of r.now (Ok order) (reads r)).after
 
 -- A fault brings the fault answers, and out of memory comes of its own; every other answer is the machine's. A first network's
@@ -169,11 +167,12 @@ IsLeft r (applying doc opts) left = LeftSays r.host_tells r.host r.host_after le
 IsLeft r (applying_policy p opts) left = LeftSays r.host_tells r.host r.host_after left
 IsLeft r order left = LeftSays r.host_tells r.host r.host_after left × (left ≢ RolledBack)
 
--- of a call that was refused: one was made, and what is taken back isn't told as rolled back
+-- of a call that was refused: one was made, and only an apply tells that all was rolled back. Where it isn't, the change is being made, and
+-- its checkpoint has the saved network
 abbrev pub IsLeftRefused : Run → Order → Left → Type 0
-IsLeftRefused r (applying doc opts) left = LeftSays r.host_tells r.host r.host_after left × (left ≢ NotBegun)
-IsLeftRefused r (applying_policy p opts) left = LeftSays r.host_tells r.host r.host_after left × (left ≢ NotBegun)
-IsLeftRefused r order left = left ≡ Unknown
+IsLeftRefused r (applying doc opts) left = LeftSays r.host_tells r.host r.host_after left × (left ≢ NotBegun) × (left ≡ Unknown → StillOpen r.host_tells r.host_after)
+IsLeftRefused r (applying_policy p opts) left = LeftSays r.host_tells r.host r.host_after left × (left ≢ NotBegun) × (left ≡ Unknown → StillOpen r.host_tells r.host_after)
+IsLeftRefused r order left = (left ≡ Unknown) × StillOpen r.host_tells r.host_after
 
 -- ---- which answers each order has beside what it says
 
@@ -349,9 +348,9 @@ Checks r said = r.host_tells → (machine_of r.now (Ok checking) (record { net =
 abbrev pub SaysSound : Run → Type 0
 SaysSound r = r.host_after.state.cell ≢ [] → Sound r.host_after
 
--- nothing was to be taken back, or it waits, by the machine; or something was
+-- nothing was to be taken back, or it waits, by the machine; or something was, and no checkpoint stands
 abbrev pub IsRecovered : Run → Said → Type 0
-IsRecovered r restored = HasTaken r.now (reads r).cell
+IsRecovered r restored = HasTaken r.now (reads r).cell × ((reads_after r).cell ≡ None)
 IsRecovered r said = expected r (Ok recovering) ≡ Ok said
 
 -- what is done; a commit is the machine's, with what it leaves, and so is a workload, on every host; an apply that verifies dumped the
@@ -365,7 +364,7 @@ IsDoneAs r (simulating calls) said = Simulates r calls said
 IsDoneAs r committing said = r.host_tells → IsOutcome (machine_of r.now (Ok committing) (reads r)) r.host_after (Ok said)
 IsDoneAs r checking said = Checks r said × (r.honest → SaysSound r)
 IsDoneAs r (generating devices first second) said = expected r (Ok (generating devices first second)) ≡ Ok said
-IsDoneAs r rolling_back said = r.host_tells → HasSet (reads r).cell
+IsDoneAs r rolling_back said = r.host_tells → HasSet (reads r).cell × ((reads_after r).cell ≡ None)
 IsDoneAs r recovering said = r.host_tells → IsRecovered r said
 IsDoneAs r (making links) said = r.host_tells → (expected r (Ok (making links)) ≡ Ok said) × IsMade (first_net links) r.host.state r.host_after
 IsDoneAs r (applying doc opts) said = r.host_tells → IsVerified r (Ok (applying doc opts))

@@ -1,11 +1,11 @@
--- On every host: of an apply whether a restoring was tried, what was dumped, and what stands where all is told as rolled back; and that a
--- restoring which came to its end gave the saved network.
+-- On every host: of an apply whether a restoring was tried, what was dumped, and what stands where all is told as rolled back; that a
+-- restoring which came to its end gave the saved network; and what stands where memory ran out.
 use Rattle.std.specs.Prelude.{◌≡◌, ◌⊎◌, true, false, Some, Result, Ok, Err}
 use Rattle.net_model.specs.NetData.{NetData}
 use Rattle.host_core.specs.Faults.{Rose, RoseTwice}
 use Rattle.checkpoint_cell.specs.Cell.{saved_net}
 use Rattle.engine_model.specs.Machine.{recover}
-use Rattle.engine_model.specs.Faults.{HasSet, HasTaken, GaveSaved, GaveBack}
+use Rattle.engine_model.specs.Faults.{HasSet, HasTaken, GaveSaved, GaveBack, WantsBack, Starves}
 use Rattle.engine_model.specs.declared.ApplyOpts.{ApplyOpts}
 use Rattle.engine_model.specs.declared.Left.TheVariants.{RolledBack, Pending}
 use Rattle.top_model.specs.Said.{restored}
@@ -13,7 +13,7 @@ use Rattle.top_model.specs.Orders.{Order, applying, applying_policy, rolling_bac
 use Rattle.top_model.specs.Runs.{Run, HostRose, HostRoseTwice, reads}
 use Rattle.top_model.specs.Told.{Answer}
 use Rattle.top_model.specs.declared.report.Cause.{Cause}
-use Rattle.top_model.specs.declared.report.Cause.TheVariants.{HostFault, InDoubt, KernelRefused, NotVerified}
+use Rattle.top_model.specs.declared.report.Cause.TheVariants.{HostFault, InDoubt, KernelRefused, NotVerified, OutOfMemory}
 
 -- the host's count of refusals
 abbrev pub WasRefusedOnce : Run → Type 0
@@ -57,9 +57,11 @@ ApplyTried r opts (Err (HostFault RolledBack)) = TakenBack r
 ApplyTried r opts (Err (KernelRefused k n Pending)) = HasExcuse r opts ⊎ WasRefusedTwice r ⊎ HostRose r
 ApplyTried r opts (Err (KernelRefused k n RolledBack)) = Gave r
 ApplyTried r opts (Err (NotVerified found left)) = Gave r
+ApplyTried r opts (Err OutOfMemory) = Starves r.host_tells r.now r.host.faults r.host.state r.host.kernel r.host_after
 ApplyTried r opts answer = Unit {0}
 
--- A rollback or a recovery may have stood half way only where there was something to take back.
+-- A rollback or a recovery may have stood half way only where there was something to take back. Where memory ran out in one, the host reads
+-- as before, or the change is being made.
 abbrev pub Tried : Run → Result Order Cause → Answer → Type 0
 Tried r (Ok (applying doc opts)) answer = ApplyTried r opts answer
 Tried r (Ok (applying_policy p opts)) answer = ApplyTried r opts answer
@@ -67,4 +69,6 @@ Tried r (Ok rolling_back) (Ok said) = Gave r
 Tried r (Ok recovering) (Ok restored) = Gave r
 Tried r (Ok rolling_back) (Err (HostFault Pending)) = r.host_tells → HasSet (reads r).cell
 Tried r (Ok recovering) (Err (HostFault Pending)) = r.host_tells → HasTaken r.now (reads r).cell
+Tried r (Ok rolling_back) (Err OutOfMemory) = WantsBack r.host_tells r.host r.host_after
+Tried r (Ok recovering) (Err OutOfMemory) = WantsBack r.host_tells r.host r.host_after
 Tried r order answer = Unit {0}

@@ -95,7 +95,7 @@ module _ (r : Run) (doc : Doc) (opts : ApplyOpts) where
   tried (Err InDoubt) says tries twice dumps backs = dumps
   tried (Err (Damaged area)) says tries twice dumps backs = tt
   tried (Err (HardwareDiffers names)) says tries twice dumps backs = tt
-  tried (Err OutOfMemory) says tries twice dumps backs = tt
+  tried (Err OutOfMemory) says tries twice dumps backs = says
 
 module _ (r : Run) (doc : Doc) (opts : ApplyOpts) where
   abbrev Ask : Asked
@@ -113,7 +113,7 @@ module _ (r : Run) (doc : Doc) (opts : ApplyOpts) where
     },
   )
   comes (Err (HostFault side)) says exact wants = (says.0, says.1)
-  comes (Err (KernelRefused k n side)) says exact wants = (says.0, says.1)
+  comes (Err (KernelRefused k n side)) says exact wants = (says.0, says.1, says.3)
   comes (Err (NotVerified found side)) says exact wants = (says.0, says.1, says.2, λ t. let s = says.4 t in record { doc = doc; saved = s.saved; is_doc = refl; is_saved = s.is_saved; other = s.other })
   comes (Err InDoubt) says exact wants = says
   comes (Err (Damaged area)) says exact wants = says

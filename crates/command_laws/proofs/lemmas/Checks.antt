@@ -1,5 +1,5 @@
 -- All that is said of a check, from what the engine promises of it.
-use Rattle.std.proofs.Common.{◌≡◌, ◌∙◌, ◌⊎◌, inl, inr, refl, sym, ap, ℕ, List, [], ◌∷◌, Option, None, Some}
+use Rattle.std.proofs.Common.{◌≡◌, ◌∙◌, ◌⊎◌, inl, inr, refl, sym, ap, subst, ℕ, List, [], ◌∷◌, Option, None, Some}
 use Rattle.std.specs.Prelude.{◌≢◌, Result, Ok, Err, IsErrOf, OnOk}
 use Rattle.net_model.specs.NetData.{NetData}
 use Rattle.host_core.specs.HostView.{State, IsLawfulHost}
@@ -11,7 +11,7 @@ use Rattle.engine_model.specs.Checks.{found, unless_other, differing_from, check
 use Rattle.engine_model.specs.Differing.{differing}
 use Rattle.engine_model.specs.Sound.{Sound}
 use Rattle.engine_model.specs.Stations.{Stands, Entry, Within, Only, at}
-use Rattle.engine_model.specs.Faults.{Differs}
+use Rattle.engine_model.specs.Faults.{HasSet, Differs}
 use Rattle.engine_model.specs.declared.Left.TheVariants as sides
 use Rattle.engine_model.specs.declared.Checked.{Checked}
 use Rattle.engine_model.specs.declared.CheckFault.{CheckFault}
@@ -174,6 +174,7 @@ module _ (r : Run) (nothing : ChangesNothing r.host_tells r.host r.host_after) w
   has_other names t o = record {
     saved = o.saved;
     found = o.runs;
+    set = subst (λ (k : Option Checkpoint). HasSet k) (sym (ap (λ (s : State). cell_of s.cell) (nothing.state t) ∙ o.is)) tt;
     is_saved = ap (λ (s : State). saved_net s.cell) (nothing.state t) ∙ saved_is o.checkpoint r.host.state.cell o.is ∙ o.is_saved;
     is_found = o.is_net;
     all = o.all;

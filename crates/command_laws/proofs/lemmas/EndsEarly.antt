@@ -14,7 +14,7 @@ use Rattle.engine_model.specs.Stations.{Stands, Entry, Within, Before, Settled, 
 use Rattle.engine_model.specs.Exit.{BackExit, Unsettled}
 use Rattle.engine_model.specs.Refusals.{NoCallMade, BackCounts}
 use Rattle.engine_model.specs.Failing.{IsUnbegun}
-use Rattle.engine_model.specs.Faults.{IsOutcome, LeftSays, BackAnswers, BackExact, BackSays, HasTaken, SettlesOnly}
+use Rattle.engine_model.specs.Faults.{IsOutcome, LeftSays, BackAnswers, BackExact, BackSays, HasTaken, SettlesOnly, StillOpen}
 use Rattle.engine_model.specs.declared.ApplyOpts.{ApplyOpts}
 use Rattle.engine_model.specs.declared.Left.{Left}
 use Rattle.engine_model.specs.declared.Left.TheVariants as side
@@ -235,30 +235,31 @@ module _ (r : Run) (p : PolicyData) (opts : ApplyOpts) where
   fault_may (ba.HardwareDiffers names) never = tt
   fault_may ba.OutOfMemory never = tt
 
-  refused_left : (left : Left) → left ≡ side.Pending → LeftSays r.host_tells r.host r.host_after left × (left ≢ side.NotBegun)
-  refused_left side.NotBegun is = absurd (begun_pending is)
-  refused_left side.RolledBack is = absurd (rolled_pending is)
-  refused_left side.Pending is = (tt, λ e. pending_begun e)
+  refused_left : (left : Left) → left ≡ side.Pending → StillOpen r.host_tells r.host_after
+      → LeftSays r.host_tells r.host r.host_after left × (left ≢ side.NotBegun) × (left ≡ side.Pending → StillOpen r.host_tells r.host_after)
+  refused_left side.NotBegun is set = absurd (begun_pending is)
+  refused_left side.RolledBack is set = absurd (rolled_pending is)
+  refused_left side.Pending is set = (tt, (λ e. pending_begun e), λ e. set)
 
   fault_comes : (fault : BackFault) → (fault ≡ ba.NoCheckpoint → ⊥) → MayWant r → Says fault → Counted fault → Comes r Policy (told_fault fault)
   fault_comes ba.NoCheckpoint never wants says counts = absurd (never refl)
   fault_comes (ba.HostFault left) never wants says counts = (says.0, says.1)
-  fault_comes (ba.KernelRefused k n left) never wants says counts = refused_left left says
+  fault_comes (ba.KernelRefused k n left) never wants says counts = refused_left left says.0 says.1
   fault_comes (ba.Damaged area) never wants says counts = λ t. let s = says t in (s.0, record { damaged = s.1; held = inl (inr counts) })
   fault_comes (ba.HardwareDiffers names) never wants says counts = says
   fault_comes ba.OutOfMemory never wants says counts = wants
 
-  fault_tried : (r.honest → r.host_tells) → (fault : BackFault) → Says fault → (r.host_tells → (IsBefore fault → ⊥) → HasTaken r.now (reads r).cell) → Tried r Policy (told_fault fault)
-  fault_tried tells ba.NoCheckpoint says begun = tt
-  fault_tried tells (ba.HostFault side.NotBegun) says begun = tt
-  fault_tried tells (ba.HostFault side.RolledBack) says begun = absurd (says.2 refl)
-  fault_tried tells (ba.HostFault side.Pending) says begun = record { tried = inl (inl (λ t. begun t (λ x. x))); twice = λ honest. inl (begun (tells honest) (λ x. x)) }
-  fault_tried tells (ba.KernelRefused k n side.NotBegun) says begun = tt
-  fault_tried tells (ba.KernelRefused k n side.RolledBack) says begun = absurd (rolled_pending says)
-  fault_tried tells (ba.KernelRefused k n side.Pending) says begun = inl (inl (λ t. begun t (λ x. x)))
-  fault_tried tells (ba.Damaged area) says begun = tt
-  fault_tried tells (ba.HardwareDiffers names) says begun = tt
-  fault_tried tells ba.OutOfMemory says begun = tt
+  fault_tried : (r.honest → r.host_tells) → (fault : BackFault) → Says fault → Counted fault → (r.host_tells → (IsBefore fault → ⊥) → HasTaken r.now (reads r).cell) → Tried r Policy (told_fault fault)
+  fault_tried tells ba.NoCheckpoint says counts begun = tt
+  fault_tried tells (ba.HostFault side.NotBegun) says counts begun = tt
+  fault_tried tells (ba.HostFault side.RolledBack) says counts begun = absurd (says.2 refl)
+  fault_tried tells (ba.HostFault side.Pending) says counts begun = record { tried = inl (inl (λ t. begun t (λ x. x))); twice = λ honest. inl (begun (tells honest) (λ x. x)) }
+  fault_tried tells (ba.KernelRefused k n side.NotBegun) says counts begun = tt
+  fault_tried tells (ba.KernelRefused k n side.RolledBack) says counts begun = absurd (rolled_pending says.0)
+  fault_tried tells (ba.KernelRefused k n side.Pending) says counts begun = inl (inl (λ t. begun t (λ x. x)))
+  fault_tried tells (ba.Damaged area) says counts begun = tt
+  fault_tried tells (ba.HardwareDiffers names) says counts begun = tt
+  fault_tried tells ba.OutOfMemory says counts begun = inr (counts, inr (λ t. inr (inl (λ u. begun u (λ x. x)))))
 
   fault_unbegun : (fault : BackFault) → (IsBefore fault → IsUnbegun r.host_tells r.host r.host_after) → Unbegun r Policy (told_fault fault)
   fault_unbegun ba.NoCheckpoint idle = λ honest calm. unchanged r (idle tt)
@@ -349,7 +350,7 @@ module _ (r : Run) (p : PolicyData) (opts : ApplyOpts) where
           may = fault_may fault never;
           comes = fault_comes fault never wants first.says first.counts;
           counts = settling_counted r.host_tells r.host.kernel r.host_after.kernel fault first.counts;
-          tried = fault_tried goes_on.tells fault first.says first.begun;
+          tried = fault_tried goes_on.tells fault first.says first.counts first.begun;
           told = told;
           goes_on = goes_on;
           looks = tt;

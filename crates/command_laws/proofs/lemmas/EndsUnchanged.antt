@@ -149,7 +149,7 @@ module _ (r : Run) (p : PolicyData) (opts : ApplyOpts) (inputs : Inputs) (may_re
         may = tt;
         comes = wanted;
         counts = inl (quiet_back r done clear mid first none);
-        tried = tt;
+        tried = inr (quiet_back r done clear mid first none, inr (λ t. inr (only_settled r done clear mid first none)));
         told = told;
         goes_on = goes_on;
         looks = tt;

@@ -1,10 +1,11 @@
 -- All that is said of a recovery, from what the engine promises of it.
 use Rattle.std.proofs.Common.{◌≡◌, inl, inr, refl, ap}
-use Rattle.std.specs.Prelude.{◌≢◌, ℕ, Result, Ok, Err, IfOk, IfErr, IsErrOf}
+use Rattle.std.specs.Prelude.{◌≢◌, ℕ, None, Result, Ok, Err, IfOk, IfErr, OnOk, IsErrOf}
+use Rattle.checkpoint_cell.specs.Steps.{Holds}
 use Rattle.checkpoint_cell.specs.Settled.{Standing, standing}
 use Rattle.engine_model.specs.Machine.{recover}
 use Rattle.engine_model.specs.Sound.{Sound}
-use Rattle.engine_model.specs.Answers.{IsBefore}
+use Rattle.engine_model.specs.Answers.{IsBefore, IsClear}
 use Rattle.engine_model.specs.Stations.{Stands, Entry, Only, Kept, at}
 use Rattle.engine_model.specs.Exit.{BackExit}
 use Rattle.engine_model.specs.Refusals.{BackCounts}
@@ -18,7 +19,7 @@ use Rattle.engine_model.specs.declared.BackFault.TheVariants.{NoCheckpoint, Host
 use Rattle.top_model.specs.Said.{said_recovered}
 use Rattle.top_model.specs.Orders.{Inputs, recovering, order_of}
 use Rattle.top_model.specs.Machine.{told, back_cause}
-use Rattle.top_model.specs.Runs.{Run, MayRead, entry, reads, left_at_exit}
+use Rattle.top_model.specs.Runs.{Run, MayRead, entry, reads, reads_after, left_at_exit}
 use Rattle.top_model.specs.Told.{Answer, Told}
 use Rattle.top_model.specs.Causes.{MayWant, MayAnswer, Comes, Expects, ExactlyOf}
 use Rattle.top_model.specs.Tried.{Tried}
@@ -52,11 +53,11 @@ module _ (r : Run) where
   abbrev Answers : Result Recovered BackFault → Type 0
   Answers result = BackAnswers (HasTaken r.now (reads r).cell) (recover r.now (reads r)) r.host r.host_after result
 
-  -- nothing was to be taken back, or it waits, by the machine; or something was
+  -- nothing was to be taken back, or it waits, by the machine; or something was, and no checkpoint stands
   abbrev Done : Result Recovered BackFault → Type 0
   Done (Ok Nothing) = (recover r.now (reads r)).answer ≡ Ok Nothing
   Done (Ok (Waiting deadline)) = (recover r.now (reads r)).answer ≡ Ok (Waiting deadline)
-  Done (Ok Restored) = HasTaken r.now (reads r).cell
+  Done (Ok Restored) = HasTaken r.now (reads r).cell × ((reads_after r).cell ≡ None)
   Done (Err fault) = Unit {0}
 
   abbrev given : Recovered → Result Recovered BackFault
@@ -64,10 +65,10 @@ module _ (r : Run) where
 
   pub done_as : (recovered : Recovered) → (r.host_tells → given recovered ≡ given Nothing → (recover r.now (reads r)).answer ≡ Ok Nothing)
       → (r.host_tells → (deadline : ℕ) → given recovered ≡ given (Waiting deadline) → (recover r.now (reads r)).answer ≡ Ok (Waiting deadline))
-      → (r.host_tells → given recovered ≡ given Restored → HasTaken r.now (reads r).cell) → r.host_tells → Done (Ok recovered)
-  done_as Nothing nothing waiting restored = λ t. nothing t refl
-  done_as (Waiting deadline) nothing waiting restored = λ t. waiting t deadline refl
-  done_as Restored nothing waiting restored = λ t. restored t refl
+      → (r.host_tells → given recovered ≡ given Restored → HasTaken r.now (reads r).cell) → (r.host_tells → IsClear recovered → Holds None r.host_after) → r.host_tells → Done (Ok recovered)
+  done_as Nothing nothing waiting restored cleared = λ t. nothing t refl
+  done_as (Waiting deadline) nothing waiting restored cleared = λ t. waiting t deadline refl
+  done_as Restored nothing waiting restored cleared = λ t. (restored t refl, (cleared t tt).cell)
 
   may : (result : Result Recovered BackFault) → Says result → (IsErrOf result NoCheckpoint → ⊥) → MayAnswer (Ok recovering) (answer_of result)
   may (Ok x) says never = tt
@@ -93,6 +94,10 @@ module _ (r : Run) where
   abbrev Begins : Result Recovered BackFault → Type 0
   Begins result = r.host_tells → IfErr result (λ fault. (IsBefore fault → ⊥) → HasTaken r.now (reads r).cell)
 
+  -- where it is done, what stands is what the machine leaves
+  abbrev StandsSo : Result Recovered BackFault → Type 0
+  StandsSo result = OnOk result (reads_after r ≡ (recover r.now (reads r)).after)
+
   -- where it restored nothing, or failed before it began, the host is as it was
   abbrev Idles : Result Recovered BackFault → Type 0
   Idles result = IfOk result (λ done. done ≢ Restored → IsUnbegun r.host_tells r.host r.host_after)
@@ -101,18 +106,18 @@ module _ (r : Run) where
   Fails result = IfErr result (λ fault. IsBefore fault → IsUnbegun r.host_tells r.host r.host_after)
 
   -- one that restored something gave the saved network
-  tried : (result : Result Recovered BackFault) → (r.host_tells → result ≡ given Restored → GaveSaved r.host_after) → Begins result → Tried r (Ok recovering) (answer_of result)
-  tried (Ok Nothing) gave begun = tt
-  tried (Ok (Waiting deadline)) gave begun = tt
-  tried (Ok Restored) gave begun = λ t. gave t refl
-  tried (Err NoCheckpoint) gave begun = tt
-  tried (Err (HostFault sides.NotBegun)) gave begun = tt
-  tried (Err (HostFault sides.RolledBack)) gave begun = tt
-  tried (Err (HostFault sides.Pending)) gave begun = λ t. begun t (λ never. never)
-  tried (Err (KernelRefused k n side)) gave begun = tt
-  tried (Err (Damaged area)) gave begun = tt
-  tried (Err (HardwareDiffers names)) gave begun = tt
-  tried (Err OutOfMemory) gave begun = tt
+  tried : (result : Result Recovered BackFault) → Says result → (r.host_tells → result ≡ given Restored → GaveSaved r.host_after) → Begins result → Tried r (Ok recovering) (answer_of result)
+  tried (Ok Nothing) says gave begun = tt
+  tried (Ok (Waiting deadline)) says gave begun = tt
+  tried (Ok Restored) says gave begun = λ t. gave t refl
+  tried (Err NoCheckpoint) says gave begun = tt
+  tried (Err (HostFault sides.NotBegun)) says gave begun = tt
+  tried (Err (HostFault sides.RolledBack)) says gave begun = tt
+  tried (Err (HostFault sides.Pending)) says gave begun = λ t. begun t (λ never. never)
+  tried (Err (KernelRefused k n side)) says gave begun = tt
+  tried (Err (Damaged area)) says gave begun = tt
+  tried (Err (HardwareDiffers names)) says gave begun = tt
+  tried (Err OutOfMemory) says gave begun = says
 
   unbegun : (result : Result Recovered BackFault) → Idles result → Fails result → Unbegun r (Ok recovering) (answer_of result)
   unbegun (Ok Nothing) idle before = unchanged r (idle nothing_other)
@@ -127,14 +132,14 @@ module _ (r : Run) where
   unbegun (Err (HardwareDiffers names)) idle before = unchanged r (before tt)
   unbegun (Err OutOfMemory) idle before = tt
 
-  exactly : (result : Result Recovered BackFault) → Says result → BackExact (recover r.now (reads r)).answer result → (IsErrOf result OutOfMemory → MayWant r) → ExactlyOf r (Ok recovering) (answer_of result)
-  exactly (Ok x) says is wants = (ap answer_of is, tt)
-  exactly (Err NoCheckpoint) says is wants = ap answer_of is
-  exactly (Err (HostFault side)) says is wants = says.0
-  exactly (Err (KernelRefused k n side)) says is wants = is
-  exactly (Err (Damaged area)) says is wants = inr (ap answer_of is)
-  exactly (Err (HardwareDiffers names)) says is wants = inr (ap answer_of is)
-  exactly (Err OutOfMemory) says is wants = wants refl
+  exactly : (result : Result Recovered BackFault) → Says result → BackExact (recover r.now (reads r)).answer result → StandsSo result → (IsErrOf result OutOfMemory → MayWant r) → ExactlyOf r (Ok recovering) (answer_of result)
+  exactly (Ok x) says is stands wants = (ap answer_of is, stands)
+  exactly (Err NoCheckpoint) says is stands wants = ap answer_of is
+  exactly (Err (HostFault side)) says is stands wants = says.0
+  exactly (Err (KernelRefused k n side)) says is stands wants = is
+  exactly (Err (Damaged area)) says is stands wants = inr (ap answer_of is)
+  exactly (Err (HardwareDiffers names)) says is stands wants = inr (ap answer_of is)
+  exactly (Err OutOfMemory) says is stands wants = wants refl
 
   expects : (result : Result Recovered BackFault) → Answers result → (IsErrOf result OutOfMemory → MayWant r) → Expects r (Ok recovering) (answer_of result)
   expects (Ok x) is wants = record { answer = ap answer_of is.answer; after = is.after }
@@ -148,7 +153,7 @@ module _ (r : Run) where
   module _ (inputs : Inputs) (may_read : MayRead r inputs) (is : order_of r.in_script inputs r.words ≡ Ok recovering) (result : Result Recovered BackFault) (says : Says result) (counts : Counted result)
       (unmade : IfOk result (λ x. x ≢ Restored → r.host_after.kernel ≡ r.host.kernel)) (gave : r.host_tells → result ≡ given Restored → GaveSaved r.host_after) (done : r.host_tells → Done result)
       (begun : Begins result) (idle : Idles result) (before : Fails result)
-      (exact : r.honest → BackExact (recover r.now (reads r)).answer result)
+      (exact : r.honest → BackExact (recover r.now (reads r)).answer result) (after : r.honest → StandsSo result)
       (answers : r.honest → Sound r.host → Answers result)
       (exits : r.honest → Sound r.host → BackExit (recover r.now (reads r)).after (entry r) (left_at_exit r) result)
       (read_exits : r.honest → Sound r.host → BackExit (recover r.now (reads r)).after (at (reads r)) (Only (standing r.host_after.state)) result)
@@ -165,8 +170,8 @@ module _ (r : Run) where
       may = may result says never;
       comes = comes result says counts done wants;
       counts = recover_counted r.host.kernel r.host_after.kernel result counts unmade;
-      tried = tried result gave begun;
-      exactly = λ honest. exactly result says (exact honest) wants;
+      tried = tried result says gave begun;
+      exactly = λ honest. exactly result says (exact honest) (after honest) wants;
       told = told;
       goes_on = goes_on;
       expects = λ a. expects result (answers a.honest a.sound) wants;

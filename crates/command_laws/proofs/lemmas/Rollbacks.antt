@@ -1,6 +1,6 @@
 -- All that is said of a rollback, from what the engine promises of it.
 use Rattle.std.proofs.Common.{◌≡◌, inl, inr, refl, ap}
-use Rattle.std.specs.Prelude.{⊤, Result, Ok, Err, IfErr, OnOk, IsErrOf}
+use Rattle.std.specs.Prelude.{⊤, None, Result, Ok, Err, IfErr, OnOk, IsErrOf}
 use Rattle.checkpoint_cell.specs.Settled.{Standing, standing}
 use Rattle.engine_model.specs.Machine.{rollback}
 use Rattle.engine_model.specs.Sound.{Sound}
@@ -16,7 +16,7 @@ use Rattle.engine_model.specs.declared.BackFault.TheVariants.{NoCheckpoint, Host
 use Rattle.top_model.specs.Said.{rolled_back}
 use Rattle.top_model.specs.Orders.{Inputs, rolling_back, order_of}
 use Rattle.top_model.specs.Machine.{told, back_cause}
-use Rattle.top_model.specs.Runs.{Run, MayRead, entry, reads, left_at_exit}
+use Rattle.top_model.specs.Runs.{Run, MayRead, entry, reads, reads_after, left_at_exit}
 use Rattle.top_model.specs.Told.{Answer, Told}
 use Rattle.top_model.specs.Causes.{MayWant, MayAnswer, Comes, Expects, ExactlyOf}
 use Rattle.top_model.specs.Tried.{Tried}
@@ -50,9 +50,9 @@ module _ (r : Run) where
   abbrev Answers : Result ⊤ BackFault → Type 0
   Answers result = BackAnswers (HasSet (reads r).cell) (rollback (reads r)) r.host r.host_after result
 
-  -- a checkpoint stood
+  -- a checkpoint stood, and none does
   abbrev Done : Result ⊤ BackFault → Type 0
-  Done (Ok x) = HasSet (reads r).cell
+  Done (Ok x) = HasSet (reads r).cell × ((reads_after r).cell ≡ None)
   Done (Err fault) = Unit {0}
 
   may : (result : Result ⊤ BackFault) → Says result → MayAnswer (Ok rolling_back) (answer_of result)
@@ -77,21 +77,25 @@ module _ (r : Run) where
   abbrev Begins : Result ⊤ BackFault → Type 0
   Begins result = r.host_tells → IfErr result (λ fault. (IsBefore fault → ⊥) → HasSet (reads r).cell)
 
-  -- where it didn't, the host is as it was
+  -- where it is done, what stands is what the machine leaves
+  abbrev StandsSo : Result ⊤ BackFault → Type 0
+  StandsSo result = OnOk result (reads_after r ≡ (rollback (reads r)).after)
+
+  -- where it didn't begin, the host is as it was
   abbrev Idles : Result ⊤ BackFault → Type 0
   Idles result = IfErr result (λ fault. IsBefore fault → IsUnbegun r.host_tells r.host r.host_after)
 
   -- one that is done gave the saved network
-  tried : (result : Result ⊤ BackFault) → (r.host_tells → OnOk result (GaveSaved r.host_after)) → Begins result → Tried r (Ok rolling_back) (answer_of result)
-  tried (Ok x) gave begun = gave
-  tried (Err NoCheckpoint) gave begun = tt
-  tried (Err (HostFault sides.NotBegun)) gave begun = tt
-  tried (Err (HostFault sides.RolledBack)) gave begun = tt
-  tried (Err (HostFault sides.Pending)) gave begun = λ t. begun t (λ never. never)
-  tried (Err (KernelRefused k n side)) gave begun = tt
-  tried (Err (Damaged area)) gave begun = tt
-  tried (Err (HardwareDiffers names)) gave begun = tt
-  tried (Err OutOfMemory) gave begun = tt
+  tried : (result : Result ⊤ BackFault) → Says result → (r.host_tells → OnOk result (GaveSaved r.host_after)) → Begins result → Tried r (Ok rolling_back) (answer_of result)
+  tried (Ok x) says gave begun = gave
+  tried (Err NoCheckpoint) says gave begun = tt
+  tried (Err (HostFault sides.NotBegun)) says gave begun = tt
+  tried (Err (HostFault sides.RolledBack)) says gave begun = tt
+  tried (Err (HostFault sides.Pending)) says gave begun = λ t. begun t (λ never. never)
+  tried (Err (KernelRefused k n side)) says gave begun = tt
+  tried (Err (Damaged area)) says gave begun = tt
+  tried (Err (HardwareDiffers names)) says gave begun = tt
+  tried (Err OutOfMemory) says gave begun = says
 
   unbegun : (result : Result ⊤ BackFault) → Idles result → Unbegun r (Ok rolling_back) (answer_of result)
   unbegun (Ok x) idle = tt
@@ -104,14 +108,14 @@ module _ (r : Run) where
   unbegun (Err (HardwareDiffers names)) idle = unchanged r (idle tt)
   unbegun (Err OutOfMemory) idle = tt
 
-  exactly : (result : Result ⊤ BackFault) → Says result → BackExact (rollback (reads r)).answer result → (IsErrOf result OutOfMemory → MayWant r) → ExactlyOf r (Ok rolling_back) (answer_of result)
-  exactly (Ok x) says is wants = (ap answer_of is, tt)
-  exactly (Err NoCheckpoint) says is wants = ap answer_of is
-  exactly (Err (HostFault side)) says is wants = says.0
-  exactly (Err (KernelRefused k n side)) says is wants = is
-  exactly (Err (Damaged area)) says is wants = inr (ap answer_of is)
-  exactly (Err (HardwareDiffers names)) says is wants = inr (ap answer_of is)
-  exactly (Err OutOfMemory) says is wants = wants refl
+  exactly : (result : Result ⊤ BackFault) → Says result → BackExact (rollback (reads r)).answer result → StandsSo result → (IsErrOf result OutOfMemory → MayWant r) → ExactlyOf r (Ok rolling_back) (answer_of result)
+  exactly (Ok x) says is stands wants = (ap answer_of is, stands)
+  exactly (Err NoCheckpoint) says is stands wants = ap answer_of is
+  exactly (Err (HostFault side)) says is stands wants = says.0
+  exactly (Err (KernelRefused k n side)) says is stands wants = is
+  exactly (Err (Damaged area)) says is stands wants = inr (ap answer_of is)
+  exactly (Err (HardwareDiffers names)) says is stands wants = inr (ap answer_of is)
+  exactly (Err OutOfMemory) says is stands wants = wants refl
 
   expects : (result : Result ⊤ BackFault) → Answers result → (IsErrOf result OutOfMemory → MayWant r) → Expects r (Ok rolling_back) (answer_of result)
   expects (Ok x) is wants = record { answer = ap answer_of is.answer; after = is.after }
@@ -124,7 +128,7 @@ module _ (r : Run) where
 
   module _ (inputs : Inputs) (may_read : MayRead r inputs) (is : order_of r.in_script inputs r.words ≡ Ok rolling_back) (result : Result ⊤ BackFault) (says : Says result) (counts : Counted result)
       (gave : r.host_tells → OnOk result (GaveSaved r.host_after)) (done : r.host_tells → Done result) (begun : Begins result) (idle : Idles result)
-      (exact : r.honest → BackExact (rollback (reads r)).answer result)
+      (exact : r.honest → BackExact (rollback (reads r)).answer result) (after : r.honest → StandsSo result)
       (answers : r.honest → Sound r.host → Answers result)
       (exits : r.honest → Sound r.host → BackExit (rollback (reads r)).after (entry r) (left_at_exit r) result)
       (read_exits : r.honest → Sound r.host → BackExit (rollback (reads r)).after (at (reads r)) (Only (standing r.host_after.state)) result)
@@ -141,8 +145,8 @@ module _ (r : Run) where
       may = may result says;
       comes = comes result says counts done wants;
       counts = rollback_counted r.host.kernel r.host_after.kernel result counts;
-      tried = tried result gave begun;
-      exactly = λ honest. exactly result says (exact honest) wants;
+      tried = tried result says gave begun;
+      exactly = λ honest. exactly result says (exact honest) (after honest) wants;
       told = told;
       goes_on = goes_on;
       expects = λ a. expects result (answers a.honest a.sound) wants;

@@ -11,6 +11,7 @@ use Rattle.host_core.specs.HostView.{NoneRefused, IsLawfulHost}
 use Rattle.host_core.proofs.lemmas.Moments.{stays}
 use Rattle.checkpoint_cell.specs.Cell.{Checkpoint, applying as applying_cell}
 use Rattle.checkpoint_cell.specs.Settled.{Standing, standing, restored_to}
+use Rattle.engine_model.specs.Faults.{Starves}
 use Rattle.engine_model.specs.Stations.{Stands, Entry, Near, Within, Before, Only, at}
 use Rattle.engine_model.specs.declared.ApplyOpts.{ApplyOpts}
 use Rattle.engine_model.proofs.lemmas.Leading.{kept_stays, near_wider}
@@ -292,6 +293,9 @@ counts_unread r (Ok (making links)) = inl refl
 counts_unread r (Ok (generating devices first second)) = inl refl
 counts_unread r (Err refusal) = inl refl
 
+starved_still : (r : Run) → Starves r.host_tells r.now r.host.faults r.host.state r.host.kernel r.host
+starved_still r = inr (none_refused r, inr (λ t. inr (inr (inl refl))))
+
 -- nothing was tried
 tried_memory : (r : Run) (order : Result Order Cause) → Tried (still r) order (Err OutOfMemory)
 tried_memory r (Ok (showing only json)) = tt
@@ -299,11 +303,11 @@ tried_memory r (Ok (planning doc in_batch)) = tt
 tried_memory r (Ok (evaluating p)) = tt
 tried_memory r (Ok (planning_policy p in_batch)) = tt
 tried_memory r (Ok (simulating calls)) = tt
-tried_memory r (Ok (applying doc how)) = tt
-tried_memory r (Ok (applying_policy p how)) = tt
+tried_memory r (Ok (applying doc how)) = starved_still r
+tried_memory r (Ok (applying_policy p how)) = starved_still r
 tried_memory r (Ok committing) = tt
-tried_memory r (Ok rolling_back) = tt
-tried_memory r (Ok recovering) = tt
+tried_memory r (Ok rolling_back) = λ t. inl refl
+tried_memory r (Ok recovering) = λ t. inl refl
 tried_memory r (Ok checking) = tt
 tried_memory r (Ok (making links)) = tt
 tried_memory r (Ok (generating devices first second)) = tt

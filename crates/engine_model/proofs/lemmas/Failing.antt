@@ -1,11 +1,12 @@
 -- Faults of restorings, over two steps, and what follows of each.
-use Rattle.std.proofs.Common.{◌≡◌, ◌≤◌, ◌∙◌, inl, inr, ℕ, subst, Err}
+use Rattle.std.proofs.Common.{◌≡◌, ◌⊎◌, ◌≤◌, ◌∙◌, inl, inr, ℕ, sym, subst, Err}
 use Rattle.host_core.specs.Faults.{Rose}
 use Rattle.host_core.specs.HostView.{State, HostView, WasRefused, NoneRefused, Untouched}
 use Rattle.host_core.proofs.lemmas.Counts.{rose_after}
 use Rattle.engine_model.specs.Refusals.{NoCallMade, FewRefused, BackCounts}
 use Rattle.engine_model.specs.Answers.{IsBefore}
-use Rattle.engine_model.specs.Faults.{IsDamaged}
+use Rattle.checkpoint_cell.specs.Cell.{cell_of}
+use Rattle.engine_model.specs.Faults.{IsDamaged, HasOpen, StillOpen}
 use Rattle.engine_model.specs.Failing.{IsUnbegun, Fails}
 use Rattle.engine_model.specs.declared.answers.Left.{Left}
 use Rattle.engine_model.specs.declared.answers.Left.TheVariants.{NotBegun, RolledBack, Pending}
@@ -30,6 +31,18 @@ unbegun_on tells a b c one two = record {
 pub unbegun_quiet : (tells : Type 0) (a b : HostView) → IsUnbegun tells a b → NoneRefused a.kernel b.kernel
 unbegun_quiet tells a b one = unmade_quiet a.kernel b.kernel one.unmade
 
+-- a change that is being made still is where the host reads as before
+pub open_same : (a b : HostView) → b.state ≡ a.state → HasOpen (cell_of a.state.cell) → HasOpen (cell_of b.state.cell)
+open_same a b same stands = subst (λ (s : State). HasOpen (cell_of s.cell)) (sym same) stands
+
+pub open_on : (a b : HostView) → (b.state ≡ a.state) ⊎ HasOpen (cell_of b.state.cell) → HasOpen (cell_of a.state.cell) → HasOpen (cell_of b.state.cell)
+open_on a b (inl same) stands = open_same a b same stands
+open_on a b (inr still) stands = still
+
+wants_after : (a b c : HostView) → b.state ≡ a.state → (c.state ≡ b.state) ⊎ HasOpen (cell_of c.state.cell) → (c.state ≡ a.state) ⊎ HasOpen (cell_of c.state.cell)
+wants_after a b c same (inl is) = inl (is ∙ same)
+wants_after a b c same (inr stands) = inr stands
+
 module _ (tells : Type 0) (a b c : HostView) (later : a.faults ≤ b.faults) where
   refused_on : (k n : ℕ) → NoneRefused a.kernel b.kernel → WasRefused k n b.kernel c.kernel → WasRefused k n a.kernel c.kernel
   refused_on k n one two = refused_after k n a.kernel b.kernel c.kernel one two
@@ -40,21 +53,21 @@ module _ (tells : Type 0) (a b c : HostView) (later : a.faults ≤ b.faults) whe
   fails_after one (HostFault NotBegun) f = (rose_after a.faults b.faults c.faults later f.0, unbegun_on tells a b c one f.1)
   fails_after one (HostFault RolledBack) f = absurd f
   fails_after one (HostFault Pending) f = (rose_after a.faults b.faults c.faults later f.0, quiet_on a.kernel b.kernel c.kernel (unbegun_quiet tells a b one) f.1)
-  fails_after one (KernelRefused k n left) f = (f.0, refused_on k n (unbegun_quiet tells a b one) f.1, once_after a.kernel b.kernel c.kernel (unbegun_quiet tells a b one) f.2)
+  fails_after one (KernelRefused k n left) f = (f.0, refused_on k n (unbegun_quiet tells a b one) f.1, once_after a.kernel b.kernel c.kernel (unbegun_quiet tells a b one) f.2, f.3)
   fails_after one (Damaged area) f = (unbegun_on tells a b c one f.0, λ told. subst (λ (s : State). IsDamaged area s) (one.same told) (f.1 told))
   fails_after one (HardwareDiffers names) f = (unbegun_on tells a b c one f.0, f.1)
-  fails_after one OutOfMemory f = quiet_on a.kernel b.kernel c.kernel (unbegun_quiet tells a b one) f
+  fails_after one OutOfMemory f = (quiet_on a.kernel b.kernel c.kernel (unbegun_quiet tells a b one) f.0, λ told. wants_after a b c (one.same told) (f.1 told))
 
-  -- one that tells that something was begun, before which no call was made
-  pub fails_late : NoCallMade a.kernel b.kernel → (fault : BackFault) → (IsBefore fault → ⊥) → Fails tells b c fault → Fails tells a c fault
-  fails_late one NoCheckpoint begun f = absurd f
-  fails_late one (HostFault NotBegun) begun f = absurd (begun tt)
-  fails_late one (HostFault RolledBack) begun f = absurd f
-  fails_late one (HostFault Pending) begun f = (rose_after a.faults b.faults c.faults later f.0, quiet_on a.kernel b.kernel c.kernel (unmade_quiet a.kernel b.kernel one) f.1)
-  fails_late one (KernelRefused k n left) begun f = (f.0, refused_on k n (unmade_quiet a.kernel b.kernel one) f.1, once_after a.kernel b.kernel c.kernel (unmade_quiet a.kernel b.kernel one) f.2)
-  fails_late one (Damaged area) begun f = absurd (begun tt)
-  fails_late one (HardwareDiffers names) begun f = absurd (begun tt)
-  fails_late one OutOfMemory begun f = quiet_on a.kernel b.kernel c.kernel (unmade_quiet a.kernel b.kernel one) f
+  -- one that tells that something was begun, before which the change was taken up and no call was made
+  pub fails_late : NoCallMade a.kernel b.kernel → StillOpen tells b → (fault : BackFault) → (IsBefore fault → ⊥) → Fails tells b c fault → Fails tells a c fault
+  fails_late one stands NoCheckpoint begun f = absurd f
+  fails_late one stands (HostFault NotBegun) begun f = absurd (begun tt)
+  fails_late one stands (HostFault RolledBack) begun f = absurd f
+  fails_late one stands (HostFault Pending) begun f = (rose_after a.faults b.faults c.faults later f.0, quiet_on a.kernel b.kernel c.kernel (unmade_quiet a.kernel b.kernel one) f.1)
+  fails_late one stands (KernelRefused k n left) begun f = (f.0, refused_on k n (unmade_quiet a.kernel b.kernel one) f.1, once_after a.kernel b.kernel c.kernel (unmade_quiet a.kernel b.kernel one) f.2, f.3)
+  fails_late one stands (Damaged area) begun f = absurd (begun tt)
+  fails_late one stands (HardwareDiffers names) begun f = absurd (begun tt)
+  fails_late one stands OutOfMemory begun f = (quiet_on a.kernel b.kernel c.kernel (unmade_quiet a.kernel b.kernel one) f.0, λ told. inr (open_on b c (f.1 told) (stands told)))
 
 module _ (tells : Type 0) (a b : HostView) where
   -- nothing was begun where the fault says so
@@ -81,7 +94,7 @@ module _ (tells : Type 0) (a b : HostView) where
   fails_counts A (KernelRefused k n left) f = (f.1, f.2)
   fails_counts A (Damaged area) f = f.0.unmade
   fails_counts A (HardwareDiffers names) f = f.0.unmade
-  fails_counts A OutOfMemory f = f
+  fails_counts A OutOfMemory f = f.0
 
   -- at most one call was refused, and none unless the fault tells of it
   pub fails_few : (fault : BackFault) → Fails tells a b fault → FewRefused a.kernel b.kernel
@@ -92,7 +105,7 @@ module _ (tells : Type 0) (a b : HostView) where
   fails_few (KernelRefused k n left) f = inr f.2
   fails_few (Damaged area) f = inl (unbegun_quiet tells a b f.0)
   fails_few (HardwareDiffers names) f = inl (unbegun_quiet tells a b f.0)
-  fails_few OutOfMemory f = inl f
+  fails_few OutOfMemory f = inl f.0
 
   -- where it tells of a host fault, that count rose and no call was refused
   pub fails_rose : (left : Left) → Fails tells a b (HostFault left) → Rose a.faults b.faults

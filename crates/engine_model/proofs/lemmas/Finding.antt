@@ -3,8 +3,9 @@ use Rattle.std.proofs.Common.{◌≡◌, ◌∙◌, ℕ, Bool, true, false, List
 use Rattle.std.specs.Prelude.{⊤, if◌then◌else◌, IfErr, IsSome}
 use Rattle.net_model.specs.NetData.{NetData}
 use Rattle.host_core.specs.HostView.{State}
-use Rattle.checkpoint_cell.specs.Cell.{Checkpoint, cell_of}
-use Rattle.checkpoint_cell.specs.Settled.{Standing, standing, taken_back}
+use Rattle.checkpoint_cell.specs.Cell.{Checkpoint, cell_of, saved_net}
+use Rattle.checkpoint_cell.specs.Settled.{Standing, standing, taken_back, restored_to}
+use Rattle.checkpoint_cell.proofs.lemmas.Saved.{saved_is}
 use Rattle.engine_model.specs.Answers.{IsHealthy, IsTaken, Finds}
 use Rattle.engine_model.specs.Differing.{differing}
 use Rattle.engine_model.specs.Faults.{BackExact}
@@ -74,6 +75,16 @@ module _ (s : State) where
   rolled_exact None is some finds = let e : false ≡ true = some in absurd (cc)
   rolled_exact (Some c) is some finds =
       ap (λ (k : Option Checkpoint). (rollback_cell (standing s) k).answer) is ∙ ap (λ (r : Found). (restored_as tt (standing s) r).answer) (finds c is).1
+
+  -- and where the saved network stands then, and no checkpoint, it leaves what the machine does
+  pub rolled_after : (new : State) (cell : Option Checkpoint) → cell_of s.cell ≡ cell → IsSome cell → ((c : Checkpoint) → cell_of s.cell ≡ Some c → (saved : NetData) × (saved_on c.net s.net ≡ Ok saved))
+      → cell_of new.cell ≡ None → new.net ≡ saved_net new.cell → saved_net new.cell ≡ saved_net s.cell → standing new ≡ (rollback (standing s)).after
+  rolled_after new None is some finds none net same = let e : false ≡ true = some in absurd (cc)
+  rolled_after new (Some c) is some finds none net same =
+      let found = finds c is in
+      let saved : new.net ≡ Some found.0 = net ∙ same ∙ saved_is c s.cell is ∙ found_saved c.net s.net found.0 found.1 in
+      let stands : standing new ≡ restored_to found.0 = λ i. record { net = saved i; cell = none i } in
+      stands ∙ sym (ap (λ (k : Option Checkpoint). (rollback_cell (standing s) k).after) is ∙ ap (λ (r : Found). (restored_as tt (standing s) r).after) found.1)
 
   -- a rollback's fault of what stands is the machine's
   pub rollback_exact : (cell : Option Checkpoint) → cell_of s.cell ≡ cell → (B : Type 0) (fault : BackFault) → ((c : Checkpoint) → cell_of s.cell ≡ Some c → Finds {A = B} (saved_on c.net s.net) (Err fault)) → (cell_of s.cell ≡ None → fault ≡ ba.HostFault NotBegun)

@@ -17,7 +17,7 @@ use Rattle.engine_model.specs.Answers.{IsClear}
 use Rattle.engine_model.specs.Stations.{Stands, Near, Within, Only, Before, Settled, Either, Kept, Entry, entry_of}
 use Rattle.engine_model.specs.Exit.{Unsettled, Marked, OnWay, InDoubt as IsInDoubt, ApplyExit}
 use Rattle.engine_model.specs.Refusals.{NoCallMade, ApplyCounts}
-use Rattle.engine_model.specs.Faults.{IsOutcome, IsMade, LeftSays, HasTaken, HadDamaged, GaveBack, SettlesOnly, StandsDamaged, ApplySays, ApplyExact, ApplyAnswers, Tries, FailsTwice, Dumps, Backs}
+use Rattle.engine_model.specs.Faults.{IsOutcome, IsMade, LeftSays, HasTaken, HadDamaged, GaveBack, SettlesOnly, StandsDamaged, Starves, ApplySays, ApplyExact, ApplyAnswers, Tries, FailsTwice, Dumps, Backs}
 use Rattle.engine_model.specs.declared.Left.{Left}
 use Rattle.engine_model.specs.declared.Left.TheVariants.{NotBegun, RolledBack, Pending}
 use Rattle.engine_model.specs.declared.Applied.{Applied}
@@ -162,6 +162,14 @@ module _ (tells : Type 0) (a : Asked) (back : Left) (old mid new : HostView) (si
     stands_first : (area : ℕ) → StandsDamaged tells area a.now mid.state mid.kernel new → StandsDamaged tells area a.now old.state old.kernel new
     stands_first area is = record { damaged = is.damaged; held = held_first is.held }
 
+    back_first : Rose mid.faults new.faults ⊎ (tells → GaveBack tells a.now mid.state mid.kernel new) → Rose old.faults new.faults ⊎ (tells → GaveBack tells a.now old.state old.kernel new)
+    back_first (inl risen) = inl (rose risen)
+    back_first (inr gave) = inr (λ told. gave_first (gave told))
+
+    starved : Starves tells a.now mid.faults mid.state mid.kernel new → Starves tells a.now old.faults old.state old.kernel new
+    starved (inl set) = inl set
+    starved (inr (calm, how)) = inr (quiet_on old.kernel mid.kernel new.kernel quiet calm, back_first how)
+
     pub says : (result : Result Applied ApplyFault) → ApplySays tells a mid new result → ((area : ℕ) → result ≡ Err (fa.Damaged area) → tells → HadDamaged area old new) → ApplySays tells a old new (told_as back result)
     says (Ok done) is damaged = is
     says (Err (fa.Pending until)) is damaged = λ told. absurd (none_waits a (standing mid.state) until (none told) (is told).answer)
@@ -170,11 +178,11 @@ module _ (tells : Type 0) (a : Asked) (back : Left) (old mid new : HostView) (si
     says (Err (fa.HostFault RolledBack)) is damaged = (rose is.0, is.1, λ rolled told. gave_first (is.2 rolled told))
     says (Err (fa.HostFault Pending)) is damaged = (rose is.0, tt, λ rolled told. gave_first (is.2 rolled told))
     says (Err fa.InDoubt) is damaged = (rose is.0, is.1, is.2)
-    says (Err (fa.KernelRefused k n left)) is damaged = (refused_left left is.1 is.0, is.1, is.2)
+    says (Err (fa.KernelRefused k n left)) is damaged = (refused_left left is.1 is.0, is.1, is.2, is.3)
     says (Err (fa.NotVerified found left)) is damaged = is
     says (Err (fa.Damaged area)) is damaged = λ told. (damaged area refl told, stands_first area (is told).1)
     says (Err (fa.HardwareDiffers names)) is damaged = is
-    says (Err fa.OutOfMemory) is damaged = tt
+    says (Err fa.OutOfMemory) is damaged = starved is
 
     begun_counted : (left : Left) → left ≡ back → NoCallMade mid.kernel new.kernel → PolicyCounted tells old.kernel new.kernel (Err (apply_cause (fa.HostFault left)))
     begun_counted NotBegun is made = unmade_on old.kernel mid.kernel new.kernel (unmade (sym is)) made

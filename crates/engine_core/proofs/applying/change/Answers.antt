@@ -22,7 +22,7 @@ use Rattle.engine_core.specs.Attempts.{done}
 use Rattle.engine_core.proofs.Exacts.{none_exact, refused_exact, made_exact}
 use Rattle.engine_model.proofs.lemmas.Refusals.{quiet_same, quiet_dumped, quiet_on}
 use Rattle.engine_core.specs.Saying.{Start, Follows, SettledBy}
-use Rattle.engine_core.proofs.Says.{follows_on, since, since_keeps, left_says, left_settled}
+use Rattle.engine_core.proofs.Says.{follows_on, since, since_keeps, left_says, left_settled, starved_before}
 use Rattle.host_core.proofs.lemmas.Counts.{rose_after}
 use Rattle.engine_core.proofs.Counts.{left_counts}
 use Rattle.host_core.specs.HostView.{Kernel, NoneRefused}
@@ -295,7 +295,11 @@ returns-in-Err-OutOfMemory g c = record {
   exact = λ honest. tt;
   calm = λ honest t le from to is merges calm. tt;
   value = tt;
-  says = λ start follows settled was. tt;
+  says = λ start follows settled was.
+      let old = g.H.Host.told c.args.host.now in
+      let mid = g.H.Host.told c.dump.new.self in
+      starved_before g.H.Host.tells c.args.now start mid (quiet_on start.kernel old.kernel mid.kernel follows.quiet (quiet_same old.kernel mid.kernel c.in-Err-OutOfMemory.ensures.kernel))
+      (left_settled g.H.Host.tells c.args.now start old mid settled (inl c.in-Err-OutOfMemory.ensures.kernel));
   counts = λ start follows unmade.
       let old = (g.H.Host.told c.args.host.now).kernel in
       let mid = (g.H.Host.told c.dump.new.self).kernel in
@@ -359,7 +363,9 @@ returns-in-Err-OutOfMemory-merge g c = record {
   exact = λ honest. tt;
   calm = λ honest t le from to is merges calm. tt;
   value = tt;
-  says = λ start follows settled was. tt;
+  says = λ start follows settled was.
+      let at = (goal.at.returns-in-Err-OutOfMemory-merge g c).In-Ok in
+      starved_before g.H.Host.tells c.args.now start (g.H.Host.told c.dump.new.self) (dumped_quiet g at start follows) (dumped_settled g at start settled);
   counts = λ start follows unmade. inl (dumped_quiet g (goal.at.returns-in-Err-OutOfMemory-merge g c).In-Ok start follows);
   idle = tt;
   intact = λ honest calm. tt;
@@ -378,7 +384,9 @@ returns-in-Err g c = record {
   exact = λ honest. tt;
   calm = λ honest t le from to is merges calm. tt;
   value = tt;
-  says = λ start follows settled was. tt;
+  says = λ start follows settled was.
+      let at = (goal.at.returns-in-Err g c).In-Ok in
+      starved_before g.H.Host.tells c.args.now start (g.H.Host.told c.dump.new.self) (dumped_quiet g at start follows) (dumped_settled g at start settled);
   counts = λ start follows unmade. inl (dumped_quiet g (goal.at.returns-in-Err g c).In-Ok start follows);
   idle = tt;
   intact = λ honest calm. tt;

@@ -61,7 +61,7 @@ returns-in-Ok-clause-says g c = λ doc opts made start faults moment why compare
     let new = g.H.Host.told c.go_back.new.host in
     subst (λ (a : ApplyFault). Said g.H.Host.tells (asked doc opts made) start new (Err a)) (sym c.taken_back.ensures)
     (taken_says g.H.Host.tells doc opts made start old new faults moment c.go_back.ensures.bare c.args.missed why compared c.go_back.ensures.later c.go_back.ensures.moves (λ tells. (c.in-Ok.ensures.cleared tells).cell) c.in-Ok.ensures.saved
-    (returned g.H.Host.tells old new c.in-Ok.field-0 c.in-Ok.ensures.gave c.in-Ok.ensures.empty c.in-Ok.ensures.idle) settled)
+    (returned g.H.Host.tells old new c.in-Ok.field-0 c.in-Ok.ensures.gave c.in-Ok.ensures.empty c.in-Ok.ensures.idle) settled c.in-Ok.ensures.quiet)
 
 pub returns-in-Err-clause-says : goal.returns-in-Err-clause-says
 returns-in-Err-clause-says g c = λ doc opts made start faults moment why compared settled.
@@ -69,7 +69,7 @@ returns-in-Err-clause-says g c = λ doc opts made start faults moment why compar
     let new = g.H.Host.told c.go_back.new.host in
     subst (λ (a : ApplyFault). Said g.H.Host.tells (asked doc opts made) start new (Err a)) (sym c.stopped.ensures)
     (stopped_says g.H.Host.tells doc opts made start old new faults moment c.go_back.ensures.bare (g.met.H.Host.lawful c.args.host.now).stops (g.met.H.Host.lawful c.args.host.now).reads c.args.missed c.in-Err.fault why c.go_back.ensures.moves
-    c.in-Err.ensures.fails c.in-Err.ensures.unset)
+    c.in-Err.ensures.fails c.in-Err.ensures.unset c.go_back.ensures.later)
 
 pub returns-in-Ok-clause-counts : goal.returns-in-Ok-clause-counts
 returns-in-Ok-clause-counts g c = λ doc start why.

@@ -137,7 +137,8 @@ returns-in-Err-clause-says g c =
     let old = g.H.Host.told c.args.host.now in
     let new = g.H.Host.told c.take_back.new.host in
     subst (λ (a : ApplyFault). ApplySays g.H.Host.tells (asked c.args.doc.now c.args.opts.now c.args.now) old new (Err a)) (sym c.unsettled.ensures)
-    (unsettled_says g.H.Host.tells (asked c.args.doc.now c.args.opts.now c.args.now) old new (g.met.H.Host.lawful c.args.host.now).stops (g.met.H.Host.lawful c.args.host.now).reads c.in-Err.fault c.in-Err.ensures.fails)
+    (unsettled_says g.H.Host.tells (asked c.args.doc.now c.args.opts.now c.args.now) old new (g.met.H.Host.lawful c.args.host.now).stops (g.met.H.Host.lawful c.args.host.now).reads c.in-Err.fault c.in-Err.ensures.fails
+    (λ is tells. has_taken c.args.now (cell_of old.state.cell) (c.in-Err.ensures.memory tells (ap (λ e. Err e) is))))
 
 -- ---- what is left where nothing is begun
 

@@ -10,11 +10,11 @@ use Rattle.engine_model.proofs.lemmas.Leading.{run_kept, cell_kept, kept_on, end
 use Rattle.engine_model.proofs.lemmas.Restores.{held, ends_held}
 use Rattle.engine_core.proofs.Attempts.{putting, filled}
 use Rattle.host_core.specs.HostView.{Kernel, NoneRefused}
-use Rattle.engine_core.specs.Saying.{Start, Follows}
+use Rattle.engine_core.specs.Saying.{Start, Follows, IsOpen}
 use Rattle.engine_core.proofs.Calms.{calm_on, calm_runs}
 use Rattle.engine_model.proofs.lemmas.Refusals.{quiet_same, quiet_on, refused_after, once_after}
 use Rattle.host_core.proofs.lemmas.Counts.{rose_after}
-use Rattle.engine_core.proofs.Says.{set_as}
+use Rattle.engine_core.proofs.Says.{open_as}
 use Rattle.engine_core.proofs.Apart.{later_on, done_failed, failed_differs, refused_differs, memory_differs, refused_failed, memory_failed}
 use Rattle.engine_core.proofs.attempting.begin.Goals as goal
 use Rattle.engine_core.proofs.attempting.begin.Goals.{After-put, After-run}
@@ -43,6 +43,9 @@ ran g c honest sound ends =
 
 held_cell : (g : _) (c : After-run g) → g.H.Host.tells → cell_of (g.H.Host.told c.run.new.host).state.cell ≡ Some (applying c.args.made c.args.deadline c.args.from.now)
 held_cell g c tells = ap cell_of (c.run.ensures.cell tells) ∙ (c.in-Ok.ensures.put tells).cell
+
+is_open : (g : _) (c : After-run g) → g.H.Host.tells → IsOpen (g.H.Host.told c.run.new.host)
+is_open g c tells = open_as (g.H.Host.told c.run.new.host) c.args.made c.args.deadline c.args.from.now (held_cell g c tells)
 
 unrefused : (g : _) (c : After-put g) → NoneRefused (g.H.Host.told c.args.host.now).kernel (g.H.Host.told c.put.new.host).kernel
 unrefused g c = quiet_same (g.H.Host.told c.args.host.now).kernel (g.H.Host.told c.put.new.host).kernel c.put.ensures.kernel.kernel
@@ -95,7 +98,10 @@ returns-in-Err-OutOfMemory g c =
       fault = λ is. absurd (memory_failed is);
       fresh = λ tells. tt;
       unset = λ tells none. (c.put.ensures.kernel.net tells, c.put.ensures.kernel.kernel);
-      says = λ doc start follows calls. since_start g at start follows;
+      says = λ doc start follows calls. (
+        since_start g at start follows,
+        λ tells. inl (ap cell_of ((c.in-Err-OutOfMemory.ensures.memory (ap (λ e. Err e) c.in-Err-OutOfMemory.field-0-is)).cell tells) ∙ (c.requires.none tells).cell),
+      );
       quiet = tt;
       compared = λ found is. memory_differs found is;
       moment = c.put.ensures.stops_net.later;
@@ -123,7 +129,7 @@ returns-in-Err-Refused g c =
           let quiet = since_start g (goal.at.After-run g at).After-put start follows in (
             refused_after _ _ start.kernel mid new quiet (c.in-Err-Refused.ensures.refused _ _ refused (ap (λ (k : Kernel). k.calls) c.put.ensures.kernel.kernel ∙ calls)),
             once_after start.kernel mid new quiet (c.in-Err-Refused.ensures.once _ _ refused),
-            λ tells. set_as (g.H.Host.told c.run.new.host) (applying c.args.made c.args.deadline c.args.from.now) (held_cell g at tells),
+            λ tells. is_open g at tells,
           );
       quiet = tt;
       compared = λ found is. refused_differs _ _ found is;
@@ -171,7 +177,10 @@ returns-in-Err-OutOfMemory-run g c =
       fault = λ is. absurd (memory_failed is);
       fresh = λ tells. tt;
       unset = λ tells none. absurd (never_unset g at tells none);
-      says = λ doc start follows calls. quiet_on start.kernel mid new (since_start g (goal.at.After-run g at).After-put start follows) (c.in-Err-OutOfMemory-run.ensures.quiet (λ k n is. cc));
+      says = λ doc start follows calls. (
+        quiet_on start.kernel mid new (since_start g (goal.at.After-run g at).After-put start follows) (c.in-Err-OutOfMemory-run.ensures.quiet (λ k n is. cc)),
+        λ tells. inr (is_open g at tells),
+      );
       quiet = tt;
       compared = λ found is. memory_differs found is;
       moment = moment g at;

@@ -5,7 +5,7 @@ use Rattle.engine_core.specs.Attempts.{IsOnWay}
 use Rattle.engine_core.proofs.Calms.{stays_nets}
 use Rattle.engine_model.proofs.lemmas.Refusals.{quiet_same, quiet_on}
 use Rattle.host_core.proofs.lemmas.Counts.{rose_after}
-use Rattle.engine_core.proofs.Says.{set_as}
+use Rattle.engine_core.proofs.Says.{open_as}
 use Rattle.engine_model.proofs.lemmas.Leading.{kept_stays, kept_on, ends_stays, sound_stays}
 use Rattle.engine_model.proofs.lemmas.Restores.{held_stays}
 use Rattle.engine_core.proofs.attempting.seal.Goals as goal
@@ -53,7 +53,7 @@ returns-in-Err-mark-clause-kept g c = λ honest sound made deadline from holds e
 
 pub returns-in-Err-clause-says : goal.returns-in-Err-clause-says
 returns-in-Err-clause-says g c = λ doc start from follows merges saved.
-    c.in-Err.ensures.says doc start from follows merges saved (λ tells. let was = c.requires tells in set_as (g.H.Host.told c.args.host.now) (applying was.0 was.1 was.2) was.3.cell)
+    c.in-Err.ensures.says doc start from follows merges saved (λ tells. let was = c.requires tells in open_as (g.H.Host.told c.args.host.now) was.0 was.1 was.2 was.3.cell)
 
 pub returns-in-Err-mark-clause-says : goal.returns-in-Err-mark-clause-says
 returns-in-Err-mark-clause-says g c = λ doc start from follows merges saved.

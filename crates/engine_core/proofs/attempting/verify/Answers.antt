@@ -1,10 +1,11 @@
-use Rattle.std.proofs.Common.{◌≡◌, ◌∙◌, Some, None, Err, ap, sym, refl, rules}
+use Rattle.std.proofs.Common.{◌≡◌, ◌∙◌, inr, Some, None, Err, ap, sym, refl, rules}
 use Rattle.std.proofs.Math.Nat.{le_refl}
 use Rattle.std.proofs.lemmas.Bool.{true≢false, false≢true}
 use Rattle.net_model.specs.NetData.{NetData}
 use Rattle.host_core.specs.HostView.{Kernel, NoneRefused}
 use Rattle.host_core.proofs.lemmas.Counts.{rose_after}
 use Rattle.host_core.proofs.lemmas.Moments.{stays}
+use Rattle.engine_model.proofs.lemmas.Failing.{open_same}
 use Rattle.engine_model.proofs.lemmas.Refusals.{quiet_same, quiet_dumped, quiet_on}
 use Rattle.engine_core.proofs.Apart.{done_failed, failed_differs, memory_differs, memory_failed, damaged_differs, damaged_failed, differs_failed}
 use Rattle.engine_core.proofs.Says.{differs_why, damaged_why}
@@ -124,7 +125,7 @@ returns-in-Err-OutOfMemory g c =
       fault = λ is. absurd (memory_failed is);
       quiet = quiet;
       compared = λ found is. absurd (memory_differs found is);
-      says = λ doc start from follows merges saved set. quiet_on start.kernel old.kernel new.kernel follows.quiet quiet;
+      says = λ doc start from follows merges saved set. (quiet_on start.kernel old.kernel new.kernel follows.quiet quiet, λ tells. inr (open_same old new (c.dump.ensures.state tells) (set tells)));
       dumped = tt;
       fresh = λ tells is. absurd (false≢true (sym c.if-no_verify.false ∙ is));
       later = c.dump.ensures.cause.later;

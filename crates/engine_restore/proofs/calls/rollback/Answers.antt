@@ -12,7 +12,7 @@ use Rattle.engine_model.specs.declared.answers.BackFault.{BackFault}
 use Rattle.engine_model.specs.declared.answers.BackFault.TheVariants.{OutOfMemory}
 use Rattle.engine_model.proofs.lemmas.Backs.{undone_only, rolled_back, rollback_empty, has_set, fault_exit, fault_reads, fault_answers, fault_says}
 use Rattle.engine_model.proofs.lemmas.Failing.{fails_before, fails_counts}
-use Rattle.engine_model.proofs.lemmas.Finding.{rolled_exact, rollback_exact}
+use Rattle.engine_model.proofs.lemmas.Finding.{rolled_exact, rolled_after, rollback_exact}
 use Rattle.engine_model.proofs.lemmas.Leading.{kept_wider}
 use Rattle.engine_model.proofs.lemmas.Machines.{ends_within, ends_reads, read_within, same_reads, going_as}
 use Rattle.engine_restore.proofs.Apart.{done_failed, none_memory, back_memory, err_is, begun_set}
@@ -55,6 +55,10 @@ returns-in-Ok-true g c =
       counts = e.quiet;
       gave = λ tells. e.gave tells was;
       done = λ tells. has_set old.state (cell_of old.state.cell) (e.set tells was);
+      cleared = e.cleared;
+      after = λ honest.
+          let tells = g.met.H.Host.honest_tells honest in
+          rolled_after old.state new.state (cell_of old.state.cell) refl (e.set tells was) (λ checkpoint is. e.exact honest checkpoint is) (e.cleared tells).cell (e.reads honest was) (e.saved tells);
       begun = λ tells. tt;
       memory = λ tells is. absurd (done_failed _ _ is);
       unbegun = tt;
@@ -91,6 +95,8 @@ returns-in-Ok-false g c =
       counts = (e.idle was).unmade;
       gave = λ tells. tt;
       done = λ tells. tt;
+      cleared = λ tells. tt;
+      after = λ honest. tt;
       begun = λ tells begun. absurd (begun tt);
       memory = λ tells is. absurd (none_memory is);
       unbegun = λ before. e.idle was;
@@ -123,6 +129,8 @@ returns-in-Err g c =
       counts = fails_counts tells_of old new ⊤ fault e.fails;
       gave = λ tells. tt;
       done = λ tells. tt;
+      cleared = λ tells. tt;
+      after = λ honest. tt;
       begun = λ tells begun. begun_set (cell_of old.state.cell) fault (e.unset tells) begun;
       memory = λ tells is. memory tells (err_is fault is);
       unbegun = λ before. fails_before tells_of old new fault e.fails before;

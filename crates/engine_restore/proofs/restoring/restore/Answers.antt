@@ -1,4 +1,5 @@
-use Rattle.std.proofs.Common.{◌≡◌, ◌∙◌, inl, List, Option, Some, Err, sym, ap, subst}
+use Rattle.std.proofs.Common.{◌≡◌, ◌∙◌, inl, List, Option, Some, Err, refl, sym, ap, subst}
+use Rattle.std.specs.Prelude.{IsSome}
 use Rattle.std.proofs.lemmas.Result.{on_ok_weaker}
 use Rattle.net_model.specs.NetData.{NetData}
 use Rattle.net_model.specs.declared.Call.{Call}
@@ -10,6 +11,7 @@ use Rattle.checkpoint_cell.specs.Cell.{Checkpoint, in_phase, applying, saved_net
 use Rattle.checkpoint_cell.specs.Settled.{restored_to}
 use Rattle.checkpoint_cell.specs.Steps.{Holds}
 use Rattle.checkpoint_cell.proofs.lemmas.Saved.{saved_is}
+use Rattle.engine_model.specs.Faults.{HasOpen, StillOpen}
 use Rattle.engine_model.specs.Machine.{saved_on}
 use Rattle.engine_model.specs.Answers.{IsHealthy}
 use Rattle.engine_model.specs.Refusals.{NoCallMade}
@@ -125,6 +127,16 @@ marked_saved g c checkpoint tells holds =
     let marked = c.in-Ok-take_up.ensures.taken tells checkpoint (held g (goal.at.After-undo g c).After-take_up checkpoint tells holds) in
     saved_is (in_phase Applying checkpoint) (g.H.Host.told c.take_up.new.host).state.cell marked.cell
 
+-- the change is being made, and has a saved network
+taken_up : (g : _) (c : After-undo g) → StillOpen g.H.Host.tells (g.H.Host.told c.take_up.new.host)
+taken_up g c = λ tells.
+    let was = c.requires tells in
+    let mid = g.H.Host.told c.ready.new.host in
+    let there = held g (goal.at.After-undo g c).After-take_up was.0 tells was.1 in
+    let given = c.in-Ok.ensures.ready.given tells in
+    let saved : was.0.net ≡ Some given.saved = sym (saved_is was.0 mid.state.cell there.cell) ∙ given.is_saved in
+    subst (λ (k : Option Checkpoint). HasOpen k) (sym (c.in-Ok-take_up.ensures.taken tells was.0 there).cell) (refl, subst (λ (n : Option NetData). IsSome n) (sym saved) refl)
+
 restores : (g : _) (c : After-undo g) → Undoes g.H.Host.tells g.H.Host.honest c.deref.result.now (g.H.Host.told c.take_up.new.host) (g.H.Host.told c.undo.new.host)
     → Restores g.H.Host.tells g.H.Host.honest (g.H.Host.told c.args.host.now) (g.H.Host.told c.undo.new.host)
 restores g c u =
@@ -171,12 +183,12 @@ hinders g c fault i =
     let taken = g.H.Host.told c.take_up.new.host in
     let new = g.H.Host.told c.undo.new.host in
     record {
-      fails = fails_late g.H.Host.tells old taken new (later_on old.faults mid.faults taken.faults c.ready.ensures.later c.take_up.ensures.cause.later) (unmade g at) fault i.begun i.fails;
+      fails = fails_late g.H.Host.tells old taken new (later_on old.faults mid.faults taken.faults c.ready.ensures.later c.take_up.ensures.cause.later) (unmade g at) (taken_up g c) fault i.begun (i.fails (taken_up g c));
       healthy = λ honest sound. let was = c.requires (g.met.H.Host.honest_tells honest) in healthy honest was.0 was.1;
       exact = λ honest checkpoint holds.
           let k = known g at checkpoint honest holds in
           finds_done (saved_on checkpoint.net old.state.net) k.leads.saved k.leads.finds (Err fault) (healthy honest checkpoint holds)
-          (λ is. let same : fault ≡ NoCheckpoint = cc in fails_set g.H.Host.tells taken new fault i.fails same);
+          (λ is. let same : fault ≡ NoCheckpoint = cc in fails_set g.H.Host.tells taken new fault (i.fails (taken_up g c)) same);
     }
   where
     healthy : g.H.Host.honest → (checkpoint : Checkpoint) → Holds (Some checkpoint) (g.H.Host.told c.args.host.now) → IsHealthy fault

@@ -1,11 +1,12 @@
-use Rattle.std.proofs.Common.{◌≡◌, ◌∙◌, Option, Some, None, Err, ℕ, ap, subst, refl}
+use Rattle.std.proofs.Common.{◌≡◌, ◌∙◌, inr, Option, Some, None, Err, ℕ, ap, subst, sym, refl}
 use Rattle.net_model.specs.NetData.{NetData, IsNet}
 use Rattle.kernel_model.specs.Runs.{Runs}
 use Rattle.host_core.proofs.lemmas.Counts.{rose_after}
 use Rattle.host_core.specs.HostView.{HasNet, Kernel, NoneRefused, SameCell, SameNet}
-use Rattle.checkpoint_cell.specs.Cell.{applying, saved_net}
+use Rattle.checkpoint_cell.specs.Cell.{Checkpoint, cell_of, applying, saved_net}
 use Rattle.checkpoint_cell.specs.Steps.{Holds, NoneOr}
 use Rattle.checkpoint_cell.specs.Settled.{Standing}
+use Rattle.engine_model.specs.Faults.{HasOpen, StillOpen}
 use Rattle.engine_model.specs.Undone.{stand}
 use Rattle.engine_model.specs.Sound.{Sound}
 use Rattle.engine_model.specs.Stations.{Only, Kept, Ends}
@@ -25,13 +26,17 @@ ran g c honest sound made deadline from saved ends built =
     let kind = same_kind from saved (applying made deadline saved) old old.state ((g.met.H.Host.lawful c.args.host.now).reads (g.met.H.Host.honest_tells honest)) sound ends refl in
     run_kept (Only (restored_to saved)) made deadline from saved old (g.H.Host.told c.run.new.host) refl ends sound kind built (c.run.ensures.stops honest)
 
+-- no kernel call touches the checkpoint
+still : (g : _) (c : After-run g) → StillOpen g.H.Host.tells (g.H.Host.told c.args.host.now) → StillOpen g.H.Host.tells (g.H.Host.told c.run.new.host)
+still g c up = λ tells. subst (λ (k : Option Checkpoint). HasOpen k) (sym (ap cell_of (c.run.ensures.cell tells))) (up tells)
+
 pub returns-in-Err-Refused : goal.returns-in-Err-Refused
 returns-in-Err-Refused g c =
     let is = ap (λ e. Err e) c.in-Err-Refused.field-0-is in
     record {
       undone = tt;
       fault = record {
-        fails = (refl, c.in-Err-Refused.ensures.refused _ _ is c.requires.zero, c.in-Err-Refused.ensures.once _ _ is);
+        fails = λ up. (refl, c.in-Err-Refused.ensures.refused _ _ is c.requires.zero, c.in-Err-Refused.ensures.once _ _ is, still g (goal.at.returns-in-Err-Refused g c).After-run up);
         begun = λ before. before;
         healthy = λ honest from saved stands runs. c.in-Err-Refused.ensures.accepted honest from saved stands runs _ _ is;
       };
@@ -44,7 +49,7 @@ pub returns-in-Err-Failed : goal.returns-in-Err-Failed
 returns-in-Err-Failed g c = record {
   undone = tt;
   fault = record {
-    fails = (c.in-Err-Failed.ensures.cause.failed (ap (λ e. Err e) c.in-Err-Failed.field-0-is), c.in-Err-Failed.ensures.quiet (λ k n is. cc));
+    fails = λ up. (c.in-Err-Failed.ensures.cause.failed (ap (λ e. Err e) c.in-Err-Failed.field-0-is), c.in-Err-Failed.ensures.quiet (λ k n is. cc));
     begun = λ before. before;
     healthy = λ honest from saved stands runs. tt;
   };
@@ -57,7 +62,7 @@ pub returns-in-Err-OutOfMemory : goal.returns-in-Err-OutOfMemory
 returns-in-Err-OutOfMemory g c = record {
   undone = tt;
   fault = record {
-    fails = c.in-Err-OutOfMemory.ensures.quiet (λ k n is. cc);
+    fails = λ up. (c.in-Err-OutOfMemory.ensures.quiet (λ k n is. cc), λ tells. inr (still g (goal.at.returns-in-Err-OutOfMemory g c).After-run up tells));
     begun = λ before. before;
     healthy = λ honest from saved stands runs. tt;
   };
@@ -121,7 +126,7 @@ returns-in-Err g c =
     record {
       undone = tt;
       fault = record {
-        fails = (rose_after old.faults mid.faults new.faults c.run.ensures.cause.later c.in-Err.ensures.cause.failed, quiet g at);
+        fails = λ up. (rose_after old.faults mid.faults new.faults c.run.ensures.cause.later c.in-Err.ensures.cause.failed, quiet g at);
         begun = λ before. before;
         healthy = λ honest from saved is runs. tt;
       };
