@@ -97,7 +97,7 @@ ApplyExact rose machine new result = IsOutcome machine new result
 
 -- ---- on every host; of its content only where the host tells it
 
--- a change is being made, and its checkpoint has the network that it saved: a recovery takes it back
+-- a change is being made, and its checkpoint has a saved network: a recovery is to take it back
 abbrev pub HasOpen : Option Checkpoint → Type 0
 HasOpen None = ⊥
 HasOpen (Some c) = (c.phase ≡ Applying) × IsSome c.net
@@ -174,7 +174,7 @@ pub record StandsDamaged (tells : Type 0) (area now : ℕ) (state : State) (kern
   pub damaged : IsDamaged area new.state
   pub held : SettlesOnly tells now state kernel new.kernel ⊎ IsSome (standing new.state).cell
 
--- Where memory ran out in an apply, its change is being made, and its checkpoint has the saved network. Or else no call was refused; and the
+-- Where memory ran out in an apply, its change is being made, and its checkpoint has a saved network. Or else no call was refused; and the
 -- host failed, or calls gave the saved network, or none was made, unless a change was to be taken back first.
 abbrev pub Starves : Type 0 → ℕ → ℕ → State → Kernel → HostView → Type 0
 Starves tells now faults state kernel new = StillOpen tells new ⊎ (NoneRefused kernel new.kernel × (Rose faults new.faults ⊎ (tells → GaveBack tells now state kernel new)))

@@ -168,7 +168,7 @@ IsLeft r (applying_policy p opts) left = LeftSays r.host_tells r.host r.host_aft
 IsLeft r order left = LeftSays r.host_tells r.host r.host_after left × (left ≢ RolledBack)
 
 -- of a call that was refused: one was made, and only an apply tells that all was rolled back. Where it isn't, the change is being made, and
--- its checkpoint has the saved network
+-- its checkpoint has a saved network
 abbrev pub IsLeftRefused : Run → Order → Left → Type 0
 IsLeftRefused r (applying doc opts) left = LeftSays r.host_tells r.host r.host_after left × (left ≢ NotBegun) × (left ≡ Unknown → StillOpen r.host_tells r.host_after)
 IsLeftRefused r (applying_policy p opts) left = LeftSays r.host_tells r.host r.host_after left × (left ≢ NotBegun) × (left ≡ Unknown → StillOpen r.host_tells r.host_after)
