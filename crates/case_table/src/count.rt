@@ -1,6 +1,6 @@
 //! How many cases answer as written.
 
-use base_model::{OutOfMemory, push_decimal};
+use crate::text::Text;
 
 /// How many cases answer as written, and how many don't.
 #[derive(Clone, Copy)]
@@ -31,15 +31,12 @@ impl Count {
             wrong: self.wrong.saturating_add(other.wrong),
         }
     }
-}
 
-/// Appends a line with the counts under a title.
-pub fn push_count(title: &str, count: Count, out: &mut Vec<u8>) -> Result<(), OutOfMemory> {
-    out.extend_from_slice(title.as_bytes())?;
-    out.extend_from_slice(b": ")?;
-    push_decimal(count.right, out)?;
-    out.extend_from_slice(b" ok, ")?;
-    push_decimal(count.wrong, out)?;
-    out.extend_from_slice(b" differ\n")?;
-    Ok(())
+    /// Pushes a line with the counts under a title.
+    pub fn push(self, title: &str, out: &mut Text) {
+        out.push_str(title);
+        out.push_str(": ");
+        out.push_count(self.right, " ok, ");
+        out.push_count(self.wrong, " differ\n");
+    }
 }

@@ -5,13 +5,22 @@
 //! `%HH` for the byte with these hexadecimal digits, in capitals, and `%*N<TEXT>` for a text N times.
 #![tactic(auto)]
 
+// A text that remembers whether there was memory for it.
+mod text;
 // How many cases answer as written.
 mod count;
 // Texts as cases write them.
 mod texts;
+// Bytes as hexadecimal digits.
+mod hex;
+// Texts with numbers in them.
+mod numbered;
 // The parts of the input, and what comes of each.
 mod parts;
 
-pub use count::{Count, push_count};
+pub use count::Count;
+pub use hex::{bytes_of_hex, push_hex};
+pub use numbered::push_numbered;
 pub use parts::{Answers, report};
+pub use text::Text;
 pub use texts::{bytes_of, first_word};

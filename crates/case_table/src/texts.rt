@@ -1,5 +1,6 @@
 //! Texts as cases write them.
 
+use crate::text::Text;
 use base_model::OutOfMemory;
 use std::alloc::Global;
 
@@ -17,38 +18,35 @@ fn digit(byte: u8) -> u8 {
 }
 
 // `HH`, and the text behind it.
-fn push_byte(piece: &[u8], out: &mut Vec<u8>) -> Result<(), OutOfMemory> {
+fn push_byte(piece: &[u8], out: &mut Text) {
     if let Some(high) = piece.first() {
         if let Some(low) = piece.get(1) {
-            out.push(digit(*high).wrapping_mul(16).wrapping_add(digit(*low)))?;
+            out.push_byte(digit(*high).wrapping_mul(16).wrapping_add(digit(*low)));
         }
     }
-    out.extend_from_slice(piece.get(2..).unwrap_or(b"".as_slice()))?;
-    Ok(())
+    out.push_bytes(piece.get(2..).unwrap_or(b"".as_slice()));
 }
 
-fn push_times(times: u32, text: &str, out: &mut Vec<u8>) -> Result<(), OutOfMemory> {
+fn push_times(times: u32, text: &str, out: &mut Text) {
     for _ in 0..times {
-        out.extend_from_slice(text.as_bytes())?;
+        out.push_str(text);
     }
-    Ok(())
 }
 
 // `N<TEXT>`, and the text behind it.
-fn push_repeated(piece: &str, out: &mut Vec<u8>) -> Result<(), OutOfMemory> {
+fn push_repeated(piece: &str, out: &mut Text) {
     let (number, rest) = piece.split_once('<').unwrap_or((piece, ""));
     let (text, rest) = rest.split_once('>').unwrap_or((rest, ""));
-    push_times(number.parse::<u32>().unwrap_or(0), text, out)?;
-    out.extend_from_slice(rest.as_bytes())?;
-    Ok(())
+    push_times(number.parse::<u32>().unwrap_or(0), text, out);
+    out.push_str(rest);
 }
 
-// What stands behind a percent sign.
-fn push_piece(piece: &str, out: &mut Vec<u8>) -> Result<(), OutOfMemory> {
+// What stands behind a percent sign, if anything does.
+fn push_piece(piece: &str, out: &mut Text) {
     if let Some(rest) = piece.strip_prefix('n') {
-        out.push(b'\n')?;
-        out.extend_from_slice(rest.as_bytes())?;
-        return Ok(());
+        out.push_byte(b'\n');
+        out.push_str(rest);
+        return;
     }
     match piece.strip_prefix('*') {
         Some(rest) => push_repeated(rest, out),
@@ -56,15 +54,18 @@ fn push_piece(piece: &str, out: &mut Vec<u8>) -> Result<(), OutOfMemory> {
     }
 }
 
+/// What a text of a case stands for.
+pub fn spelled(alloc: Global, text: &str) -> Text {
+    let (plain, marked) = text.split_once('%').unwrap_or((text, ""));
+    let mut out = Text::new(alloc);
+    out.push_str(plain);
+    for piece in marked.split('%') {
+        push_piece(piece, &mut out);
+    }
+    out
+}
+
 /// The bytes that a text of a case stands for.
 pub fn bytes_of(alloc: Global, text: &str) -> Result<Vec<u8>, OutOfMemory> {
-    let mut out = Vec::new(alloc);
-    for (i, piece) in text.split('%').enumerate() {
-        if i == 0 {
-            out.extend_from_slice(piece.as_bytes())?;
-        } else {
-            push_piece(piece, &mut out)?;
-        }
-    }
-    Ok(out)
+    spelled(alloc, text).into_bytes()
 }

@@ -9,7 +9,7 @@ use crate::reading::{
     table_at, word, words,
 };
 use net_model::{
-    Addr, Call, Dns, Domain, Items, Kind, Proto, Route, Rule, Subnet, TableId, Target, VlanId,
+    Addr, Call, Dns, Domain, Items, Kind, Name, Proto, Route, Rule, Subnet, TableId, Target, VlanId,
 };
 use net_text::{read_addr, read_family, read_mode, read_prefix, read_proto};
 use std::alloc::Global;
@@ -152,17 +152,63 @@ fn dns(alloc: Global, words: &[&str]) -> Option<Dns> {
     })
 }
 
-// The calls on addresses, routes, rules and DNS.
-fn on_the_rest(alloc: Global, verb: &str, words: &[&str]) -> Option<Call> {
+// The calls that set the options of a link.
+fn on_options(verb: &str, name: Name, words: &[&str]) -> Option<Call> {
     match verb {
+        "set-bond" => Some(Call::SetBond {
+            name,
+            opts: bond(words)?,
+        }),
+        "set-bridge" => Some(Call::SetBridge {
+            name,
+            opts: bridge(words)?,
+        }),
+        "set-port" => Some(Call::SetPort {
+            port: name,
+            opts: port(words)?,
+        }),
+        _ => None,
+    }
+}
+
+// The calls on a link.
+fn on_link(verb: &str, name: Name, words: &[&str]) -> Option<Call> {
+    match verb {
+        "add-link" => Some(Call::AddLink {
+            name,
+            kind: kind(words)?,
+        }),
+        "del-link" => Some(Call::DelLink { name }),
+        "up" => Some(Call::Up { name }),
+        "down" => Some(Call::Down { name }),
+        "set-mtu" => Some(Call::SetMtu {
+            name,
+            mtu: number_at(words, 2)?,
+        }),
+        "set-mac" => Some(Call::SetMac {
+            name,
+            mac: mac_at(words, 2)?,
+        }),
+        "attach" => Some(Call::Attach {
+            port: name,
+            controller: name_at(words, 2)?,
+        }),
+        "detach" => Some(Call::Detach { port: name }),
         "add-address" => Some(Call::AddAddress {
-            name: name_at(words, 1)?,
+            name,
             addr: prefix_at(words, 2)?,
         }),
         "del-address" => Some(Call::DelAddress {
-            name: name_at(words, 1)?,
+            name,
             addr: prefix_at(words, 2)?,
         }),
+        verb => on_options(verb, name, words),
+    }
+}
+
+// Any call.
+fn on_words(alloc: Global, words: &[&str]) -> Option<Call> {
+    match word(words, 0)? {
         "add-route" => Some(Call::AddRoute {
             route: route(words)?,
         }),
@@ -174,61 +220,7 @@ fn on_the_rest(alloc: Global, verb: &str, words: &[&str]) -> Option<Call> {
         "set-dns" => Some(Call::SetDns {
             dns: dns(alloc, words)?,
         }),
-        _ => None,
-    }
-}
-
-// The calls on ports, and those that set options.
-fn on_options(alloc: Global, verb: &str, words: &[&str]) -> Option<Call> {
-    match verb {
-        "set-bond" => Some(Call::SetBond {
-            name: name_at(words, 1)?,
-            opts: bond(words)?,
-        }),
-        "set-bridge" => Some(Call::SetBridge {
-            name: name_at(words, 1)?,
-            opts: bridge(words)?,
-        }),
-        "set-port" => Some(Call::SetPort {
-            port: name_at(words, 1)?,
-            opts: port(words)?,
-        }),
-        "attach" => Some(Call::Attach {
-            port: name_at(words, 1)?,
-            controller: name_at(words, 2)?,
-        }),
-        "detach" => Some(Call::Detach {
-            port: name_at(words, 1)?,
-        }),
-        _ => on_the_rest(alloc, verb, words),
-    }
-}
-
-// Any call.
-fn on_words(alloc: Global, words: &[&str]) -> Option<Call> {
-    match word(words, 0)? {
-        "add-link" => Some(Call::AddLink {
-            name: name_at(words, 1)?,
-            kind: kind(words)?,
-        }),
-        "del-link" => Some(Call::DelLink {
-            name: name_at(words, 1)?,
-        }),
-        "up" => Some(Call::Up {
-            name: name_at(words, 1)?,
-        }),
-        "down" => Some(Call::Down {
-            name: name_at(words, 1)?,
-        }),
-        "set-mtu" => Some(Call::SetMtu {
-            name: name_at(words, 1)?,
-            mtu: number_at(words, 2)?,
-        }),
-        "set-mac" => Some(Call::SetMac {
-            name: name_at(words, 1)?,
-            mac: mac_at(words, 2)?,
-        }),
-        verb => on_options(alloc, verb, words),
+        verb => on_link(verb, name_at(words, 1)?, words),
     }
 }
 

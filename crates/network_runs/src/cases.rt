@@ -14,13 +14,13 @@
 
 use crate::calls::call;
 use crate::networks::{first, merged, try_call};
-use crate::pairs::led;
+use crate::pairs::push_led;
 use crate::printing::is_printed;
 use crate::reading::number;
+use case_table::{Text, push_numbered};
 use net_equal::same_net;
 use net_model::Net;
 use std::alloc::Global;
-use std::mem;
 
 /// A network under a name.
 #[derive(Drop)]
@@ -34,47 +34,44 @@ struct Named {
 pub struct Cases {
     devices: Option<Net>,
     networks: Vec<Named>,
-    title: String,
-    told: String,
-    count: u32,
-    differ: u32,
+    title: Text,
+    told: Text,
+    count: u64,
+    differ: u64,
 }
 
-// The text with line ends in place of bars.
-fn lines(alloc: Global, text: &str) -> Option<String> {
-    let mut lines = String::new(alloc);
-    for line in text.split('|') {
-        lines.push_str(line).ok()?;
-        lines.push('\n').ok()?;
+// The text with line ends in place of bars, and one behind it.
+fn lines(alloc: Global, text: &str) -> Text {
+    let mut lines = Text::new(alloc);
+    for byte in text.as_bytes() {
+        lines.push_byte(if *byte == b'|' { b'\n' } else { *byte });
     }
-    Some(lines)
+    lines.push_byte(b'\n');
+    lines
 }
 
 // The words of a call with a number in them, in 64ths for `%` and what is left for `#`.
-fn numbered(alloc: Global, words: &str, at: u32) -> Option<String> {
-    let high = at / 64;
-    let low = at % 64;
-    let high = format!(in alloc; "{high}").ok()?;
-    let low = format!(in alloc; "{low}").ok()?;
-    let mut text = String::new(alloc);
-    for letter in words.chars() {
-        match letter {
-            '%' => text.push_str(&high).ok()?,
-            '#' => text.push_str(&low).ok()?,
-            other => text.push(other).ok()?,
-        }
-    }
-    Some(text)
+fn numbered(alloc: Global, words: &str, at: u32) -> Text {
+    let mut high = Text::new(alloc);
+    push_numbered(words, b'%', u64::from(at / 64), &mut high);
+    let mut text = Text::new(alloc);
+    push_numbered(high.as_str(), b'#', u64::from(at % 64), &mut text);
+    text
 }
 
-fn find<'a>(networks: &'a [Named], name: &str) -> Option<&'a Named> {
-    networks.iter().find(|named| named.name.as_str() == name)
+fn find<'a>(networks: &'a [Named], name: &str) -> Option<&'a Net> {
+    for named in networks {
+        if named.name.as_str() == name {
+            return Some(&named.net);
+        }
+    }
+    None
 }
 
 // Makes a call with a number in it. None where it is refused.
 fn grow_once(alloc: Global, net: &mut Net, words: &str, at: u32) -> Option<()> {
-    let line = numbered(alloc, words, at)?;
-    let call = call(alloc, &line)?;
+    let line = numbered(alloc, words, at);
+    let call = call(alloc, line.as_str())?;
     match try_call(net, &call)? {
         Some(_) => None,
         None => Some(()),
@@ -89,18 +86,17 @@ fn grown(alloc: Global, mut net: Net, times: u32, words: &str) -> Option<Net> {
     Some(net)
 }
 
-// What differs where a call was refused with a number.
-fn refused_otherwise(alloc: Global, is_same: bool, number: u8, wanted: &str) -> Option<String> {
-    let mut said = String::new(alloc);
+// Says what differs where a call was refused with a number.
+fn push_refused(alloc: Global, is_same: bool, number: u8, wanted: &str, said: &mut Text) {
     if !is_same {
-        said.push_str("a refused call changes the network").ok()?;
+        said.push_str("a refused call changes the network");
     }
-    let found = format!(in alloc; "{number}").ok()?;
+    let mut found = Text::new(alloc);
+    found.push_number(u64::from(number));
     if found.as_str() != wanted {
-        said.push_str("refused with ").ok()?;
-        said.push_str(&found).ok()?;
+        said.push_str("refused with ");
+        said.push_str(found.as_str());
     }
-    Some(said)
 }
 
 // Whether the network that stands is as it is wanted.
@@ -109,25 +105,30 @@ fn is_wanted(networks: &[Named], net: &Net, wanted: &str) -> bool {
         return true;
     }
     match find(networks, wanted) {
-        Some(named) => same_net(&named.net, net),
+        Some(named) => same_net(named, net),
         None => false,
     }
 }
 
 // What differs of an answer, or nothing.
-fn differs(
+fn difference(
     alloc: Global,
     networks: &[Named],
     before: &Net,
     net: &Net,
     answer: Option<u8>,
     wanted: &str,
-) -> Option<String> {
+) -> Text {
+    let mut said = Text::new(alloc);
     match answer {
-        Some(number) => refused_otherwise(alloc, same_net(before, net), number, wanted),
-        None if is_wanted(networks, net, wanted) => Some(String::new(alloc)),
-        None => String::from_str(alloc, "done").ok(),
+        Some(number) => push_refused(alloc, same_net(before, net), number, wanted, &mut said),
+        None => {
+            if !is_wanted(networks, net, wanted) {
+                said.push_str("done");
+            }
+        }
     }
+    said
 }
 
 impl Cases {
@@ -135,39 +136,42 @@ impl Cases {
         Cases {
             devices: None,
             networks: Vec::new(alloc),
-            title: String::new(alloc),
-            told: String::new(alloc),
+            title: Text::new(alloc),
+            told: Text::new(alloc),
             count: 0,
             differ: 0,
         }
     }
 
-    fn tell(&mut self, what: &str, line: &str) -> Option<()> {
-        self.told.push_str(what).ok()?;
-        self.told.push_str(": ").ok()?;
-        self.told.push_str(line).ok()?;
-        self.told.push('\n').ok()
+    fn tell(&mut self, what: &str, line: &str) {
+        self.told.push_str(what);
+        self.told.push_str(": ");
+        self.told.push_str(line);
+        self.told.push_byte(b'\n');
     }
 
-    // Ends a group of cases, and begins another one.
-    fn end(&mut self, alloc: Global, title: &str) -> Option<()> {
-        let next = String::from_str(alloc, title).ok()?;
-        let title = mem::replace(&mut self.title, next);
-        let count = self.count;
-        let differ = self.differ;
+    // Ends a group of cases.
+    fn end(&mut self) {
+        if self.count > 0 {
+            self.told.push_text(&self.title);
+            self.told.push_str(": ");
+            self.told.push_count(self.count, " cases, ");
+            self.told.push_count(self.differ, " differ\n");
+        }
         self.count = 0;
         self.differ = 0;
-        if count == 0 {
-            return Some(());
-        }
-        let counts = format!(in alloc; "{count} cases, {differ} differ").ok()?;
-        self.tell(&title, &counts)
     }
 
-    /// Ends the last group of cases, and gives a line for each case that differs, and for each title.
-    pub fn finish(mut self, alloc: Global) -> Option<String> {
-        self.end(alloc, "")?;
-        Some(self.told)
+    // Begins a group of cases.
+    fn begin(&mut self, alloc: Global, title: &str) {
+        self.end();
+        self.title = Text::of(alloc, title);
+    }
+
+    /// Ends the last group of cases, and gives a line for each case that differs, and for each title; none where memory ran out.
+    pub fn finish(&mut self) -> Option<&[u8]> {
+        self.end();
+        self.told.whole()
     }
 
     fn push(&mut self, alloc: Global, name: &str, net: Net) -> Option<()> {
@@ -177,16 +181,16 @@ impl Cases {
 
     // `LIST`.
     fn hardware(&mut self, alloc: Global, list: &str) -> Option<()> {
-        let list = lines(alloc, list)?;
-        self.devices = Some(first(alloc, &list)?);
+        let list = lines(alloc, list);
+        self.devices = Some(first(alloc, list.as_str())?);
         Some(())
     }
 
     // `NAME DOCUMENT`.
     fn name(&mut self, alloc: Global, rest: &str) -> Option<()> {
         let (name, document) = rest.split_once(' ')?;
-        let document = lines(alloc, document)?;
-        let net = merged(alloc, self.devices.as_ref()?, &document)?;
+        let document = lines(alloc, document);
+        let net = merged(alloc, self.devices.as_ref()?, document.as_str())?;
         self.push(alloc, name, net)
     }
 
@@ -196,7 +200,7 @@ impl Cases {
         let (new, rest) = rest.split_once(' ')?;
         let (times, words) = rest.split_once(' ')?;
         let times = number(times)?;
-        let net = find(&self.networks, name)?.net.copy().ok()?;
+        let net = find(&self.networks, name)?.copy().ok()?;
         let net = grown(alloc, net, times, words)?;
         self.push(alloc, new, net)
     }
@@ -204,8 +208,13 @@ impl Cases {
     // `SEED N`, of a line.
     fn drawn(&mut self, alloc: Global, line: &str, rest: &str) -> Option<()> {
         let (seed, count) = rest.split_once(' ')?;
-        let told = led(alloc, number(seed)? as u64, number(count)?)?;
-        self.tell(line, &told)
+        let seed = u64::from(number(seed)?);
+        let count = number(count)?;
+        let mut told = Text::new(alloc);
+        push_led(alloc, seed, count, &mut told)?;
+        self.told.remember(told.is_whole);
+        self.tell(line, told.as_str());
+        Some(())
     }
 
     // `NAME: CALL => ANSWER`.
@@ -214,60 +223,56 @@ impl Cases {
         let (words, wanted) = rest.split_once(" => ")?;
         self.count = self.count.wrapping_add(1);
         let call = call(alloc, words)?;
-        let before = &find(&self.networks, name)?.net;
+        let before = find(&self.networks, name)?;
         let mut net = before.copy().ok()?;
         let answer = try_call(&mut net, &call)?;
-        let said = differs(alloc, &self.networks, before, &net, answer, wanted)?;
-        self.differs(&said, line)
+        let said = difference(alloc, &self.networks, before, &net, answer, wanted);
+        self.differs(&said, line);
+        Some(())
     }
 
     // Tells what differs of a case, if anything does.
-    fn differs(&mut self, said: &str, line: &str) -> Option<()> {
-        if said.is_empty() {
-            return Some(());
+    fn differs(&mut self, said: &Text, line: &str) {
+        self.told.remember(said.is_whole);
+        if !said.bytes.is_empty() {
+            self.differ = self.differ.wrapping_add(1);
+            self.tell(said.as_str(), line);
         }
-        self.differ = self.differ.wrapping_add(1);
-        self.tell(said, line)
     }
 
     // `CALL`.
     fn printed(&mut self, alloc: Global, line: &str) -> Option<()> {
         self.count = self.count.wrapping_add(1);
-        let said = if is_printed(alloc, line)? {
-            ""
-        } else {
-            "printed otherwise"
-        };
-        self.differs(said, line)
+        if !is_printed(alloc, line)? {
+            self.differ = self.differ.wrapping_add(1);
+            self.tell("printed otherwise", line);
+        }
+        Some(())
     }
 
     fn acts(&mut self, alloc: Global, line: &str) -> Option<()> {
-        if let Some(call) = line.strip_prefix("line ") {
-            return self.printed(alloc, call);
+        let (word, rest) = line.split_once(' ')?;
+        match word {
+            "hardware" => self.hardware(alloc, rest),
+            "network" => self.name(alloc, rest),
+            "grow" => self.grow(alloc, rest),
+            "drawn" => self.drawn(alloc, line, rest),
+            "line" => self.printed(alloc, rest),
+            "==" => {
+                self.begin(alloc, rest);
+                Some(())
+            }
+            _ => self.case(alloc, line),
         }
-        if let Some(list) = line.strip_prefix("hardware ") {
-            return self.hardware(alloc, list);
-        }
-        if let Some(rest) = line.strip_prefix("network ") {
-            return self.name(alloc, rest);
-        }
-        if let Some(rest) = line.strip_prefix("grow ") {
-            return self.grow(alloc, rest);
-        }
-        if let Some(rest) = line.strip_prefix("drawn ") {
-            return self.drawn(alloc, line, rest);
-        }
-        if let Some(title) = line.strip_prefix("== ") {
-            return self.end(alloc, title);
-        }
-        self.case(alloc, line)
     }
 
-    /// Takes a line. None where memory ran out.
-    pub fn take(&mut self, alloc: Global, line: &str) -> Option<()> {
-        if line.is_empty() || line.starts_with('#') || self.acts(alloc, line).is_some() {
-            return Some(());
+    /// Takes a line.
+    pub fn take(&mut self, alloc: Global, line: &str) {
+        if line.is_empty() || line.starts_with('#') {
+            return;
         }
-        self.tell("not understood", line)
+        if self.acts(alloc, line).is_none() {
+            self.tell("not understood", line);
+        }
     }
 }

@@ -30,20 +30,17 @@ use crate::cases::Cases;
 use std::alloc::Global;
 use std::io::{self, Read, Write};
 
-// What comes of all lines, or none where memory ran out.
-fn told(alloc: Global, text: &str) -> Option<String> {
-    let mut cases = Cases::new(alloc);
+fn take_all(alloc: Global, text: &str, cases: &mut Cases) {
     for line in text.lines() {
-        cases.take(alloc, line)?;
+        cases.take(alloc, line);
     }
-    cases.finish(alloc)
 }
 
 fn main(rt: HostRuntime) -> io::Result<()> {
     let mut input = String::new(rt.alloc());
     rt.stdin().read_to_string(&mut input)?;
-    match told(rt.alloc(), input.as_str()) {
-        Some(told) => rt.stdout().write_all(told.as_bytes()),
-        None => rt.stdout().write_all(b"out of memory\n"),
-    }
+    let mut cases = Cases::new(rt.alloc());
+    take_all(rt.alloc(), input.as_str(), &mut cases);
+    let told = cases.finish().unwrap_or(b"out of memory\n".as_slice());
+    rt.stdout().write_all(told)
 }

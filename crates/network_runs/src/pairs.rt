@@ -4,6 +4,7 @@ use crate::drawn::call;
 use crate::draws::{Draws, name_at};
 use crate::networks::{of_links, try_call};
 use crate::seen::{count, kind_of_call, shapes};
+use case_table::Text;
 use link_planner::plan_links;
 use net_equal::same_net;
 use net_model::{BondOpts, BridgeOpts, Call, DEFAULT_MTU, Items, Kind, Link, Mac, Net, PortOpts};
@@ -58,13 +59,13 @@ fn links_stay(alloc: Global, net: &Net) -> Option<bool> {
 struct Pairs {
     draws: Draws,
     devices: Net,
-    pairs: u32,
+    pairs: u64,
     calls: u64,
     kinds: u32,
     shapes: u32,
-    refused: u32,
-    differ: u32,
-    not_empty: u32,
+    refused: u64,
+    differ: u64,
+    not_empty: u64,
 }
 
 impl Pairs {
@@ -92,16 +93,21 @@ impl Pairs {
         Some(net)
     }
 
+    fn carry_out(&mut self, net: &mut Net, calls: &[Call]) -> Option<()> {
+        for call in calls {
+            self.kinds |= kind_of_call(call);
+            if try_call(net, call)?.is_some() {
+                self.refused = self.refused.wrapping_add(1);
+            }
+        }
+        Some(())
+    }
+
     // Carries out the plan from one to the other, and compares.
     fn lead(&mut self, alloc: Global, from: &Net, to: &Net) -> Option<()> {
         let calls = calls_between(alloc, from, to)?;
         let mut work = from.copy().ok()?;
-        for call in &calls {
-            self.kinds |= kind_of_call(call);
-            if try_call(&mut work, call)?.is_some() {
-                self.refused = self.refused.wrapping_add(1);
-            }
-        }
+        self.carry_out(&mut work, &calls)?;
         if !same_net(&work, to) {
             self.differ = self.differ.wrapping_add(1);
         }
@@ -131,26 +137,23 @@ impl Pairs {
         Some(())
     }
 
-    // The counts.
-    fn told(&self, alloc: Global) -> Option<String> {
-        let pairs = self.pairs;
-        let calls = self.calls;
-        let kinds = count(self.kinds);
-        let shapes = count(self.shapes);
-        let refused = self.refused;
-        let differ = self.differ;
-        let not_empty = self.not_empty;
-        format!(in alloc;
-            "{pairs} pairs, {calls} calls of {kinds} kinds, {shapes} shapes of links, {refused} refused, {differ} differ, {not_empty} not empty"
-        ).ok()
+    fn push(&self, out: &mut Text) {
+        out.push_count(self.pairs, " pairs, ");
+        out.push_count(self.calls, " calls of ");
+        out.push_count(count(self.kinds), " kinds, ");
+        out.push_count(count(self.shapes), " shapes of links, ");
+        out.push_count(self.refused, " refused, ");
+        out.push_count(self.differ, " differ, ");
+        out.push_count(self.not_empty, " not empty");
     }
 }
 
-/// What is seen of so many pairs of a seed.
-pub fn led(alloc: Global, seed: u64, count: u32) -> Option<String> {
+/// Pushes what is seen of so many pairs of a seed.
+pub fn push_led(alloc: Global, seed: u64, count: u32, out: &mut Text) -> Option<()> {
     let mut pairs = Pairs::new(alloc, Draws::new(seed))?;
     for _ in 0..count {
         pairs.next(alloc)?;
     }
-    pairs.told(alloc)
+    pairs.push(out);
+    Some(())
 }

@@ -6,7 +6,8 @@ ghost use Rattle.document_model.specs.Entries.{is_document};
 use crate::documents::{document, merged};
 use crate::nodes::Node;
 use crate::rollouts::{head_of, moments, nodes, roll};
-use base_model::push_decimal;
+use crate::words::{event_of, number};
+use case_table::Text;
 use document_model::Doc;
 use engine_core::recover;
 use net_equal::same_net;
@@ -77,27 +78,11 @@ impl Entry {
 
 // ---- events
 
-fn event_of(node: u32, word: &str) -> Option<Event> {
-    match word {
-        "start" => Some(Event::Start(node)),
-        "opened" => Some(Event::Open(node)),
-        "refused" => Some(Event::Refused(node)),
-        "unclear" => Some(Event::Unclear(node)),
-        "starved" => Some(Event::Starved(node)),
-        "good" => Some(Event::Good(node)),
-        "bad" => Some(Event::Bad(node)),
-        "closed" => Some(Event::Closed(node)),
-        "late" => Some(Event::Late(node)),
-        "back" => Some(Event::Back(node)),
-        _ => None,
-    }
-}
-
 // `node I WORD`, where the line is one of an event.
 fn event_in(line: &str) -> Option<Event> {
     let rest = line.strip_prefix("node ")?;
     let (node, word) = rest.split_once(' ')?;
-    event_of(node.parse::<u32>().ok()?, word)
+    event_of(word, number(node)?)
 }
 
 /// The events of the lines.
@@ -254,12 +239,10 @@ impl Left {
         wrong
     }
 
-    fn words(&self, alloc: Global) -> Option<Vec<u8>> {
-        let mut out = Vec::new(alloc);
+    fn push_words(&self, out: &mut Text) {
         for (node, entry) in self.nodes.iter().zip(self.entries.iter()) {
-            out.extend_from_slice(entry.word(node).as_bytes()).ok()?;
+            out.push_str(entry.word(node));
         }
-        Some(out)
     }
 }
 
@@ -288,8 +271,8 @@ pub fn leave(alloc: Global, limit: u32, times: &str, doc: &Doc, nodes: Vec<Node>
         None => 0,
     };
     let mut nodes = nodes;
-    let text = roll(alloc, limit, moments, doc, &mut nodes)?;
-    let events = events_in(alloc, str::from_utf8(text.as_slice()).unwrap_or(""))?;
+    let printed = roll(alloc, limit, moments, doc, &mut nodes)?;
+    let events = events_in(alloc, str::from_utf8(printed.bytes()).unwrap_or(""))?;
     Some(Left {
         nodes,
         entries,
@@ -306,14 +289,13 @@ fn left_by(alloc: Global, limit: u32, times: &str, name: &str, words: &str) -> O
     }
 }
 
-/// `LIMIT; MOMENT ..; DOCUMENT; NODE ..`: which network stands on each node, and how many things went wrong, with a stop at each
-/// moment of each node and a recovery.
-pub fn checked(alloc: Global, case: &str) -> Option<Vec<u8>> {
+/// `LIMIT; MOMENT ..; DOCUMENT; NODE ..`: pushes which network stands on each node, and how many things went wrong, with a stop
+/// at each moment of each node and a recovery.
+pub fn push_checked(alloc: Global, case: &str, out: &mut Text) -> Option<()> {
     let head = head_of(case)?;
     let left = left_by(alloc, head.limit, head.moments, head.document, head.rest)?;
     let wrong = wrong_in(alloc, head.limit, &left, Stops::Each)?;
-    let mut out = left.words(alloc)?;
-    push_decimal(wrong, &mut out).ok()?;
-    out.extend_from_slice(b" wrong").ok()?;
-    Some(out)
+    left.push_words(out);
+    out.push_count(wrong, " wrong");
+    Some(())
 }

@@ -6,7 +6,7 @@ use crate::checks::{Stops, leave, wrong_in};
 use crate::documents::{BOTH, document};
 use crate::nodes::{Node, node_with};
 use crate::rollouts::head_of;
-use base_model::push_decimal;
+use case_table::Text;
 use document_model::Doc;
 use host_memory::Fuse;
 use std::alloc::Global;
@@ -119,9 +119,9 @@ fn tallied(alloc: Global, sweep: Sweep<'_>, name: &str) -> Option<Tally> {
     }
 }
 
-/// `LIMIT; MOMENT ..; DOCUMENT; NODES CALLS`: a rollout for each fault at one of so many calls of one of so many nodes. How many
-/// there were, and how many things went wrong.
-pub fn swept(alloc: Global, case: &str) -> Option<Vec<u8>> {
+/// `LIMIT; MOMENT ..; DOCUMENT; NODES CALLS`: a rollout for each fault at one of so many calls of one of so many nodes. Pushes
+/// how many there were, and how many things went wrong.
+pub fn push_swept(alloc: Global, case: &str, out: &mut Text) -> Option<()> {
     let head = head_of(case)?;
     let (count, most) = head.rest.split_once(' ')?;
     let sweep = Sweep {
@@ -131,10 +131,7 @@ pub fn swept(alloc: Global, case: &str) -> Option<Vec<u8>> {
         most: most.parse::<u64>().ok()?,
     };
     let tally = tallied(alloc, sweep, head.document)?;
-    let mut out = Vec::new(alloc);
-    push_decimal(tally.rollouts, &mut out).ok()?;
-    out.extend_from_slice(b" rollouts, ").ok()?;
-    push_decimal(tally.wrong, &mut out).ok()?;
-    out.extend_from_slice(b" wrong").ok()?;
-    Some(out)
+    out.push_count(tally.rollouts, " rollouts, ");
+    out.push_count(tally.wrong, " wrong");
+    Some(())
 }

@@ -1,9 +1,8 @@
 //! All lists of events up to a length.
 
 use crate::plain::Plain;
-use crate::words::{after, number, push_events};
-use base_model::push_decimal;
-use case_table::first_word;
+use crate::words::{after, longer_by, number, push_events};
+use case_table::{Text, first_word};
 use rollout_model::Event;
 use std::alloc::Global;
 
@@ -62,8 +61,7 @@ fn one_more(
         tally.differ = tally.differ.saturating_add(1);
     }
     if is_accepted || over.longer == Longer::All {
-        let mut events = Vec::from_slice(alloc, list.events.as_slice()).ok()?;
-        events.push(event).ok()?;
+        let events = longer_by(alloc, list.events.as_slice(), event)?;
         lists.push(List { events, plain }).ok()?;
     }
     Some(())
@@ -116,8 +114,8 @@ fn up_to(alloc: Global, over: Over, length: u32) -> Option<Tally> {
 }
 
 /// `all NODES LIMIT LENGTH`, or `accepted NODES LIMIT LENGTH` for lists in which only the last event may be one that isn't
-/// accepted: how many lists there are, and how many of them end otherwise than by the table of this program.
-pub fn compared(alloc: Global, case: &str) -> Option<Vec<u8>> {
+/// accepted: pushes how many lists there are, and how many of them end otherwise than by the table of this program.
+pub fn push_compared(alloc: Global, case: &str, out: &mut Text) -> Option<()> {
     let (longer, words) = first_word(case);
     let (nodes, words) = first_word(words);
     let (limit, length) = first_word(words);
@@ -130,10 +128,7 @@ pub fn compared(alloc: Global, case: &str) -> Option<Vec<u8>> {
         },
     };
     let tally = up_to(alloc, over, number(length)?)?;
-    let mut out = Vec::new(alloc);
-    push_decimal(tally.lists, &mut out).ok()?;
-    out.extend_from_slice(b" lists, ").ok()?;
-    push_decimal(tally.differ, &mut out).ok()?;
-    out.extend_from_slice(b" differ").ok()?;
-    Some(out)
+    out.push_count(tally.lists, " lists, ");
+    out.push_count(tally.differ, " differ");
+    Some(())
 }

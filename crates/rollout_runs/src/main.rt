@@ -26,32 +26,32 @@ mod runs;
 // Events and states as words.
 mod words;
 
-use base_model::OutOfMemory;
-use case_table::{Answers, report};
+use case_table::{Answers, Text, report};
 use std::alloc::Global;
 use std::io::{self, Read, Write};
 
 // What becomes of rollouts.
 struct Cases;
 
-fn answer_to(alloc: Global, kind: &str, case: &str) -> Option<Vec<u8>> {
+fn push_answer(alloc: Global, kind: &str, case: &str, out: &mut Text) -> Option<()> {
     match kind {
-        "events" => rows::told(alloc, case),
-        "answers" => rows::carried_out(alloc, case),
-        "lists" => lists::compared(alloc, case),
-        "runs" => runs::compared(alloc, case),
-        "rollouts" => rollouts::told(alloc, case),
-        "left" => checks::checked(alloc, case),
-        "faults" => faults::swept(alloc, case),
+        "events" => rows::push_told(alloc, case, out),
+        "answers" => rows::push_carried_out(alloc, case, out),
+        "lists" => lists::push_compared(alloc, case, out),
+        "runs" => runs::push_compared(alloc, case, out),
+        "rollouts" => rollouts::push_told(alloc, case, out),
+        "left" => checks::push_checked(alloc, case, out),
+        "faults" => faults::push_swept(alloc, case, out),
         _ => None,
     }
 }
 
 impl Answers for Cases {
-    fn answer(alloc: Global, kind: &str, case: &[u8]) -> Result<Vec<u8>, OutOfMemory> {
-        match answer_to(alloc, kind, str::from_utf8(case).unwrap_or("")) {
-            Some(answer) => Ok(answer),
-            None => Ok(Vec::from_slice(alloc, b"not understood")?),
+    fn answer(alloc: Global, kind: &str, case: &[u8], out: &mut Text) {
+        let case = str::from_utf8(case).unwrap_or("");
+        if push_answer(alloc, kind, case, out).is_none() {
+            out.bytes.clear();
+            out.push_str("not understood");
         }
     }
 }
@@ -59,8 +59,8 @@ impl Answers for Cases {
 fn main(rt: HostRuntime) -> io::Result<()> {
     let mut input = String::new(rt.alloc());
     rt.stdin().read_to_string(&mut input)?;
-    match report::<Cases>(rt.alloc(), input.as_str()) {
-        Ok(report) => rt.stdout().write_all(&report),
-        Err(OutOfMemory) => rt.stdout().write_all(b"out of memory\n"),
-    }
+    let mut out = Text::new(rt.alloc());
+    report::<Cases>(rt.alloc(), input.as_str(), &mut out);
+    rt.stdout()
+        .write_all(out.whole().unwrap_or(b"out of memory\n".as_slice()))
 }

@@ -5,6 +5,7 @@ ghost use Rattle.document_model.specs.Entries.{is_document};
 use crate::documents::document;
 use crate::moments::Moments;
 use crate::nodes::{Node, node_of};
+use case_table::Text;
 use document_model::Doc;
 use host_memory::MemorySink;
 use rollout_core::{Core, MAX_NODES};
@@ -32,14 +33,14 @@ pub fn nodes(alloc: Global, words: &str) -> Option<Vec<Node>> {
     Some(nodes)
 }
 
-/// Rolls a document out over nodes, and gives what was printed.
+/// Rolls a document out over nodes, and gives what it was printed to.
 pub fn roll(
     alloc: Global,
     limit: u32,
     moments: Vec<u64>,
     doc: &Doc,
     nodes: &mut Vec<Node>,
-) -> Option<Vec<u8>>
+) -> Option<MemorySink>
     requires { is_document doc.now ≡ true }
 {
     let count = nodes.len();
@@ -62,7 +63,7 @@ pub fn roll(
         &mut clock,
         &mut out,
     );
-    out.bytes().clone().ok()
+    Some(out)
 }
 
 /// The limit, the moments and the document of a case, and the words behind them.
@@ -93,7 +94,7 @@ fn rolled(
     moments: Vec<u64>,
     name: &str,
     words: &str,
-) -> Option<Vec<u8>> {
+) -> Option<MemorySink> {
     let mut nodes = nodes(alloc, words)?;
     match document(alloc, name) {
         Some(doc) => roll(alloc, limit, moments, &doc, &mut nodes),
@@ -101,9 +102,11 @@ fn rolled(
     }
 }
 
-/// `LIMIT; MOMENT ..; DOCUMENT; NODE ..`: what is printed.
-pub fn told(alloc: Global, case: &str) -> Option<Vec<u8>> {
+/// `LIMIT; MOMENT ..; DOCUMENT; NODE ..`: pushes what is printed.
+pub fn push_told(alloc: Global, case: &str, out: &mut Text) -> Option<()> {
     let head = head_of(case)?;
     let moments = moments(alloc, head.moments)?;
-    rolled(alloc, head.limit, moments, head.document, head.rest)
+    let printed = rolled(alloc, head.limit, moments, head.document, head.rest)?;
+    out.push_bytes(printed.bytes());
+    Some(())
 }

@@ -2,8 +2,7 @@
 
 use crate::plain::node_of;
 use crate::words::{begun, event_of, number, word_of};
-use base_model::push_decimal;
-use case_table::first_word;
+use case_table::{Text, first_word};
 use rollout_model::{Action, Core, Event, NodeState};
 use std::alloc::Global;
 
@@ -29,98 +28,76 @@ fn count(nodes: &[NodeState], is: NodeState) -> u64 {
     count
 }
 
-fn push_text(text: &str, out: &mut Vec<u8>) -> Option<()> {
-    out.extend_from_slice(text.as_bytes()).ok()
-}
-
-fn push_number(number: u64, out: &mut Vec<u8>) -> Option<()> {
-    push_decimal(number, out).ok()
-}
-
-// How many nodes ended how.
-fn push_counts(core: &Core, out: &mut Vec<u8>) -> Option<()> {
+// Whether the rollout is halted, and how many nodes ended how.
+fn push_end(core: &Core, out: &mut Text) {
     let nodes = core.nodes();
-    push_number(count(nodes, NodeState::Committed), out)?;
-    push_text(" committed, ", out)?;
-    push_number(count(nodes, NodeState::Restored), out)?;
-    push_text(" restored, ", out)?;
-    push_number(count(nodes, NodeState::Fresh), out)?;
-    push_text(" not started, ", out)?;
-    push_number(count(nodes, NodeState::Doubt), out)?;
-    push_text(" in doubt", out)
+    out.push_str(if core.is_halted() {
+        "halted, "
+    } else {
+        "going, "
+    });
+    out.push_count(count(nodes, NodeState::Committed), " committed, ");
+    out.push_count(count(nodes, NodeState::Restored), " restored, ");
+    out.push_count(count(nodes, NodeState::Fresh), " not started, ");
+    out.push_count(count(nodes, NodeState::Doubt), " in doubt");
 }
 
-fn push_halt(core: &Core, out: &mut Vec<u8>) -> Option<()> {
-    push_text(
-        if core.is_halted() {
-            "halted, "
-        } else {
-            "going, "
-        },
-        out,
-    )
-}
-
-fn push_told(core: &mut Core, events: &str, out: &mut Vec<u8>) -> Option<()> {
+fn push_accepted(core: &mut Core, events: &str, out: &mut Text) -> Option<()> {
     for words in events.split(", ") {
         let is_accepted = core.told(&read_event(words)?);
-        push_text(if is_accepted { "yes " } else { "no " }, out)?;
+        out.push_str(if is_accepted { "yes " } else { "no " });
     }
     Some(())
 }
 
-/// `NODES LIMIT: NODE WORD, ..`: whether each event is accepted, and what stands after them.
-pub fn told(alloc: Global, case: &str) -> Option<Vec<u8>> {
+/// `NODES LIMIT: NODE WORD, ..`: pushes whether each event is accepted, and what stands after them.
+pub fn push_told(alloc: Global, case: &str, out: &mut Text) -> Option<()> {
     let (words, events) = case.split_once(": ")?;
     let mut core = core_of(alloc, words)?;
-    let mut out = Vec::new(alloc);
-    push_told(&mut core, events, &mut out)?;
-    push_halt(&core, &mut out)?;
-    push_counts(&core, &mut out)?;
-    Some(out)
+    push_accepted(&mut core, events, out)?;
+    push_end(&core, out);
+    Some(())
 }
 
-fn tell(core: &mut Core, event: Event, out: &mut Vec<u8>) -> Option<()> {
+fn tell(core: &mut Core, event: Event, out: &mut Text) -> Option<()> {
     if !core.told(&event) {
         return None;
     }
-    push_number(node_of(event) as u64, out)?;
-    push_text(" ", out)?;
-    push_text(word_of(event), out)?;
-    push_text(", ", out)
+    out.push_count(u64::from(node_of(event)), " ");
+    out.push_str(word_of(event));
+    out.push_str(", ");
+    Some(())
 }
 
 // Carries out what is next, with an answer by its word.
-fn carry_out(core: &mut Core, word: &str, out: &mut Vec<u8>) -> Option<()> {
+fn carry_out(core: &mut Core, word: &str, out: &mut Text) -> Option<()> {
     match core.next() {
         Action::Start(i) => {
             tell(core, Event::Start(i), out)?;
             tell(core, event_of(word, i)?, out)
         }
-        Action::Probe(i) => tell(core, event_of(word, i)?, out),
-        Action::Commit(i) => tell(core, event_of(word, i)?, out),
-        Action::Rollback(i) => tell(core, event_of(word, i)?, out),
+        Action::Probe(i) | Action::Commit(i) | Action::Rollback(i) => {
+            tell(core, event_of(word, i)?, out)
+        }
         Action::Finish => None,
     }
 }
 
-fn carry_all_out(core: &mut Core, answers: &str, out: &mut Vec<u8>) -> Option<()> {
+fn carry_all_out(core: &mut Core, answers: &str, out: &mut Text) -> Option<()> {
     for word in answers.split(' ') {
         carry_out(core, word, out)?;
     }
     Some(())
 }
 
-/// `NODES LIMIT: WORD ..`: the events where what is next is done and answered so, up to the end, and what stands then.
-pub fn carried_out(alloc: Global, case: &str) -> Option<Vec<u8>> {
+/// `NODES LIMIT: WORD ..`: pushes the events where what is next is done and answered so, up to the end, and what stands then.
+pub fn push_carried_out(alloc: Global, case: &str, out: &mut Text) -> Option<()> {
     let (words, answers) = case.split_once(": ")?;
     let mut core = core_of(alloc, words)?;
-    let mut out = Vec::new(alloc);
-    carry_all_out(&mut core, answers, &mut out)?;
+    carry_all_out(&mut core, answers, out)?;
     if core.next() != Action::Finish {
         return None;
     }
-    push_halt(&core, &mut out)?;
-    push_counts(&core, &mut out)?;
-    Some(out)
+    push_end(&core, out);
+    Some(())
 }

@@ -1,9 +1,8 @@
 //! All runs in which what is next is done, with each answer that it may have.
 
 use crate::plain::{Plain, node_of};
-use crate::words::{after, number};
-use base_model::push_decimal;
-use case_table::first_word;
+use crate::words::{after, longer_by, number};
+use case_table::{Text, first_word};
 use rollout_model::{Action, Core, Event, NodeState};
 use std::alloc::Global;
 
@@ -69,66 +68,49 @@ fn is_end(core: &Core) -> bool {
     true
 }
 
-// The run with the events of one step more.
-fn with(
-    alloc: Global,
-    run: &Run,
-    first: Option<Event>,
-    answer: Event,
-    tally: &mut Tally,
-    runs: &mut Vec<Run>,
-) -> Option<()> {
-    let mut events = Vec::from_slice(alloc, run.events.as_slice()).ok()?;
+// The run with one event more.
+fn longer(alloc: Global, run: &Run, event: Event, tally: &mut Tally) -> Option<Run> {
+    let events = longer_by(alloc, run.events.as_slice(), event)?;
     let mut plain = run.plain.copied(alloc)?;
-    if let Some(event) = first {
-        tally.expect(plain.told(event));
-        events.push(event).ok()?;
-    }
-    tally.expect(plain.told(answer));
-    events.push(answer).ok()?;
-    runs.push(Run { events, plain }).ok()
+    tally.expect(plain.told(event));
+    Some(Run { events, plain })
 }
 
 fn answers(alloc: Global, action: Action) -> Option<Vec<Event>> {
     let answers = match action {
-        Action::Start(i) => [
-            Event::Open(i),
-            Event::Refused(i),
-            Event::Unclear(i),
-            Event::Starved(i),
-        ],
-        Action::Probe(i) => [
-            Event::Good(i),
-            Event::Bad(i),
-            Event::Unclear(i),
-            Event::Starved(i),
-        ],
-        Action::Commit(i) => [
-            Event::Closed(i),
-            Event::Late(i),
-            Event::Unclear(i),
-            Event::Unclear(i),
-        ],
-        Action::Rollback(i) => [
-            Event::Back(i),
-            Event::Unclear(i),
-            Event::Starved(i),
-            Event::Starved(i),
-        ],
-        Action::Finish => return Some(Vec::new(alloc)),
+        Action::Start(i) => Vec::from_slice(
+            alloc,
+            &[
+                Event::Open(i),
+                Event::Refused(i),
+                Event::Unclear(i),
+                Event::Starved(i),
+            ],
+        ),
+        Action::Probe(i) => Vec::from_slice(
+            alloc,
+            &[
+                Event::Good(i),
+                Event::Bad(i),
+                Event::Unclear(i),
+                Event::Starved(i),
+            ],
+        ),
+        Action::Commit(i) => {
+            Vec::from_slice(
+                alloc,
+                &[Event::Closed(i), Event::Late(i), Event::Unclear(i)],
+            )
+        }
+        Action::Rollback(i) => {
+            Vec::from_slice(
+                alloc,
+                &[Event::Back(i), Event::Unclear(i), Event::Starved(i)],
+            )
+        }
+        Action::Finish => Ok(Vec::new(alloc)),
     };
-    let few = match action {
-        Action::Start(_) | Action::Probe(_) => answers.as_slice(),
-        _ => answers.get(..3).unwrap_or(answers.as_slice()),
-    };
-    Vec::from_slice(alloc, few).ok()
-}
-
-fn first_of(action: Action) -> Option<Event> {
-    match action {
-        Action::Start(i) => Some(Event::Start(i)),
-        _ => None,
-    }
+    answers.ok()
 }
 
 fn each_answer(
@@ -140,9 +122,26 @@ fn each_answer(
 ) -> Option<()> {
     let answers = answers(alloc, action)?;
     for answer in answers.as_slice() {
-        with(alloc, run, first_of(action), *answer, tally, runs)?;
+        runs.push(longer(alloc, run, *answer, tally)?).ok()?;
     }
     Some(())
+}
+
+// Does what is next, with each answer. A start is an event of its own before its answer.
+fn take_step(
+    alloc: Global,
+    run: &Run,
+    action: Action,
+    tally: &mut Tally,
+    runs: &mut Vec<Run>,
+) -> Option<()> {
+    match action {
+        Action::Start(i) => {
+            let begun = longer(alloc, run, Event::Start(i), tally)?;
+            each_answer(alloc, &begun, action, tally, runs)
+        }
+        _ => each_answer(alloc, run, action, tally, runs),
+    }
 }
 
 fn one_step(
@@ -160,7 +159,7 @@ fn one_step(
         tally.expect(is_end(&core));
         tally.expect(has_few(run.events.as_slice(), nodes));
     }
-    each_answer(alloc, run, action, tally, runs)
+    take_step(alloc, run, action, tally, runs)
 }
 
 fn each_run(alloc: Global, nodes: u32, shorter: &[Run], tally: &mut Tally) -> Option<Vec<Run>> {
@@ -186,15 +185,12 @@ fn all(alloc: Global, nodes: u32, limit: u32) -> Option<Tally> {
     Some(tally)
 }
 
-/// `NODES LIMIT`: how many runs there are, and how many things in them went otherwise than by the table of this program, ended
-/// with a node that waits, or with more events of a node than there may be.
-pub fn compared(alloc: Global, case: &str) -> Option<Vec<u8>> {
+/// `NODES LIMIT`: pushes how many runs there are, and how many things in them went otherwise than by the table of this program,
+/// ended with a node that waits, or with more events of a node than there may be.
+pub fn push_compared(alloc: Global, case: &str, out: &mut Text) -> Option<()> {
     let (nodes, limit) = first_word(case);
     let tally = all(alloc, number(nodes)?, number(limit)?)?;
-    let mut out = Vec::new(alloc);
-    push_decimal(tally.ended, &mut out).ok()?;
-    out.extend_from_slice(b" runs, ").ok()?;
-    push_decimal(tally.wrong, &mut out).ok()?;
-    out.extend_from_slice(b" wrong").ok()?;
-    Some(out)
+    out.push_count(tally.ended, " runs, ");
+    out.push_count(tally.wrong, " wrong");
+    Some(())
 }

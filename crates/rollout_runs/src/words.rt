@@ -50,6 +50,13 @@ pub fn push_events(node: u32, events: &mut Vec<Event>) -> Option<()> {
     events.push(Event::Back(node)).ok()
 }
 
+/// These events, and one more.
+pub fn longer_by(alloc: Global, events: &[Event], event: Event) -> Option<Vec<Event>> {
+    let mut longer = Vec::from_slice(alloc, events).ok()?;
+    longer.push(event).ok()?;
+    Some(longer)
+}
+
 /// A number in digits.
 pub fn number(word: &str) -> Option<u32> {
     word.parse::<u32>().ok()

@@ -1,6 +1,8 @@
 //! Places in a document, and lists that a struct owns.
 
-use base_model::{Items, OutOfMemory, Path, PathStep, Str, push_decimal, write_path};
+use crate::places::push_place;
+use base_model::{Items, OutOfMemory, Path, PathStep, Str, push_decimal};
+use case_table::Text;
 use std::alloc::Global;
 
 // `.KEY` or `[POSITION`.
@@ -26,83 +28,85 @@ fn place(alloc: Global, words: &str) -> Result<Path, OutOfMemory> {
 }
 
 // The place of the words, behind what stands there already.
-fn push_place(alloc: Global, words: &str, out: &mut Vec<u8>) -> Result<(), OutOfMemory> {
-    out.extend_from_slice(b"at ")?;
-    write_path(&place(alloc, words)?, out)
+fn push_behind(alloc: Global, words: &str, out: &mut Text) -> Result<(), OutOfMemory> {
+    let path = place(alloc, words)?;
+    out.push_str("at ");
+    push_place(&path, out);
+    Ok(())
 }
 
 // `STEP STEPS`: the place of the steps, the one that goes the step further, and the first once more.
-fn push_extended(alloc: Global, words: &str, out: &mut Vec<u8>) -> Result<(), OutOfMemory> {
+fn push_extended(alloc: Global, words: &str, out: &mut Text) -> Result<(), OutOfMemory> {
     let (word, steps) = words.split_once(' ').unwrap_or((words, ""));
     let path = place(alloc, steps)?;
     let further = path.extended(step(alloc, word)?)?;
-    write_path(&path, out)?;
-    out.extend_from_slice(b", ")?;
-    write_path(&further, out)?;
-    out.extend_from_slice(b", ")?;
-    write_path(&path, out)
+    push_place(&path, out);
+    out.push_str(", ");
+    push_place(&further, out);
+    out.push_str(", ");
+    push_place(&path, out);
+    Ok(())
 }
 
 // Puts a number in at an index, where the list is as long.
 fn insert(list: &mut Items<u32>, index: usize, number: u32) -> Result<(), OutOfMemory> {
     if index <= list.items().len() {
-        list.insert(index, number)?;
+        list.insert(index, number)
+    } else {
+        Ok(())
     }
-    Ok(())
 }
 
 // Takes out what stands at an index, and says it.
-fn remove(list: &mut Items<u32>, index: usize, out: &mut Vec<u8>) -> Result<(), OutOfMemory> {
+fn remove(list: &mut Items<u32>, index: usize, out: &mut Text) {
     if index < list.items().len() {
-        push_decimal(list.remove(index), out)?;
-        out.extend_from_slice(b", ")?;
+        out.push_count(u64::from(list.remove(index)), ", ");
     }
-    Ok(())
 }
 
 // An edit of a list: `+NUMBER`, `INDEX+NUMBER`, `-INDEX`, or `clear`.
-fn edit(list: &mut Items<u32>, word: &str, out: &mut Vec<u8>) -> Result<(), OutOfMemory> {
+fn edit(list: &mut Items<u32>, word: &str, out: &mut Text) {
     if word == "clear" {
         list.clear();
-        return Ok(());
+        return;
     }
     if let Some(index) = word.strip_prefix('-') {
-        return remove(list, index.parse::<usize>().unwrap_or(0), out);
+        remove(list, index.parse::<usize>().unwrap_or(0), out);
+        return;
     }
     let (index, number) = word.split_once('+').unwrap_or(("", word));
     let number = number.parse::<u32>().unwrap_or(0);
-    match index.parse::<usize>() {
+    let edited = match index.parse::<usize>() {
         Ok(index) => insert(list, index, number),
         Err(_) => list.push(number),
-    }
+    };
+    out.remember(edited.is_ok());
 }
 
 // What is taken out of a list by edits, and what it is then.
-fn push_edits(alloc: Global, words: &str, out: &mut Vec<u8>) -> Result<(), OutOfMemory> {
+fn push_edits(alloc: Global, words: &str, out: &mut Text) {
     let mut list = Items::of(Vec::new(alloc));
     for word in words.split(' ') {
-        edit(&mut list, word, out)?;
+        edit(&mut list, word, out);
     }
-    out.push(b':')?;
+    out.push_byte(b':');
     for number in list.items() {
-        out.push(b' ')?;
-        push_decimal(*number, out)?;
+        out.push_byte(b' ');
+        out.push_number(u64::from(*number));
     }
-    Ok(())
 }
 
-/// Appends the answer to a case on places or lists, if it is one.
-pub fn answer(
-    alloc: Global,
-    kind: &str,
-    case: &str,
-    out: &mut Vec<u8>,
-) -> Result<bool, OutOfMemory> {
-    match kind {
-        "place" => push_place(alloc, case, out)?,
-        "place-further" => push_extended(alloc, case, out)?,
-        "list-edits" => push_edits(alloc, case, out)?,
-        _ => return Ok(false),
-    }
-    Ok(true)
+/// Pushes the answer to a case on places or lists, if it is one.
+pub fn answer(alloc: Global, kind: &str, case: &str, out: &mut Text) -> bool {
+    let pushed = match kind {
+        "place" => push_behind(alloc, case, out),
+        "place-further" => push_extended(alloc, case, out),
+        "list-edits" => {
+            push_edits(alloc, case, out);
+            Ok(())
+        }
+        _ => return false,
+    };
+    out.remember(pushed.is_ok());
+    true
 }

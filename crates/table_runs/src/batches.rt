@@ -2,7 +2,7 @@
 ghost use Rattle.std.specs.Prelude.{◌≡◌};
 ghost use Rattle.net_text.specs.Line.{has_line};
 
-use base_model::{OutOfMemory, push_decimal};
+use case_table::Text;
 use ip_batch::{BatchFault, read_batch, write_batch};
 use net_model::{Call, Kind};
 use net_text::write_call_line;
@@ -18,36 +18,40 @@ fn has_line(call: &Call) -> bool
     }
 }
 
-fn push_call(call: &Call, out: &mut Vec<u8>) -> Result<(), OutOfMemory> {
+fn push_call(call: &Call, out: &mut Text) {
     if has_line(call) {
-        write_call_line(call, out)?;
+        let written = write_call_line(call, &mut out.bytes);
+        out.remember(written.is_ok());
     } else {
-        out.extend_from_slice(b"a device")?;
+        out.push_str("a device");
     }
-    out.push(b'\n')?;
-    Ok(())
+    out.push_byte(b'\n');
 }
 
-fn push_calls(calls: &[Call], out: &mut Vec<u8>) -> Result<(), OutOfMemory> {
+fn push_calls(calls: &[Call], out: &mut Text) {
     for call in calls {
-        push_call(call, out)?;
+        push_call(call, out);
     }
-    Ok(())
 }
 
-fn push_fault(fault: BatchFault, out: &mut Vec<u8>) -> Result<(), OutOfMemory> {
+fn push_lines(calls: &Vec<Call>, out: &mut Text) {
+    let written = write_batch(calls, &mut out.bytes);
+    out.remember(written.is_ok());
+}
+
+fn push_fault(fault: BatchFault, out: &mut Text) {
     match fault {
         BatchFault::Line(number) => {
-            out.extend_from_slice(b"line ")?;
-            push_decimal(number, out)
+            out.push_str("line ");
+            out.push_number(number);
         }
-        BatchFault::TooLarge => Ok(out.extend_from_slice(b"too large")?),
-        BatchFault::OutOfMemory => Err(OutOfMemory),
+        BatchFault::TooLarge => out.push_str("too large"),
+        BatchFault::OutOfMemory => out.remember(false),
     }
 }
 
 // The calls of a text, as plans print them.
-fn push_plan(alloc: Global, text: &[u8], out: &mut Vec<u8>) -> Result<(), OutOfMemory> {
+fn push_plan(alloc: Global, text: &[u8], out: &mut Text) {
     match read_batch(alloc, text) {
         Ok(calls) => push_calls(&calls, out),
         Err(fault) => push_fault(fault, out),
@@ -55,24 +59,19 @@ fn push_plan(alloc: Global, text: &[u8], out: &mut Vec<u8>) -> Result<(), OutOfM
 }
 
 // The lines of the calls of a text.
-fn push_again(alloc: Global, text: &[u8], out: &mut Vec<u8>) -> Result<(), OutOfMemory> {
+fn push_again(alloc: Global, text: &[u8], out: &mut Text) {
     match read_batch(alloc, text) {
-        Ok(calls) => write_batch(&calls, out),
+        Ok(calls) => push_lines(&calls, out),
         Err(fault) => push_fault(fault, out),
     }
 }
 
-/// Appends the answer to a case on lines in the manner of ip(8), if it is one.
-pub fn answer(
-    alloc: Global,
-    kind: &str,
-    case: &[u8],
-    out: &mut Vec<u8>,
-) -> Result<bool, OutOfMemory> {
+/// Pushes the answer to a case on lines in the manner of ip(8), if it is one.
+pub fn answer(alloc: Global, kind: &str, case: &[u8], out: &mut Text) -> bool {
     match kind {
-        "batch" => push_plan(alloc, case, out)?,
-        "batch-again" => push_again(alloc, case, out)?,
-        _ => return Ok(false),
+        "batch" => push_plan(alloc, case, out),
+        "batch-again" => push_again(alloc, case, out),
+        _ => return false,
     }
-    Ok(true)
+    true
 }

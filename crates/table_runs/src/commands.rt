@@ -1,6 +1,7 @@
 //! The command of words.
 
-use base_model::{Items, OutOfMemory, Str, push_decimal};
+use base_model::{Items, OutOfMemory, Str};
+use case_table::Text;
 use command_words::{Command, command_of, lone};
 use std::alloc::Global;
 
@@ -13,19 +14,26 @@ pub fn words(alloc: Global, line: &str) -> Result<Vec<String>, OutOfMemory> {
     Ok(words)
 }
 
-fn push_text(key: &str, text: &Option<Str>, out: &mut Vec<u8>) -> Result<(), OutOfMemory> {
-    if let Some(text) = text {
-        out.extend_from_slice(key.as_bytes())?;
-        out.extend_from_slice(text.as_str().as_bytes())?;
-    }
-    Ok(())
+fn push_text(key: &str, text: &Str, out: &mut Text) {
+    out.push_str(key);
+    out.push_str(text.as_str());
 }
 
-fn push_flag(word: &str, flag: bool, out: &mut Vec<u8>) -> Result<(), OutOfMemory> {
-    if flag {
-        out.extend_from_slice(word.as_bytes())?;
+fn push_given(key: &str, text: &Option<Str>, out: &mut Text) {
+    if let Some(text) = text {
+        push_text(key, text, out);
     }
-    Ok(())
+}
+
+fn push_number(key: &str, number: u32, out: &mut Text) {
+    out.push_str(key);
+    out.push_number(u64::from(number));
+}
+
+fn push_flag(word: &str, flag: bool, out: &mut Text) {
+    if flag {
+        out.push_str(word);
+    }
 }
 
 // The name of a command.
@@ -48,91 +56,68 @@ fn name_of(command: &Command) -> &'static str {
     }
 }
 
-fn push_apply(
-    flags: (bool, bool),
-    file: &Option<Str>,
-    timeout: u32,
-    out: &mut Vec<u8>,
-) -> Result<(), OutOfMemory> {
-    push_flag(" no-commit", flags.0, out)?;
-    push_flag(" no-verify", flags.1, out)?;
-    out.extend_from_slice(b" timeout=")?;
-    push_decimal(timeout, out)?;
-    push_text(" file=", file, out)
-}
-
-fn push_rollout(
-    limit: u32,
-    file: &Str,
-    dirs: &Items<Str>,
-    out: &mut Vec<u8>,
-) -> Result<(), OutOfMemory> {
-    out.extend_from_slice(b" limit=")?;
-    push_decimal(limit, out)?;
-    out.extend_from_slice(b" file=")?;
-    out.extend_from_slice(file.as_str().as_bytes())?;
+fn push_rollout(limit: u32, file: &Str, dirs: &Items<Str>, out: &mut Text) {
+    push_number(" limit=", limit, out);
+    push_text(" file=", file, out);
     for dir in dirs.items() {
-        out.extend_from_slice(b" dir=")?;
-        out.extend_from_slice(dir.as_str().as_bytes())?;
+        push_text(" dir=", dir, out);
     }
-    Ok(())
 }
 
-fn push_command(command: &Command, out: &mut Vec<u8>) -> Result<(), OutOfMemory> {
-    out.extend_from_slice(name_of(command).as_bytes())?;
+fn push_command(command: &Command, out: &mut Text) {
+    out.push_str(name_of(command));
     match command {
         Command::Show { only, json } => {
-            push_flag(" json", *json, out)?;
-            push_text(" only=", only, out)
+            push_flag(" json", *json, out);
+            push_given(" only=", only, out);
         }
         Command::Plan { file, batch } => {
-            push_flag(" batch", *batch, out)?;
-            push_text(" file=", file, out)
+            push_flag(" batch", *batch, out);
+            push_given(" file=", file, out);
         }
         Command::Policy { file }
         | Command::Simulate { file }
         | Command::Init { file }
-        | Command::Script { file } => { push_text(" file=", file, out) }
-        Command::Service { dir } => {
-            out.extend_from_slice(b" dir=")?;
-            Ok(out.extend_from_slice(dir.as_str().as_bytes())?)
-        }
+        | Command::Script { file } => push_given(" file=", file, out),
+        Command::Service { dir } => push_text(" dir=", dir, out),
         Command::Rollout { limit, file, dirs } => push_rollout(*limit, file, dirs, out),
         Command::Apply {
             file,
             no_commit,
             no_verify,
             timeout,
-        } => push_apply((*no_commit, *no_verify), file, *timeout, out),
-        Command::Generate { devices, seed } => {
-            out.extend_from_slice(b" devices=")?;
-            push_decimal(*devices, out)?;
-            out.extend_from_slice(b" seed=")?;
-            push_decimal(*seed, out)
+        } => {
+            push_flag(" no-commit", *no_commit, out);
+            push_flag(" no-verify", *no_verify, out);
+            push_number(" timeout=", *timeout, out);
+            push_given(" file=", file, out);
         }
-        _ => Ok(()),
+        Command::Generate { devices, seed } => {
+            push_number(" devices=", *devices, out);
+            push_number(" seed=", *seed, out);
+        }
+        _ => {}
     }
 }
 
-fn push_found(command: Option<Command>, out: &mut Vec<u8>) -> Result<(), OutOfMemory> {
-    match command {
-        Some(command) => push_command(&command, out),
-        None => Ok(out.extend_from_slice(b"none")?),
-    }
-}
-
-/// Appends the answer to a case on commands, if it is one.
-pub fn answer(
-    alloc: Global,
-    kind: &str,
-    case: &str,
-    out: &mut Vec<u8>,
-) -> Result<bool, OutOfMemory> {
+// The command of the words, of none at all, or of words that stand alone.
+fn found(alloc: Global, kind: &str, case: &str) -> Result<Option<Command>, OutOfMemory> {
     match kind {
-        "command" => push_found(command_of(alloc, &words(alloc, case)?)?, out)?,
-        "no-words" => push_found(command_of(alloc, &[])?, out)?,
-        "lone" => push_found(lone(&words(alloc, case)?), out)?,
-        _ => return Ok(false),
+        "command" => command_of(alloc, &words(alloc, case)?),
+        "lone" => Ok(lone(&words(alloc, case)?)),
+        _ => command_of(alloc, &[]),
     }
-    Ok(true)
+}
+
+/// Pushes the answer to a case on commands, if it is one.
+pub fn answer(alloc: Global, kind: &str, case: &str, out: &mut Text) -> bool {
+    if !matches!(kind, "command" | "lone" | "no-words") {
+        return false;
+    }
+    match found(alloc, kind, case) {
+        Ok(Some(command)) => push_command(&command, out),
+        Ok(None) => out.push_str("none"),
+        Err(OutOfMemory) => out.remember(false),
+    }
+    true
 }

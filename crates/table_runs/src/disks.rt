@@ -4,9 +4,9 @@
 //! `stopped AFTER PICK AREA`. A first step `fuse N` or `fuse N done` has the Nth call fail, done or not.
 ghost use Rattle.std.specs.Prelude.{◌<◌};
 
-use base_model::{OutOfMemory, push_decimal};
-use case_table::first_word;
-use host_core::Disk;
+use base_model::OutOfMemory;
+use case_table::{Text, first_word};
+use host_core::{Disk, Failed};
 use host_memory::{Fuse, MemoryDisk};
 use std::alloc::Global;
 
@@ -34,117 +34,114 @@ fn pick_of(word: &str) -> u8
     }
 }
 
-fn push_done(is_done: bool, out: &mut Vec<u8>) -> Result<(), OutOfMemory> {
-    out.extend_from_slice(if is_done {
-        b"done".as_slice()
-    } else {
-        b"failed"
-    })?;
-    Ok(())
+fn push_done(is_done: bool, out: &mut Text) {
+    out.push_str(if is_done { "done" } else { "failed" });
 }
 
-fn write(disk: &mut MemoryDisk, rest: &str, out: &mut Vec<u8>) -> Result<(), OutOfMemory> {
+fn write(disk: &mut MemoryDisk, rest: &str, out: &mut Text) {
     let (area, rest) = first_word(rest);
     let (at, text) = first_word(rest);
     let at = number(at);
     let bytes = text.as_bytes();
     if at > MOST || bytes.len() > 1000 {
-        return push_done(false, out);
+        push_done(false, out);
+    } else {
+        push_done(disk.write_at(area_of(area), at, bytes).is_ok(), out);
     }
-    let is_done = disk.write_at(area_of(area), at, bytes).is_ok();
-    push_done(is_done, out)
 }
 
-fn read(disk: &mut MemoryDisk, rest: &str, out: &mut Vec<u8>) -> Result<(), OutOfMemory> {
+// How many bytes a read gave, and all of the buffer.
+fn push_given(given: Result<u64, Failed>, buffer: &[u8], out: &mut Text) {
+    match given {
+        Ok(count) => {
+            out.push_count(count, " ");
+            out.push_bytes(buffer);
+        }
+        Err(Failed) => push_done(false, out),
+    }
+}
+
+fn read(disk: &mut MemoryDisk, rest: &str, out: &mut Text) {
     let (area, at) = first_word(rest);
     let at = number(at);
-    let mut buf = [7; 4];
+    let mut buffer = [7; 4];
     if at > MOST {
-        return push_done(false, out);
-    }
-    match disk.read_at(area_of(area), at, &mut buf) {
-        Ok(count) => {
-            push_decimal(count, out)?;
-            out.push(b' ')?;
-            out.extend_from_slice(&buf)?;
-            Ok(())
-        }
-        Err(_) => push_done(false, out),
+        push_done(false, out);
+    } else {
+        let given = disk.read_at(area_of(area), at, &mut buffer);
+        push_given(given, &buffer, out);
     }
 }
 
-fn size(disk: &mut MemoryDisk, area: &str, out: &mut Vec<u8>) -> Result<(), OutOfMemory> {
+fn size(disk: &mut MemoryDisk, area: &str, out: &mut Text) {
     match disk.size(area_of(area)) {
-        Ok(size) => push_decimal(size, out),
-        Err(_) => push_done(false, out),
+        Ok(size) => out.push_number(size),
+        Err(Failed) => push_done(false, out),
     }
 }
 
 // `AFTER PICK AREA`.
-fn stopped(
-    alloc: Global,
-    disk: &MemoryDisk,
-    rest: &str,
-    out: &mut Vec<u8>,
-) -> Result<(), OutOfMemory> {
+fn stopped(alloc: Global, disk: &MemoryDisk, rest: &str, out: &mut Text) {
     let (after, rest) = first_word(rest);
     let (pick, area) = first_word(rest);
     let after = number(after);
     if after > disk.calls() {
-        return push_done(false, out);
+        push_done(false, out);
+        return;
     }
-    let left = disk.stopped(alloc, after, pick_of(pick))?;
-    out.extend_from_slice(left.area(area_of(area)))?;
-    Ok(())
+    match disk.stopped(alloc, after, pick_of(pick)) {
+        Ok(left) => out.push_bytes(left.area(area_of(area))),
+        Err(OutOfMemory) => out.remember(false),
+    }
 }
 
-fn push_step(
-    alloc: Global,
-    disk: &mut MemoryDisk,
-    step: &str,
-    out: &mut Vec<u8>,
-) -> Result<(), OutOfMemory> {
+fn push_step(alloc: Global, disk: &mut MemoryDisk, step: &str, out: &mut Text) {
     let (word, rest) = first_word(step);
     match word {
         "write" => write(disk, rest, out),
         "sync" => push_done(disk.sync(area_of(rest)).is_ok(), out),
         "read" => read(disk, rest, out),
         "size" => size(disk, rest, out),
-        "area" => Ok(out.extend_from_slice(disk.area(area_of(rest)))?),
-        "calls" => push_decimal(disk.calls(), out),
+        "area" => out.push_bytes(disk.area(area_of(rest))),
+        "calls" => out.push_number(disk.calls()),
         "stopped" => stopped(alloc, disk, rest, out),
-        _ => Ok(out.extend_from_slice(b"no such step")?),
+        _ => out.push_str("no such step"),
     }
 }
 
-// The disk, and the steps behind its fuse.
-fn disk_of(alloc: Global, case: &str) -> Result<(MemoryDisk, &str), OutOfMemory> {
+// The fuse of a first step, if it is one, and the steps behind it.
+fn fuse_of(case: &str) -> (Option<Fuse>, &str) {
+    let Some(rest) = case.strip_prefix("fuse ") else {
+        return (None, case);
+    };
+    let (fuse, steps) = rest.split_once("; ").unwrap_or((rest, ""));
+    let (call, how) = first_word(fuse);
+    let fuse = Fuse {
+        call: number(call),
+        done: how == "done",
+    };
+    (Some(fuse), steps)
+}
+
+// The disk of a case. `out` remembers whether there was memory for it.
+fn disk(alloc: Global, fuse: Option<Fuse>, out: &mut Text) -> MemoryDisk {
     let mut fuses = Vec::new(alloc);
-    let mut steps = case;
-    if let Some(rest) = case.strip_prefix("fuse ") {
-        let (fuse, behind) = rest.split_once("; ").unwrap_or((rest, ""));
-        let (call, how) = first_word(fuse);
-        fuses.push(Fuse {
-            call: number(call),
-            done: how == "done",
-        })?;
-        steps = behind;
+    if let Some(fuse) = fuse {
+        out.remember(fuses.push(fuse).is_ok());
     }
-    let kernel = Vec::from_slice(alloc, b"abc")?;
-    Ok((
-        MemoryDisk::new(alloc, kernel, Vec::new(alloc), fuses),
-        steps,
-    ))
+    let mut kernel = Vec::new(alloc);
+    out.remember(kernel.extend_from_slice(b"abc").is_ok());
+    MemoryDisk::new(alloc, kernel, Vec::new(alloc), fuses)
 }
 
-/// Appends what each step gives.
-pub fn push_steps(alloc: Global, case: &str, out: &mut Vec<u8>) -> Result<(), OutOfMemory> {
-    let (mut disk, steps) = disk_of(alloc, case)?;
-    for (i, step) in steps.split("; ").enumerate() {
-        if i > 0 {
-            out.extend_from_slice(b"; ")?;
-        }
-        push_step(alloc, &mut disk, step, out)?;
+/// Pushes what each step gives.
+pub fn push_steps(alloc: Global, case: &str, out: &mut Text) {
+    let (fuse, steps) = fuse_of(case);
+    let mut disk = disk(alloc, fuse, out);
+    let mut between = b"".as_slice();
+    for step in steps.split("; ") {
+        out.push_bytes(between);
+        push_step(alloc, &mut disk, step, out);
+        between = b"; ";
     }
-    Ok(())
 }

@@ -3,7 +3,11 @@
 //! of commands.
 #![tactic(auto)]
 
-// Places in a document, and lists that a struct owns.
+// Addresses as they are printed.
+mod addresses;
+// Places in a document.
+mod places;
+// Places that words lead to, and lists that a struct owns.
 mod bases;
 // Lines in the manner of ip(8).
 mod batches;
@@ -15,8 +19,6 @@ mod commands;
 mod disks;
 // JSON and YAML.
 mod documents;
-// Bytes as hexadecimal digits.
-mod hex;
 // Images.
 mod images;
 // Stored bytes.
@@ -44,66 +46,51 @@ mod values;
 // Addresses and words of settings.
 mod words;
 
-use base_model::OutOfMemory;
-use case_table::{Answers, report};
+use case_table::{Answers, Text, report};
 use std::alloc::Global;
 use std::io::{self, Read, Write};
 
 // The tables.
 struct Tables;
 
-// Appends the answer to a case of bytes, if it is one: documents, lines, addresses, policies.
-fn push_of_bytes(
-    alloc: Global,
-    kind: &str,
-    case: &[u8],
-    out: &mut Vec<u8>,
-) -> Result<bool, OutOfMemory> {
-    if kind == "bytes" {
-        orders::push_steps(alloc, case, out)?;
-        return Ok(true);
+// Pushes the answer to a case of bytes, if it is one: steps, documents, lines, addresses, policies.
+fn push_of_bytes(alloc: Global, kind: &str, case: &[u8], out: &mut Text) -> bool {
+    if kind == "steps" || kind == "bytes" {
+        orders::push_steps(alloc, case, out);
+        return true;
     }
-    let is_answered = documents::answer(alloc, kind, case, out)?
-        || batches::answer(alloc, kind, case, out)?
-        || words::answer(kind, case, out)?
-        || policies::answer(alloc, kind, case, out)?
-        || values::answer(alloc, kind, case, out)?;
-    Ok(is_answered)
+    documents::answer(alloc, kind, case, out)
+        || batches::answer(alloc, kind, case, out)
+        || words::answer(kind, case, out)
+        || policies::answer(alloc, kind, case, out)
+        || values::answer(alloc, kind, case, out)
 }
 
-// Appends the answer to a case of text, if it is one: places and lists, networks, stored bytes, words, orders, answers.
-fn push_of_text(
-    alloc: Global,
-    kind: &str,
-    case: &str,
-    out: &mut Vec<u8>,
-) -> Result<bool, OutOfMemory> {
-    let is_answered = bases::answer(alloc, kind, case, out)?
-        || networks::answer(alloc, kind, case, out)?
-        || kept::answer(alloc, kind, case, out)?
-        || commands::answer(alloc, kind, case, out)?
-        || orders::answer(alloc, kind, case, out)?
-        || told::answer(alloc, kind, case, out)?;
-    Ok(is_answered)
+// Pushes the answer to a case of text, if it is one: places and lists, networks, stored bytes, words, orders, answers.
+fn push_of_text(alloc: Global, kind: &str, case: &str, out: &mut Text) -> bool {
+    bases::answer(alloc, kind, case, out)
+        || networks::answer(alloc, kind, case, out)
+        || kept::answer(alloc, kind, case, out)
+        || commands::answer(alloc, kind, case, out)
+        || orders::answer(alloc, kind, case, out)
+        || told::answer(alloc, kind, case, out)
 }
 
 impl Answers for Tables {
-    fn answer(alloc: Global, kind: &str, case: &[u8]) -> Result<Vec<u8>, OutOfMemory> {
-        let mut out = Vec::new(alloc);
-        if !push_of_bytes(alloc, kind, case, &mut out)?
-            && !push_of_text(alloc, kind, str::from_utf8(case).unwrap_or(""), &mut out)?
-        {
-            out.extend_from_slice(b"no such kind")?;
+    fn answer(alloc: Global, kind: &str, case: &[u8], out: &mut Text) {
+        let is_answered = push_of_bytes(alloc, kind, case, out)
+            || push_of_text(alloc, kind, str::from_utf8(case).unwrap_or(""), out);
+        if !is_answered {
+            out.push_str("no such kind");
         }
-        Ok(out)
     }
 }
 
 fn main(rt: HostRuntime) -> io::Result<()> {
     let mut input = String::new(rt.alloc());
     rt.stdin().read_to_string(&mut input)?;
-    match report::<Tables>(rt.alloc(), input.as_str()) {
-        Ok(report) => rt.stdout().write_all(&report),
-        Err(OutOfMemory) => rt.stdout().write_all(b"out of memory\n"),
-    }
+    let mut out = Text::new(rt.alloc());
+    report::<Tables>(rt.alloc(), input.as_str(), &mut out);
+    rt.stdout()
+        .write_all(out.whole().unwrap_or(b"out of memory\n".as_slice()))
 }

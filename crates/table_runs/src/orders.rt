@@ -1,7 +1,8 @@
 //! The order of words with what is read for it, and the steps of scripts.
 
 use crate::commands::words;
-use base_model::{OutOfMemory, Str, push_decimal};
+use base_model::{OutOfMemory, Str};
+use case_table::Text;
 use host_memory::{Fuse, MemorySource};
 use order_reading::{Order, read_order, read_script, script_file, steps_of};
 use std::alloc::Global;
@@ -9,15 +10,15 @@ use top_model::{Cause, DocFault, Step};
 
 // A source with this input under the name `file`, whose call of this number fails; no call has the number 0.
 fn source(alloc: Global, text: &str, failing: u64) -> Result<MemorySource, OutOfMemory> {
-    let name = String::from_str(alloc, "file")?;
-    let bytes = Vec::from_slice(alloc, text.as_bytes())?;
-    let mut inputs = Vec::new(alloc);
-    inputs.push((name, bytes))?;
     let mut fuses = Vec::new(alloc);
     fuses.push(Fuse {
         call: failing,
         done: false,
     })?;
+    let name = String::from_str(alloc, "file")?;
+    let bytes = Vec::from_slice(alloc, text.as_bytes())?;
+    let mut inputs = Vec::new(alloc);
+    inputs.push((name, bytes))?;
     Ok(MemorySource::new(alloc, inputs, fuses))
 }
 
@@ -70,72 +71,71 @@ fn push_order(
     alloc: Global,
     in_script: bool,
     case: &str,
-    out: &mut Vec<u8>,
+    out: &mut Text,
 ) -> Result<(), OutOfMemory> {
     let (line, rest) = case.split_once(" | ").unwrap_or((case, ""));
     let (failing, text) = rest.split_once(" | ").unwrap_or((rest, ""));
     let mut source = source(alloc, text, failing.parse::<u64>().unwrap_or(0))?;
     let asked = words(alloc, line)?;
-    let name = name_asked(alloc, in_script, asked.as_slice(), &mut source);
-    Ok(out.extend_from_slice(name.as_bytes())?)
+    out.push_str(name_asked(alloc, in_script, asked.as_slice(), &mut source));
+    Ok(())
 }
 
-// How many steps there are, with the moment and the words of the first, or the number of the line that is none.
-fn push_answer(answer: &Result<Vec<Step>, Cause>, out: &mut Vec<u8>) -> Result<(), OutOfMemory> {
-    match answer {
-        Ok(steps) => {
-            push_decimal(steps.len(), out)?;
-            if let Some(step) = steps.first() {
-                out.extend_from_slice(b" from ")?;
-                push_decimal(step.at, out)?;
-                out.extend_from_slice(b", words ")?;
-                push_decimal(step.words.len(), out)?;
-            }
-            Ok(())
-        }
-        Err(Cause::BadLine(number)) => {
-            out.extend_from_slice(b"line ")?;
-            push_decimal(*number, out)
-        }
-        Err(_) => Ok(out.extend_from_slice(b"another")?),
+// How many steps there are, with the moment and the words of the first.
+fn push_count(steps: &[Step], out: &mut Text) {
+    out.push_number(steps.len() as u64);
+    if let Some(step) = steps.first() {
+        out.push_str(" from ");
+        out.push_count(step.at, ", words ");
+        out.push_number(step.words.len() as u64);
     }
 }
 
-/// Appends what the lines of a script are.
-pub fn push_steps(alloc: Global, text: &[u8], out: &mut Vec<u8>) -> Result<(), OutOfMemory> {
-    push_answer(&steps_of(alloc, text), out)
+// The steps, or the number of the line that is none.
+fn push_answer(answer: &Result<Vec<Step>, Cause>, out: &mut Text) {
+    match answer {
+        Ok(steps) => push_count(steps, out),
+        Err(Cause::BadLine(number)) => {
+            out.push_str("line ");
+            out.push_number(*number);
+        }
+        Err(_) => out.push_str("another"),
+    }
 }
 
-fn push_file(file: &Option<Option<Str>>, out: &mut Vec<u8>) -> Result<(), OutOfMemory> {
-    match file {
-        Some(Some(file)) => out.extend_from_slice(file.as_str().as_bytes())?,
-        Some(None) => out.extend_from_slice(b"standard input")?,
-        None => out.extend_from_slice(b"no script")?,
+/// Pushes what the lines of a script are.
+pub fn push_steps(alloc: Global, text: &[u8], out: &mut Text) {
+    push_answer(&steps_of(alloc, text), out);
+}
+
+// `WORDS`: the file of the script that they ask for.
+fn push_file(alloc: Global, case: &str, out: &mut Text) -> Result<(), OutOfMemory> {
+    let asked = words(alloc, case)?;
+    match script_file(alloc, &asked)? {
+        Some(Some(file)) => out.push_str(file.as_str()),
+        Some(None) => out.push_str("standard input"),
+        None => out.push_str("no script"),
     }
     Ok(())
 }
 
 // The steps of the script `file`.
-fn push_script(alloc: Global, text: &str, out: &mut Vec<u8>) -> Result<(), OutOfMemory> {
+fn push_script(alloc: Global, text: &str, out: &mut Text) -> Result<(), OutOfMemory> {
     let file = Some(Str::of(String::from_str(alloc, "file")?));
     let mut source = source(alloc, text, 0)?;
-    push_answer(&read_script(alloc, &file, &mut source), out)
+    push_answer(&read_script(alloc, &file, &mut source), out);
+    Ok(())
 }
 
-/// Appends the answer to a case on orders or scripts, if it is one.
-pub fn answer(
-    alloc: Global,
-    kind: &str,
-    case: &str,
-    out: &mut Vec<u8>,
-) -> Result<bool, OutOfMemory> {
-    match kind {
-        "order" => push_order(alloc, false, case, out)?,
-        "order-in-script" => push_order(alloc, true, case, out)?,
-        "steps" => push_steps(alloc, case.as_bytes(), out)?,
-        "script" => push_script(alloc, case, out)?,
-        "script-file" => push_file(&script_file(alloc, &words(alloc, case)?)?, out)?,
-        _ => return Ok(false),
-    }
-    Ok(true)
+/// Pushes the answer to a case on orders or scripts, if it is one.
+pub fn answer(alloc: Global, kind: &str, case: &str, out: &mut Text) -> bool {
+    let pushed = match kind {
+        "order" => push_order(alloc, false, case, out),
+        "order-in-script" => push_order(alloc, true, case, out),
+        "script" => push_script(alloc, case, out),
+        "script-file" => push_file(alloc, case, out),
+        _ => return false,
+    };
+    out.remember(pushed.is_ok());
+    true
 }

@@ -2,29 +2,24 @@
 ghost use Rattle.std.specs.Prelude.{◌≡◌, true};
 ghost use Rattle.doc_tree.specs.Shape.{shape, is_distinct, has_short_lists};
 
-use base_model::{OutOfMemory, Path, write_path};
+use crate::places::push_at;
+use case_table::Text;
 use doc_tree::Tree;
 use policy_lang::{PolicyFault, is_policy, policy_of};
 use std::alloc::Global;
 use yaml_text::tree_of_yaml;
 
-fn push_at(word: &str, path: &Path, out: &mut Vec<u8>) -> Result<(), OutOfMemory> {
-    out.extend_from_slice(word.as_bytes())?;
-    out.extend_from_slice(b" at ")?;
-    write_path(path, out)
-}
-
-/// Appends a fault as the command line tells it.
-pub fn push_fault(fault: &PolicyFault, out: &mut Vec<u8>) -> Result<(), OutOfMemory> {
+/// Pushes a fault as the command line tells it.
+pub fn push_fault(fault: &PolicyFault, out: &mut Text) {
     match fault {
         PolicyFault::WrongShape(path) => push_at("WrongShape", path, out),
         PolicyFault::BadExpression(path) => push_at("BadExpression", path, out),
         PolicyFault::UnknownCapture(path) => push_at("UnknownCapture", path, out),
         PolicyFault::CaptureCycle(path) => push_at("CaptureCycle", path, out),
         PolicyFault::NoValue(path) => push_at("NoValue", path, out),
-        PolicyFault::TooDeep => Ok(out.extend_from_slice(b"TooDeep")?),
-        PolicyFault::TooLarge => Ok(out.extend_from_slice(b"TooLarge")?),
-        PolicyFault::OutOfMemory => Err(OutOfMemory),
+        PolicyFault::TooDeep => out.push_str("TooDeep"),
+        PolicyFault::TooLarge => out.push_str("TooLarge"),
+        PolicyFault::OutOfMemory => out.remember(false),
     }
 }
 
@@ -39,34 +34,28 @@ pub fn tree_of(alloc: Global, text: &[u8]) -> Tree
     }
 }
 
-fn push_is_policy(tree: &Tree, out: &mut Vec<u8>) -> Result<(), OutOfMemory> {
-    let answer = if is_policy(tree) {
+fn push_is_policy(tree: &Tree, out: &mut Text) {
+    out.push_str(if is_policy(tree) {
         "a policy"
     } else {
         "a document"
-    };
-    Ok(out.extend_from_slice(answer.as_bytes())?)
+    });
 }
 
 // That the tree of a text is a right policy, or its first fault.
-fn push_policy(alloc: Global, text: &[u8], out: &mut Vec<u8>) -> Result<(), OutOfMemory> {
+fn push_policy(alloc: Global, text: &[u8], out: &mut Text) {
     match policy_of(alloc, &tree_of(alloc, text)) {
-        Ok(_policy) => Ok(out.extend_from_slice(b"a policy")?),
+        Ok(_policy) => out.push_str("a policy"),
         Err(fault) => push_fault(&fault, out),
     }
 }
 
-/// Appends the answer to a case on policies, if it is one.
-pub fn answer(
-    alloc: Global,
-    kind: &str,
-    case: &[u8],
-    out: &mut Vec<u8>,
-) -> Result<bool, OutOfMemory> {
+/// Pushes the answer to a case on policies, if it is one.
+pub fn answer(alloc: Global, kind: &str, case: &[u8], out: &mut Text) -> bool {
     match kind {
-        "is-policy" => push_is_policy(&tree_of(alloc, case), out)?,
-        "policy" => push_policy(alloc, case, out)?,
-        _ => return Ok(false),
+        "is-policy" => push_is_policy(&tree_of(alloc, case), out),
+        "policy" => push_policy(alloc, case, out),
+        _ => return false,
     }
-    Ok(true)
+    true
 }

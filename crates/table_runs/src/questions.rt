@@ -1,112 +1,86 @@
 //! What is asked of a network.
 
-use crate::lists::{Lists, rule};
+use crate::addresses::{push_addr, push_mac, push_prefix};
+use crate::lists::rule;
 use crate::reading::{addr, name, number, prefix};
-use base_model::push_decimal;
-use case_table::first_word;
+use case_table::{Text, first_word};
 use net_model::{
-    Addr, Dns, Items, Link, Mac, Name, Net, Parts, Position, RouteKey, Rule, Subnet, TableId,
-    bridge_in_range, can_be_base, is_bond, is_bridge, is_default_bond, is_default_bridge,
-    is_default_port, is_ethernet, is_on_link, mtu_in_range, port_in_range, takes,
+    Link, Mac, Name, Net, Position, RouteKey, Rule, Subnet, TableId, bridge_in_range, can_be_base,
+    is_bond, is_bridge, is_default_bond, is_default_bridge, is_default_port, is_ethernet,
+    is_on_link, mtu_in_range, port_in_range, takes,
 };
 use net_search::{find_address, find_route};
-use net_text::{write_addr, write_mac, write_prefix};
-use std::alloc::Global;
 
-fn text(alloc: Global, text: &str) -> Option<Vec<u8>> {
-    Vec::from_slice(alloc, text.as_bytes()).ok()
+const NONE: &str = "none";
+
+fn push_flag(is: bool, out: &mut Text) {
+    out.push_str(if is { "true" } else { "false" });
 }
 
-fn flag(alloc: Global, is: bool) -> Option<Vec<u8>> {
-    text(alloc, if is { "true" } else { "false" })
-}
-
-fn place(alloc: Global, place: Position) -> Option<Vec<u8>> {
-    let (word, index) = match place {
+fn push_position(position: Position, out: &mut Text) {
+    let (word, index) = match position {
         Position::At(index) => ("at ", index),
         Position::Gap(index) => ("gap ", index),
     };
-    let mut out = text(alloc, word)?;
-    push_decimal(index, &mut out).ok()?;
-    Some(out)
+    out.push_str(word);
+    out.push_number(index as u64);
 }
 
 // `DESTINATION TABLE METRIC`: the gateway of the route that is found.
-fn route(alloc: Global, net: &Net, words: &str) -> Option<Vec<u8>> {
+fn push_route(net: &Net, words: &str, out: &mut Text) -> Option<()> {
     let (dest, rest) = first_word(words);
     let (table, metric) = first_word(rest);
     let dest = Subnet::of(prefix(dest)?);
     match find_route(net, dest, TableId::of(number(table)?), number(metric)?) {
-        Some(found) => {
-            let mut out = Vec::new(alloc);
-            write_addr(&found.gateway?, &mut out).ok()?;
-            Some(out)
-        }
-        None => text(alloc, "none"),
+        Some(found) => push_addr(&found.gateway?, out),
+        None => out.push_str(NONE),
     }
+    Some(())
 }
 
 // `LINK ADDRESS`: the prefix that is found.
-fn address(alloc: Global, net: &Net, words: &str) -> Option<Vec<u8>> {
+fn push_address(net: &Net, words: &str, out: &mut Text) -> Option<()> {
     let (link, rest) = first_word(words);
     match find_address(net, &name(link)?, addr(rest)?) {
-        Some(found) => {
-            let mut out = Vec::new(alloc);
-            write_prefix(&found, &mut out).ok()?;
-            Some(out)
-        }
-        None => text(alloc, "none"),
+        Some(found) => push_prefix(&found, out),
+        None => out.push_str(NONE),
     }
+    Some(())
 }
 
-fn priorities(alloc: Global, rules: &[Rule]) -> Option<Vec<u8>> {
-    let mut out = Vec::new(alloc);
+fn push_priorities(rules: &[Rule], out: &mut Text) {
     for rule in rules {
-        push_decimal(rule.priority, &mut out).ok()?;
-        out.push(b' ').ok()?;
+        out.push_count(u64::from(rule.priority), " ");
     }
-    Some(out)
 }
 
 // The names, or `none` where there are none.
-fn names(alloc: Global, names: &[Name]) -> Option<Vec<u8>> {
+fn push_names(names: &[Name], out: &mut Text) {
+    let mut between = b"".as_slice();
+    for name in names {
+        out.push_bytes(between);
+        out.push_bytes(name.as_bytes());
+        between = b" ";
+    }
     if names.is_empty() {
-        return text(alloc, "none");
+        out.push_str(NONE);
     }
-    let mut out = Vec::new(alloc);
-    for (at, name) in names.iter().enumerate() {
-        if at > 0 {
-            out.push(b' ').ok()?;
-        }
-        out.extend_from_slice(name.as_bytes()).ok()?;
-    }
-    Some(out)
 }
 
 // Destination, table and metric of each key, or `none` where there are none.
-fn keys(alloc: Global, keys: &[RouteKey]) -> Option<Vec<u8>> {
+fn push_keys(keys: &[RouteKey], out: &mut Text) {
+    let mut between = b"".as_slice();
+    for key in keys {
+        out.push_bytes(between);
+        push_prefix(&key.dest.prefix(), out);
+        out.push_byte(b' ');
+        out.push_count(u64::from(key.table.id()), " ");
+        out.push_number(u64::from(key.metric));
+        between = b"; ";
+    }
     if keys.is_empty() {
-        return text(alloc, "none");
+        out.push_str(NONE);
     }
-    let mut out = Vec::new(alloc);
-    for (at, key) in keys.iter().enumerate() {
-        if at > 0 {
-            out.extend_from_slice(b"; ").ok()?;
-        }
-        write_prefix(&key.dest.prefix(), &mut out).ok()?;
-        out.push(b' ').ok()?;
-        push_decimal(key.table.id(), &mut out).ok()?;
-        out.push(b' ').ok()?;
-        push_decimal(key.metric, &mut out).ok()?;
-    }
-    Some(out)
-}
-
-// The MAC address of a virtual link of this name.
-fn mac(alloc: Global, word: &str) -> Option<Vec<u8>> {
-    let mut out = Vec::new(alloc);
-    write_mac(&Mac::of_virtual(&name(word)?), &mut out).ok()?;
-    Some(out)
 }
 
 // Whether a word holds of a link.
@@ -125,61 +99,55 @@ fn holds(word: &str, link: &Link) -> Option<bool> {
     }
 }
 
+fn link_of<'a>(net: &'a Net, word: &str) -> Option<&'a Link> {
+    net.link(&name(word)?)
+}
+
 // `LINK WORD`, or `LINK WORD OTHER`.
-fn of_link(alloc: Global, net: &Net, words: &str) -> Option<Vec<u8>> {
+fn push_of_link(net: &Net, words: &str, out: &mut Text) -> Option<()> {
     let (first, rest) = first_word(words);
     let (word, other) = first_word(rest);
-    let link = net.link(&name(first)?)?;
+    let link = link_of(net, first)?;
     match word {
-        "takes" => flag(alloc, takes(&link.kind, &net.link(&name(other)?)?.kind)),
+        "takes" => push_flag(takes(&link.kind, &link_of(net, other)?.kind), out),
         "on-link" => {
-            let gateway: Addr = addr(other)?;
-            flag(
-                alloc,
+            let gateway = addr(other)?;
+            push_flag(
                 is_on_link(link.addrs.items(), gateway.is_v6(), gateway),
-            )
+                out,
+            );
         }
-        word => flag(alloc, holds(word, link)?),
+        word => push_flag(holds(word, link)?, out),
     }
+    Some(())
 }
 
-/// The answer to a question.
-pub fn asked(alloc: Global, net: &Net, question: &str) -> Option<Vec<u8>> {
+// What is asked of the name of a link.
+fn push_of_name(net: &Net, word: &str, name: &Name, out: &mut Text) -> Option<()> {
+    match word {
+        "has-link" => push_flag(net.has_link(name), out),
+        "link-position" => push_position(net.link_position(name), out),
+        "over" => push_names(net.over(name), out),
+        "ports-of" => push_names(net.ports_of(name), out),
+        "routes-of" => push_keys(net.routes_of(name), out),
+        "mac" => push_mac(&Mac::of_virtual(name), out),
+        _ => return None,
+    }
+    Some(())
+}
+
+/// Pushes the answer to a question.
+pub fn push_asked(net: &Net, question: &str, out: &mut Text) -> Option<()> {
     let (word, rest) = first_word(question);
     match word {
-        "priorities" => priorities(alloc, net.copy().ok()?.rules()),
-        "same-hardware" => flag(alloc, net.same_hardware(&net.copy().ok()?)),
-        "has-link" => flag(alloc, net.has_link(&name(rest)?)),
-        "link-position" => place(alloc, net.link_position(&name(rest)?)),
-        "rule-position" => place(alloc, net.rule_position(&rule(number(rest)?))),
-        "over" => names(alloc, net.over(&name(rest)?)),
-        "ports-of" => names(alloc, net.ports_of(&name(rest)?)),
-        "routes-of" => keys(alloc, net.routes_of(&name(rest)?)),
-        "route" => route(alloc, net, rest),
-        "address" => address(alloc, net, rest),
-        "mac" => mac(alloc, rest),
-        "mtu" => flag(alloc, mtu_in_range(number(rest)?)),
-        "link" => of_link(alloc, net, rest),
-        _ => None,
+        "priorities" => push_priorities(net.copy().ok()?.rules(), out),
+        "same-hardware" => push_flag(net.same_hardware(&net.copy().ok()?), out),
+        "rule-position" => push_position(net.rule_position(&rule(number(rest)?)), out),
+        "mtu" => push_flag(mtu_in_range(number(rest)?), out),
+        "route" => return push_route(net, rest, out),
+        "address" => return push_address(net, rest, out),
+        "link" => return push_of_link(net, rest, out),
+        word => return push_of_name(net, word, &name(rest)?, out),
     }
-}
-
-/// Whether lists that are taken as they stand are a network.
-pub fn stored(alloc: Global, lists: Lists) -> Option<Vec<u8>> {
-    let Lists {
-        links,
-        routes,
-        rules,
-        servers,
-        domains,
-    } = lists;
-    let dns = Dns {
-        servers: Items::of(servers),
-        search: Items::of(domains),
-    };
-    let parts = Parts::of(alloc, links, routes, rules, dns).ok()?;
-    match Net::of_parts(alloc, parts).ok()? {
-        Some(_) => text(alloc, "a network"),
-        None => text(alloc, "none"),
-    }
+    Some(())
 }

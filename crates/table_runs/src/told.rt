@@ -1,8 +1,7 @@
 //! The lines of answers that no host in memory gives.
 
 use answer_text::{summary_lines, tell_refused, write_status};
-use base_model::{OutOfMemory, push_decimal};
-use case_table::first_word;
+use case_table::{Text, first_word};
 use document_model::{Place, Refused};
 use engine_model::Left;
 use host_memory::MemorySink;
@@ -55,15 +54,13 @@ fn cause_of(alloc: Global, case: &str) -> Cause {
 }
 
 // The status of a refusal, and what it writes to the errors and to the output.
-fn push_refusal(alloc: Global, case: &str, out: &mut Vec<u8>) -> Result<(), OutOfMemory> {
+fn push_refusal(alloc: Global, case: &str, out: &mut Text) {
     let mut output = MemorySink::new(alloc, Vec::new(alloc));
     let mut errors = MemorySink::new(alloc, Vec::new(alloc));
     let report = tell_refused(b"", cause_of(alloc, case), &mut output, &mut errors);
-    push_decimal(report.status, out)?;
-    out.push(b' ')?;
-    out.extend_from_slice(errors.bytes())?;
-    out.extend_from_slice(output.bytes())?;
-    Ok(())
+    out.push_count(u64::from(report.status), " ");
+    out.push_bytes(errors.bytes());
+    out.push_bytes(output.bytes());
 }
 
 // `LINKS CALLS CALLS IDS METRICS`.
@@ -81,26 +78,20 @@ fn summary_of(case: &str) -> Summary {
     }
 }
 
-fn push_status(alloc: Global, case: &str, out: &mut Vec<u8>) -> Result<(), OutOfMemory> {
+fn push_status(alloc: Global, case: &str, out: &mut Text) {
     let mut output = MemorySink::new(alloc, Vec::new(alloc));
     if write_status(small(case), &mut output) {
-        out.extend_from_slice(output.bytes())?;
+        out.push_bytes(output.bytes());
     }
-    Ok(())
 }
 
-/// Appends the answer to a case on what is told, if it is one.
-pub fn answer(
-    alloc: Global,
-    kind: &str,
-    case: &str,
-    out: &mut Vec<u8>,
-) -> Result<bool, OutOfMemory> {
+/// Pushes the answer to a case on what is told, if it is one.
+pub fn answer(alloc: Global, kind: &str, case: &str, out: &mut Text) -> bool {
     match kind {
-        "refusal" => push_refusal(alloc, case, out)?,
-        "summary" => out.extend_from_slice(summary_lines(&summary_of(case)).as_bytes())?,
-        "status" => push_status(alloc, case, out)?,
-        _ => return Ok(false),
+        "refusal" => push_refusal(alloc, case, out),
+        "summary" => out.push_bytes(summary_lines(&summary_of(case)).as_bytes()),
+        "status" => push_status(alloc, case, out),
+        _ => return false,
     }
-    Ok(true)
+    true
 }

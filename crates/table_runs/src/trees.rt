@@ -1,51 +1,49 @@
 //! Trees on one line, strings between apostrophes.
 
-use base_model::{OutOfMemory, push_decimal};
+use base_model::push_decimal;
+use case_table::Text;
 use doc_tree::Tree;
 
-fn push_text(text: &str, out: &mut Vec<u8>) -> Result<(), OutOfMemory> {
-    out.push(b'\'')?;
-    out.extend_from_slice(text.as_bytes())?;
-    out.push(b'\'')?;
-    Ok(())
+fn push_string(string: &str, out: &mut Text) {
+    out.push_byte(b'\'');
+    out.push_str(string);
+    out.push_byte(b'\'');
 }
 
-fn push_comma(is_first: bool, out: &mut Vec<u8>) -> Result<(), OutOfMemory> {
-    if !is_first {
-        out.push(b',')?;
-    }
-    Ok(())
+/// Pushes a number in decimal.
+pub fn push_integer(number: i128, out: &mut Text) {
+    let pushed = push_decimal(number, &mut out.bytes);
+    out.remember(pushed.is_ok());
 }
 
-pub fn push_tree(tree: &Tree, out: &mut Vec<u8>) -> Result<(), OutOfMemory> {
+pub fn push_tree(tree: &Tree, out: &mut Text) {
     match tree {
-        Tree::Null => out.extend_from_slice(b"null")?,
-        Tree::Bool(true) => out.extend_from_slice(b"true")?,
-        Tree::Bool(false) => out.extend_from_slice(b"false")?,
-        Tree::Int(number) => push_decimal(*number, out)?,
-        Tree::Text(text) => push_text(text.as_str(), out)?,
+        Tree::Null => out.push_str("null"),
+        Tree::Bool(true) => out.push_str("true"),
+        Tree::Bool(false) => out.push_str("false"),
+        Tree::Int(number) => push_integer(*number, out),
+        Tree::Text(text) => push_string(text.as_str(), out),
         Tree::List(items) => {
-            out.push(b'[')?;
-            let mut is_first = true;
+            let mut between = b"".as_slice();
+            out.push_byte(b'[');
             for item in items {
-                push_comma(is_first, out)?;
-                push_tree(item, out)?;
-                is_first = false;
+                out.push_bytes(between);
+                push_tree(item, out);
+                between = b",";
             }
-            out.push(b']')?;
+            out.push_byte(b']');
         }
         Tree::Map(pairs) => {
-            out.push(b'{')?;
-            let mut is_first = true;
+            let mut between = b"".as_slice();
+            out.push_byte(b'{');
             for pair in pairs {
-                push_comma(is_first, out)?;
-                push_text(pair.0.as_str(), out)?;
-                out.push(b':')?;
-                push_tree(&pair.1, out)?;
-                is_first = false;
+                out.push_bytes(between);
+                push_string(pair.0.as_str(), out);
+                out.push_byte(b':');
+                push_tree(&pair.1, out);
+                between = b",";
             }
-            out.push(b'}')?;
+            out.push_byte(b'}');
         }
     }
-    Ok(())
 }

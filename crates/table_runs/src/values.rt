@@ -4,7 +4,7 @@ ghost use Rattle.doc_tree.specs.Shape.{shape, is_distinct, levels};
 ghost use Rattle.doc_tree.specs.declared.limits.TheConstants.{MAX_LEVELS};
 
 use crate::policies::{push_fault, tree_of};
-use base_model::OutOfMemory;
+use case_table::Text;
 use doc_tree::Tree;
 use policy_lang::{PolicyFault, policy_of};
 use policy_values::value_of;
@@ -24,44 +24,29 @@ fn value(alloc: Global, running: &str, policy: &str) -> Result<Tree, PolicyFault
 }
 
 // The value as YAML, or why there is none.
-fn push_text(
-    alloc: Global,
-    running: &str,
-    policy: &str,
-    out: &mut Vec<u8>,
-) -> Result<(), OutOfMemory> {
+fn push_value(alloc: Global, running: &str, policy: &str, out: &mut Text) {
     match value(alloc, running, policy) {
-        Ok(tree) => Ok(out.extend_from_slice(&yaml_of_tree(alloc, &tree)?)?),
+        Ok(tree) => out.push_made(yaml_of_tree(alloc, &tree)),
         Err(fault) => push_fault(&fault, out),
     }
 }
 
 // That there is a value, or why there is none.
-fn push_whether(
-    alloc: Global,
-    running: &str,
-    policy: &str,
-    out: &mut Vec<u8>,
-) -> Result<(), OutOfMemory> {
+fn push_whether(alloc: Global, running: &str, policy: &str, out: &mut Text) {
     match value(alloc, running, policy) {
-        Ok(_tree) => Ok(out.extend_from_slice(b"a value")?),
+        Ok(_tree) => out.push_str("a value"),
         Err(fault) => push_fault(&fault, out),
     }
 }
 
-/// Appends the answer to a case on values, if it is one.
-pub fn answer(
-    alloc: Global,
-    kind: &str,
-    case: &[u8],
-    out: &mut Vec<u8>,
-) -> Result<bool, OutOfMemory> {
+/// Pushes the answer to a case on values, if it is one.
+pub fn answer(alloc: Global, kind: &str, case: &[u8], out: &mut Text) -> bool {
     let text = str::from_utf8(case).unwrap_or("");
     let (running, policy) = text.split_once(BETWEEN).unwrap_or(("", text));
     match kind {
-        "value" => push_text(alloc, running, policy, out)?,
-        "has-value" => push_whether(alloc, running, policy, out)?,
-        _ => return Ok(false),
+        "value" => push_value(alloc, running, policy, out),
+        "has-value" => push_whether(alloc, running, policy, out),
+        _ => return false,
     }
-    Ok(true)
+    true
 }

@@ -25,34 +25,51 @@
 //! | `cut AREA N`, `write AREA N HEX` | cuts an area; writes bytes from N on |
 //! | `stops ..`, `faults ..`, `pairs ..` | a stop behind each call, a fault at each, two faults: `MOMENT WORDS, recovered at MOMENT: STATE ..` |
 
-use crate::expected::{Expected, push_named};
+use crate::expected::Expected;
+use crate::hosts::is_same;
 use crate::inputs::Inputs;
-use crate::machine::{Kind, Machine, Ran, is_same, shown};
+use crate::machine::{Kind, Machine, Ran, push_shown};
 use crate::not_done::NotDone;
-use crate::reading::{bytes_of_hex, hex_of_bytes, number};
+use crate::reading::number;
 use crate::runs::{Faults, Run, step_of, steps_of};
 use crate::stored::{area_of, behind, cut, overwritten};
 use crate::sweeps::{Kept, find, swept};
 use crate::told::Told;
-use case_table::first_word;
+use case_table::{Text, bytes_of_hex, first_word, push_hex};
 use net_model::Net;
 use std::alloc::Global;
 use std::mem;
 
+// What stood when it was saved under a name.
+#[derive(Drop)]
+struct Saved {
+    name: Text,
+    machine: Machine,
+}
+
+fn find_saved<'a>(all: &'a [Saved], name: &str) -> Result<&'a Saved, NotDone> {
+    for saved in all {
+        if saved.name.is(name.as_bytes()) {
+            return Ok(saved);
+        }
+    }
+    Err(NotDone)
+}
+
 /// The cases so far, on hosts of one kind.
 pub struct Cases {
     kind: Kind,
-    name: String,
+    name: Text,
     is_left_out: bool,
     inputs: Inputs,
     faults: Faults,
-    command: String,
+    command: Text,
     // What stands, and what the last command told.
     ran: Ran,
     // Whether the last command isn't compared yet.
     is_open: bool,
     expected: Expected,
-    saved: Vec<(String, Machine)>,
+    saved: Vec<Saved>,
     kept: Vec<Kept>,
     told: Told,
 }
@@ -82,11 +99,11 @@ impl Cases {
     pub fn new(alloc: Global, kind: Kind, told: Told) -> Cases {
         Cases {
             kind,
-            name: String::new(alloc),
+            name: Text::new(alloc),
             is_left_out: false,
             inputs: Inputs::new(alloc),
             faults: Faults::none(alloc),
-            command: String::new(alloc),
+            command: Text::new(alloc),
             ran: Ran::nothing(alloc, kind),
             is_open: false,
             expected: Expected::new(alloc),
@@ -97,87 +114,101 @@ impl Cases {
     }
 
     // Compares what was seen last with what is expected of it.
-    fn compare(&mut self, alloc: Global) -> Result<(), NotDone> {
+    fn compare(&mut self, alloc: Global) {
         if self.is_open {
             self.is_open = false;
-            let said = self.expected.differences(alloc, &self.ran.seen)?;
-            self.told.note(&self.command, &said)?;
+            let mut said = Text::new(alloc);
+            self.expected.compare(&self.ran, &mut said);
+            self.told.note(&self.command, &said);
         }
         self.expected = Expected::new(alloc);
-        Ok(())
     }
 
-    fn end_case(&mut self, alloc: Global) -> Result<(), NotDone> {
-        self.compare(alloc)?;
+    fn end_case(&mut self, alloc: Global) {
+        self.compare(alloc);
         if !self.is_left_out {
-            self.told.tell(self.kind, &self.name)?;
+            self.told.tell(self.kind, &self.name);
         }
-        self.inputs.end_case(self.name.is_empty());
+        self.inputs.end_case(self.name.bytes.is_empty());
         self.kept.clear();
         self.faults = Faults::none(alloc);
-        self.ran.machine = Machine::bare(alloc, self.kind);
-        self.ran.seen.found = None;
+        self.ran = Ran::nothing(alloc, self.kind);
         self.is_left_out = matches!(self.kind, Kind::Disk);
-        Ok(())
     }
 
     /// Ends the last case, and gives what is told.
-    pub fn finish(&mut self, alloc: Global) -> Result<Told, NotDone> {
-        self.end_case(alloc)?;
-        Ok(mem::replace(&mut self.told, Told::new(alloc)))
+    pub fn finish(&mut self, alloc: Global) -> Told {
+        self.end_case(alloc);
+        mem::replace(&mut self.told, Told::new(alloc))
     }
 
     // Runs a command on what stands.
     fn run(&mut self, alloc: Global, run: &Run, line: &str) -> Result<(), NotDone> {
-        self.command = String::from_str(alloc, line)?;
+        self.command = Text::of(alloc, line);
         let faults = mem::replace(&mut self.faults, Faults::none(alloc));
         let inputs = self.inputs.given(alloc, line)?;
-        self.ran = self.ran.machine.run(alloc, run, &faults, inputs)?;
+        self.ran = self.ran.machine.run(alloc, run, faults, inputs)?;
         self.is_open = true;
         Ok(())
     }
 
     fn save(&mut self, alloc: Global, name: &str) -> Result<(), NotDone> {
         let machine = self.ran.machine.copy(alloc)?;
-        self.saved.push((String::from_str(alloc, name)?, machine))?;
-        Ok(())
+        let name = Text::of(alloc, name);
+        Ok(self.saved.push(Saved { name, machine })?)
     }
 
     fn take_up(&mut self, alloc: Global, name: &str) -> Result<(), NotDone> {
-        let found = self.saved.iter().find(|saved| saved.0.as_str() == name);
-        let Some(saved) = found else {
-            return Err(NotDone);
-        };
-        self.ran.machine = saved.1.copy(alloc)?;
+        self.ran.machine = find_saved(&self.saved, name)?.machine.copy(alloc)?;
         Ok(())
     }
 
     fn keep(&mut self, alloc: Global, name: &str) -> Result<(), NotDone> {
-        let name = String::from_str(alloc, name)?;
         let net = self.ran.machine.net(alloc)?;
-        self.kept.push(Kept { name, net })?;
-        Ok(())
+        let name = Text::of(alloc, name);
+        Ok(self.kept.push(Kept { name, net })?)
+    }
+
+    // Notes what is found, and isn't what it should be.
+    fn differs(&mut self, alloc: Global, name: &str, found: &Text) {
+        let mut said = Text::of(alloc, name);
+        said.push_str(": ");
+        said.push_text(found);
+        said.push_byte(b'\n');
+        self.told.note(&self.command, &said);
     }
 
     // Whether a network is the one that was kept under a name.
     fn is_as_kept(&mut self, alloc: Global, net: Option<Net>, name: &str) -> Result<(), NotDone> {
-        if is_same(&find(&self.kept, name)?.net, &net) {
-            return Ok(());
+        if !is_same(&find(&self.kept, name)?.net, &net) {
+            let mut shown = Text::new(alloc);
+            push_shown(alloc, net, &mut shown)?;
+            self.differs(alloc, "another network is found", &shown);
         }
-        self.differs(alloc, "another network is found", &shown(alloc, net)?)
+        Ok(())
+    }
+
+    fn is(&mut self, alloc: Global, name: &str) -> Result<(), NotDone> {
+        let net = self.ran.machine.net(alloc)?;
+        self.is_as_kept(alloc, net, name)
     }
 
     fn is_found(&mut self, alloc: Global, name: &str) -> Result<(), NotDone> {
-        match self.ran.seen.found.take() {
-            Some(net) => self.is_as_kept(alloc, Some(net), name),
-            None => self.differs(alloc, "no network is found", b""),
+        match self.ran.found() {
+            Some(net) => {
+                let net = net.copy()?;
+                self.is_as_kept(alloc, Some(net), name)
+            }
+            None => {
+                self.differs(alloc, "no network is found", &Text::new(alloc));
+                Ok(())
+            }
         }
     }
 
-    fn differs(&mut self, alloc: Global, name: &str, found: &[u8]) -> Result<(), NotDone> {
-        let mut said = Vec::new(alloc);
-        push_named(&mut said, name, found)?;
-        self.told.note(&self.command, &said)
+    fn take_output(&mut self, alloc: Global, name: &str) -> Result<(), NotDone> {
+        let output = self.ran.out().clone()?;
+        self.inputs.begin(alloc, name, output)
     }
 
     // `N PICK`.
@@ -201,12 +232,27 @@ impl Cases {
         from: u64,
         digits: &str,
     ) -> Result<(), NotDone> {
+        let wanted = bytes_of_hex(alloc, digits)?;
         let held = behind(self.ran.machine.area(area_of(area)?)?, from);
-        if held == bytes_of_hex(alloc, digits)?.as_slice() {
-            return Ok(());
+        if held != wanted.as_slice() {
+            let mut found = Text::new(alloc);
+            push_hex(held, &mut found);
+            self.differs(alloc, "bytes found", &found);
         }
-        let found = hex_of_bytes(alloc, held)?;
-        self.differs(alloc, "bytes found", found.as_bytes())
+        Ok(())
+    }
+
+    // `AREA HEX`.
+    fn has_all_bytes(&mut self, alloc: Global, rest: &str) -> Result<(), NotDone> {
+        let (area, digits) = first_word(rest);
+        self.has_bytes(alloc, area, 0, digits)
+    }
+
+    // `AREA N HEX`.
+    fn has_bytes_behind(&mut self, alloc: Global, rest: &str) -> Result<(), NotDone> {
+        let (area, rest) = first_word(rest);
+        let (from, digits) = first_word(rest);
+        self.has_bytes(alloc, area, number(from)?, digits)
     }
 
     // `AREA N`.
@@ -230,96 +276,73 @@ impl Cases {
     }
 
     fn sweep(&mut self, alloc: Global, word: &str, rest: &str) -> Result<(), NotDone> {
-        self.command = String::from_str(alloc, rest)?;
+        self.command = Text::of(alloc, rest);
         let faults = mem::replace(&mut self.faults, Faults::none(alloc));
         let inputs = self.inputs.given(alloc, rest)?;
-        let said = swept(
-            alloc,
-            word,
-            rest,
-            &self.kept,
-            inputs,
-            faults,
-            &self.ran.machine,
-        )?;
-        self.told.note(&self.command, &said)
+        let machine = &self.ran.machine;
+        let said = swept(alloc, word, rest, &self.kept, inputs, faults, machine)?;
+        self.told.note(&self.command, &said);
+        Ok(())
     }
 
     // Lines on what stands.
-    fn stands(&mut self, alloc: Global, word: &str, rest: &str) -> Result<bool, NotDone> {
+    fn stands(&mut self, alloc: Global, word: &str, rest: &str) -> Result<(), NotDone> {
         match word {
-            "save" => self.save(alloc, rest)?,
-            "from" => self.take_up(alloc, rest)?,
-            "keep" => self.keep(alloc, rest)?,
-            "is" => {
-                let net = self.ran.machine.net(alloc)?;
-                self.is_as_kept(alloc, net, rest)?;
-            }
-            "output" => self.inputs.begin(alloc, rest, self.ran.seen.out.clone()?)?,
-            "found" => self.is_found(alloc, rest)?,
-            "stop" => self.stop(alloc, rest)?,
-            "bytes" => {
-                let (area, digits) = first_word(rest);
-                self.has_bytes(alloc, area, 0, digits)?;
-            }
-            "behind" => {
-                let (area, rest) = first_word(rest);
-                let (from, digits) = first_word(rest);
-                self.has_bytes(alloc, area, number(from)?, digits)?;
-            }
-            "cut" => self.cut(alloc, rest)?,
-            "write" => self.write(alloc, rest)?,
-            _ => return Ok(false),
+            "save" => self.save(alloc, rest),
+            "from" => self.take_up(alloc, rest),
+            "keep" => self.keep(alloc, rest),
+            "is" => self.is(alloc, rest),
+            "output" => self.take_output(alloc, rest),
+            "found" => self.is_found(alloc, rest),
+            "stop" => self.stop(alloc, rest),
+            "bytes" => self.has_all_bytes(alloc, rest),
+            "behind" => self.has_bytes_behind(alloc, rest),
+            "cut" => self.cut(alloc, rest),
+            "write" => self.write(alloc, rest),
+            _ => Err(NotDone),
         }
-        Ok(true)
     }
 
-    // Lines that run commands.
-    fn runs(&mut self, alloc: Global, word: &str, rest: &str) -> Result<(), NotDone> {
+    // Lines behind what is expected of the command before them.
+    fn goes_on(&mut self, alloc: Global, word: &str, rest: &str) -> Result<(), NotDone> {
         match word {
+            "document" | "|" | "*" | "x" | "<" => self.inputs.take(alloc, word, rest),
+            "fail" | "lying" | "refuses" => self.faults.take(word, rest),
             "$" => self.run(alloc, &Run::Command(step_of(alloc, rest)?), rest),
             "@" => self.run(alloc, &Run::At(step_of(alloc, rest)?), rest),
             "%" => self.run(alloc, &Run::Script(steps_of(alloc, rest)?), rest),
-            _ => self.sweep(alloc, word, rest),
+            "stops" | "faults" | "pairs" => self.sweep(alloc, word, rest),
+            _ => self.stands(alloc, word, rest),
         }
     }
 
     fn acts(&mut self, alloc: Global, line: &str) -> Result<(), NotDone> {
         let (word, rest) = first_word(line);
-        if self.expected.take(alloc, word, rest)? {
-            return Ok(());
+        if matches!(word, ">" | "!" | "=" | "~") {
+            return self.expected.take(alloc, word, rest);
         }
-        self.compare(alloc)?;
-        let is_done = self.inputs.take(alloc, word, rest)?
-            || self.faults.take(word, rest)?
-            || self.stands(alloc, word, rest)?;
-        if is_done {
-            return Ok(());
-        }
-        self.runs(alloc, word, rest)
+        self.compare(alloc);
+        self.goes_on(alloc, word, rest)
     }
 
     /// Takes a line.
-    pub fn take(&mut self, alloc: Global, line: &str) -> Result<(), NotDone> {
+    pub fn take(&mut self, alloc: Global, line: &str) {
         if line.is_empty() || line.starts_with('#') {
-            return Ok(());
+            return;
         }
         if let Some(name) = line.strip_prefix("case ") {
-            self.end_case(alloc)?;
-            self.name = String::from_str(alloc, name)?;
-            return Ok(());
+            self.end_case(alloc);
+            self.name = Text::of(alloc, name);
+            return;
         }
-        if line == "also on a disk" {
-            self.is_left_out = false;
-            return Ok(());
+        match line {
+            "also on a disk" => self.is_left_out = false,
+            "only on a disk" => self.is_left_out = matches!(self.kind, Kind::Memory),
+            _ => {
+                if !self.is_left_out && self.acts(alloc, line).is_err() {
+                    self.told.not_understood(line);
+                }
+            }
         }
-        if line == "only on a disk" {
-            self.is_left_out = matches!(self.kind, Kind::Memory);
-            return Ok(());
-        }
-        if self.is_left_out || self.acts(alloc, line).is_ok() {
-            return Ok(());
-        }
-        self.told.not_understood(line)
     }
 }

@@ -1,17 +1,24 @@
 //! What a command is expected to tell.
 
+use crate::machine::Ran;
 use crate::not_done::NotDone;
 use crate::reading::number;
-use crate::runs::Seen;
-use case_table::first_word;
+use case_table::{Text, first_word};
 use std::alloc::Global;
+
+// How many lines of the output begin in a way.
+#[derive(Drop)]
+struct Counted {
+    times: u64,
+    start: Text,
+}
 
 /// The status, what is written, and where the output is long how many lines of it begin in which way.
 pub struct Expected {
     status: u64,
-    out: Vec<u8>,
-    err: Vec<u8>,
-    counted: Vec<(u64, String)>,
+    out: Text,
+    err: Text,
+    counted: Vec<Counted>,
 }
 
 // By hand, so that a proof sees one call where one is dropped, and not a step for each part.
@@ -26,43 +33,31 @@ impl Drop for Expected {
     }
 }
 
-fn push_line(bytes: &mut Vec<u8>, line: &str) -> Result<(), NotDone> {
-    bytes.extend_from_slice(line.as_bytes())?;
-    bytes.push(b'\n')?;
-    Ok(())
-}
-
-/// Writes bytes behind a name.
-pub fn push_named(said: &mut Vec<u8>, name: &str, bytes: &[u8]) -> Result<(), NotDone> {
-    said.extend_from_slice(name.as_bytes())?;
-    said.extend_from_slice(b": ")?;
-    said.extend_from_slice(bytes)?;
-    said.push(b'\n')?;
-    Ok(())
+/// Pushes bytes behind a name.
+pub fn push_named(name: &str, bytes: &[u8], said: &mut Text) {
+    said.push_str(name);
+    said.push_str(": ");
+    said.push_bytes(bytes);
+    said.push_byte(b'\n');
 }
 
 // Says both where they differ.
-fn push_both(said: &mut Vec<u8>, name: &str, wanted: &[u8], given: &[u8]) -> Result<(), NotDone> {
-    if wanted == given {
-        return Ok(());
+fn push_both(name: &str, wanted: &Text, given: &[u8], said: &mut Text) {
+    said.remember(wanted.is_whole);
+    if wanted.bytes.as_slice() != given {
+        said.push_str(name);
+        push_named(", expected", &wanted.bytes, said);
+        push_named("found", given, said);
     }
-    said.extend_from_slice(name.as_bytes())?;
-    push_named(said, ", expected", wanted)?;
-    push_named(said, "found", given)
 }
 
-fn push_numbers(
-    alloc: Global,
-    said: &mut Vec<u8>,
-    name: &str,
-    wanted: u64,
-    found: u64,
-) -> Result<(), NotDone> {
+fn push_numbers(name: &str, wanted: u64, found: u64, said: &mut Text) {
     if wanted != found {
-        let line = format!(in alloc; "{name}: expected {wanted}, found {found}\n")?;
-        said.extend_from_slice(line.as_bytes())?;
+        said.push_str(name);
+        said.push_str(": expected ");
+        said.push_count(wanted, ", found ");
+        said.push_count(found, "\n");
     }
-    Ok(())
 }
 
 fn lines_beginning(bytes: &[u8], start: &str) -> u64 {
@@ -75,50 +70,50 @@ fn lines_beginning(bytes: &[u8], start: &str) -> u64 {
     times
 }
 
+fn push_counted(counted: &Counted, given: &[u8], said: &mut Text) {
+    let start = counted.start.as_str();
+    said.remember(counted.start.is_whole);
+    push_numbers(start, counted.times, lines_beginning(given, start), said);
+}
+
 impl Expected {
     pub fn new(alloc: Global) -> Expected {
         Expected {
             status: 0,
-            out: Vec::new(alloc),
-            err: Vec::new(alloc),
+            out: Text::new(alloc),
+            err: Text::new(alloc),
             counted: Vec::new(alloc),
         }
     }
 
-    /// Takes a line of what is expected, or answers that it is none.
-    pub fn take(&mut self, alloc: Global, word: &str, rest: &str) -> Result<bool, NotDone> {
-        match word {
-            ">" => push_line(&mut self.out, rest)?,
-            "!" => push_line(&mut self.err, rest)?,
-            "=" => self.status = number(rest)?,
-            "~" => {
-                let (times, start) = first_word(rest);
-                let times = number(times)?;
-                self.counted.push((times, String::from_str(alloc, start)?))?;
-            }
-            _ => return Ok(false),
-        }
-        Ok(true)
+    // `N TEXT`.
+    fn count(&mut self, alloc: Global, rest: &str) -> Result<(), NotDone> {
+        let (times, start) = first_word(rest);
+        let times = number(times)?;
+        let start = Text::of(alloc, start);
+        Ok(self.counted.push(Counted { times, start })?)
     }
 
-    /// What differs.
-    pub fn differences(&self, alloc: Global, seen: &Seen) -> Result<Vec<u8>, NotDone> {
-        let mut said = Vec::new(alloc);
-        push_numbers(
-            alloc,
-            &mut said,
-            "status",
-            self.status,
-            u64::from(seen.status),
-        )?;
+    /// Takes a line of what is expected.
+    pub fn take(&mut self, alloc: Global, word: &str, rest: &str) -> Result<(), NotDone> {
+        match word {
+            ">" => self.out.push_line(rest),
+            "!" => self.err.push_line(rest),
+            "=" => self.status = number(rest)?,
+            _ => return self.count(alloc, rest),
+        }
+        Ok(())
+    }
+
+    /// Says what differs.
+    pub fn compare(&self, ran: &Ran, said: &mut Text) {
+        push_numbers("status", self.status, u64::from(ran.report.status), said);
         if self.counted.is_empty() {
-            push_both(&mut said, "output", &self.out, &seen.out)?;
+            push_both("output", &self.out, ran.out(), said);
         }
-        push_both(&mut said, "errors", &self.err, &seen.err)?;
+        push_both("errors", &self.err, ran.err(), said);
         for counted in &self.counted {
-            let found = lines_beginning(&seen.out, &counted.1);
-            push_numbers(alloc, &mut said, &counted.1, counted.0, found)?;
+            push_counted(counted, ran.out(), said);
         }
-        Ok(said)
     }
 }

@@ -131,11 +131,10 @@ pub fn first_marked(files: &[FolderFile]) -> Option<u64> {
 
 /// The file of a name.
 pub fn find<'a>(files: &'a [FolderFile], name: &str) -> Result<&'a FolderFile, NotDone> {
-    let found = files
-        .iter()
-        .find(|file| file.name.as_bytes() == name.as_bytes());
-    match found {
-        Some(file) => Ok(file),
-        None => Err(NotDone),
+    for file in files {
+        if file.name.as_bytes() == name.as_bytes() {
+            return Ok(file);
+        }
     }
+    Err(NotDone)
 }

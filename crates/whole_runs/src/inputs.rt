@@ -1,8 +1,8 @@
 //! Inputs by their names.
 
 use crate::not_done::NotDone;
-use crate::reading::{bytes_of_hex, number, push_times};
-use case_table::first_word;
+use crate::reading::{number, push_times};
+use case_table::{Text, bytes_of_hex, first_word};
 use std::alloc::Global;
 use std::mem;
 
@@ -14,7 +14,7 @@ pub struct Inputs {
     // Whether lines are added to the last of them.
     is_begun: bool,
     // What the next command has as standard input, where it has lines.
-    standard: Vec<u8>,
+    standard: Text,
 }
 
 // By hand, so that a proof sees one call where one is dropped, and not a step for each part.
@@ -61,7 +61,7 @@ impl Inputs {
             inputs: Vec::new(alloc),
             shared: 0,
             is_begun: false,
-            standard: Vec::new(alloc),
+            standard: Text::new(alloc),
         }
     }
 
@@ -80,31 +80,45 @@ impl Inputs {
         }
     }
 
+    fn append_line(&mut self, line: &str) -> Result<(), NotDone> {
+        self.append(line.as_bytes())?;
+        self.append(b"\n")
+    }
+
     // `TIMES TEXT`: appends the text so many times, with the number of the time for each `%` in it.
     fn repeat(&mut self, alloc: Global, line: &str) -> Result<(), NotDone> {
         let (times, text) = first_word(line);
-        let mut bytes = Vec::new(alloc);
-        push_times(number(times)?, text, '%', &mut bytes)?;
-        self.append(&bytes)
+        let times = number(times)?;
+        let mut bytes = Text::new(alloc);
+        push_times(times, text, b'%', &mut bytes);
+        self.append(&bytes.into_bytes()?)
     }
 
-    /// Takes a line of an input, or answers that it is none.
-    pub fn take(&mut self, alloc: Global, word: &str, rest: &str) -> Result<bool, NotDone> {
+    /// Takes a line of an input.
+    pub fn take(&mut self, alloc: Global, word: &str, rest: &str) -> Result<(), NotDone> {
         match word {
-            "document" => self.begin(alloc, rest, Vec::new(alloc))?,
-            "|" => {
-                self.append(rest.as_bytes())?;
-                self.append(b"\n")?;
+            "document" => self.begin(alloc, rest, Vec::new(alloc)),
+            "|" => self.append_line(rest),
+            "*" => self.repeat(alloc, rest),
+            "x" => self.append(&bytes_of_hex(alloc, rest)?),
+            _ => {
+                self.standard.push_line(rest);
+                Ok(())
             }
-            "*" => self.repeat(alloc, rest)?,
-            "x" => self.append(&bytes_of_hex(alloc, rest)?)?,
-            "<" => {
-                self.standard.extend_from_slice(rest.as_bytes())?;
-                self.standard.push(b'\n')?;
-            }
-            _ => return Ok(false),
         }
-        Ok(true)
+    }
+
+    // Adds what was given as standard input, if anything was.
+    fn push_standard(
+        &mut self,
+        alloc: Global,
+        given: &mut Vec<(String, Vec<u8>)>,
+    ) -> Result<(), NotDone> {
+        if !self.standard.bytes.is_empty() {
+            let standard = mem::replace(&mut self.standard, Text::new(alloc));
+            given.push((String::from_str(alloc, "-")?, standard.into_bytes()?))?;
+        }
+        Ok(())
     }
 
     /// What a source has for a command: the inputs that its line names, and for a script all of them.
@@ -116,10 +130,7 @@ impl Inputs {
                 given.push(copied_input(input)?)?;
             }
         }
-        if !self.standard.is_empty() {
-            let standard = mem::replace(&mut self.standard, Vec::new(alloc));
-            given.push((String::from_str(alloc, "-")?, standard))?;
-        }
+        self.push_standard(alloc, &mut given)?;
         Ok(given)
     }
 
@@ -129,7 +140,7 @@ impl Inputs {
             self.shared = self.inputs.len();
         }
         self.inputs.truncate(self.shared);
-        self.standard.clear();
+        self.standard.bytes.clear();
         self.is_begun = false;
     }
 }

@@ -2,7 +2,7 @@
 ghost use Rattle.std.specs.Prelude.{◌≡◌};
 ghost use Rattle.net_text.specs.Line.{has_line};
 
-use crate::not_done::NotDone;
+use case_table::Text;
 use ip_batch::{read_batch, write_batch};
 use net_model::{Call, Kind};
 use net_text::write_call_line;
@@ -18,28 +18,29 @@ fn has_line(call: &Call) -> bool
     }
 }
 
-fn push_call(call: &Call, out: &mut Vec<u8>) -> Result<(), NotDone> {
+fn push_call(call: &Call, out: &mut Text) {
     if has_line(call) {
-        write_call_line(call, out)?;
+        let written = write_call_line(call, &mut out.bytes);
+        out.remember(written.is_ok());
     }
-    out.push(b'\n')?;
-    Ok(())
+    out.push_byte(b'\n');
 }
 
 /// Calls as `plan` prints them.
-pub fn plan_text(alloc: Global, calls: &[Call]) -> Result<Vec<u8>, NotDone> {
-    let mut out = Vec::new(alloc);
+pub fn plan_text(alloc: Global, calls: &[Call]) -> Text {
+    let mut out = Text::new(alloc);
     for call in calls {
-        push_call(call, &mut out)?;
+        push_call(call, &mut out);
     }
-    Ok(out)
+    out
 }
 
 /// Calls as `plan --batch` prints them.
-pub fn lines_text(alloc: Global, calls: &Vec<Call>) -> Result<Vec<u8>, NotDone> {
-    let mut out = Vec::new(alloc);
-    write_batch(calls, &mut out)?;
-    Ok(out)
+pub fn lines_text(alloc: Global, calls: &Vec<Call>) -> Text {
+    let mut out = Text::new(alloc);
+    let written = write_batch(calls, &mut out.bytes);
+    out.remember(written.is_ok());
+    out
 }
 
 // The calls of lines, with nothing said of them.
@@ -49,14 +50,13 @@ fn calls_of(alloc: Global, lines: &[u8]) -> Option<Vec<Call>> {
 
 /// How many calls lines are read back as, or none where these aren't the calls of the plan that was printed so, or aren't written
 /// as these lines again.
-pub fn read_back(alloc: Global, plan: &[u8], lines: &[u8]) -> Result<Option<u64>, NotDone> {
-    let Some(calls) = calls_of(alloc, lines) else {
-        return Ok(None);
-    };
-    let own = plan_text(alloc, &calls)?;
-    let again = lines_text(alloc, &calls)?;
-    let is_read = own.as_slice() == plan && again.as_slice() == lines;
-    Ok(is_read.then_some(calls.len() as u64))
+pub fn read_back(alloc: Global, plan: &[u8], lines: &[u8]) -> Option<u64> {
+    let calls = calls_of(alloc, lines)?;
+    if plan_text(alloc, &calls).is(plan) && lines_text(alloc, &calls).is(lines) {
+        Some(calls.len() as u64)
+    } else {
+        None
+    }
 }
 
 /// How many lines a text has.

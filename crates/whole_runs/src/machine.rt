@@ -1,16 +1,19 @@
 //! Hosts at rest, between two commands.
 
+use crate::files::no_files;
+use crate::hosts::{
+    copied_disk, copied_host, copied_net, disk_with, dumped, held, liar, refuser, taken_over,
+};
 use crate::inputs::standard_input;
 use crate::not_done::NotDone;
-use crate::reading::words;
-use crate::runs::{Faults, Run, Seen, World, copied_net, run_on};
-use crate::stored::cut;
+use crate::runs::{Faults, Run, World, program, run_on, step, taken};
+use boot_service::FolderFile;
+use case_table::Text;
 use disk_host::DiskHost;
-use host_core::{Area, DumpFault, Host};
-use host_memory::{Fuse, LyingHost, MemoryDisk, MemoryHost, RefusingHost};
-use net_equal::same_net;
+use host_core::Area;
+use host_memory::{MemoryDisk, MemoryHost};
 use net_model::Net;
-use nmstate_top::{Report, Step};
+use nmstate_top::{Cause, Report, Step};
 use std::alloc::Global;
 
 /// The host of all commands: in memory, or over a disk.
@@ -35,10 +38,11 @@ impl Drop for Machine {
     }
 }
 
-/// What stands behind a command, and what is seen of it.
+/// What stands behind a command, how it ended, and what it wrote.
 pub struct Ran {
     pub machine: Machine,
-    pub seen: Seen,
+    pub report: Report,
+    world: World,
 }
 
 // By hand, as that of `Machine`.
@@ -46,77 +50,14 @@ impl Drop for Ran {
     fn drop(self) {
         let Ran {
             machine: _,
-            seen: _,
+            report: _,
+            world: _,
         } = self;
     }
 }
 
 /// The moment of commands that are asked without one.
 const NOW: u64 = 1000;
-
-/// How many bytes of a checkpoint are taken over from a host that refuses calls.
-const MOST_TAKEN: usize = 4096;
-
-/// Whether the networks are equal in all their parts, or both are none.
-pub fn is_same(one: &Option<Net>, other: &Option<Net>) -> bool {
-    match (one, other) {
-        (Some(one), Some(other)) => same_net(one, other),
-        (None, None) => true,
-        _ => false,
-    }
-}
-
-// What a host gives as its network, or none where it has none.
-fn dumped<H: Host>(alloc: Global, host: &mut H) -> Result<Option<Net>, NotDone> {
-    match host.dump(alloc) {
-        Ok(net) => Ok(Some(net)),
-        Err(DumpFault::Damaged) => Ok(None),
-        Err(_) => Err(NotDone),
-    }
-}
-
-fn held(disk: &MemoryDisk, area: Area) -> &Vec<u8> {
-    match area {
-        Area::Kernel => disk.area(Area::Kernel.number()),
-        Area::Checkpoint => disk.area(Area::Checkpoint.number()),
-    }
-}
-
-// The same network, with these bytes in the checkpoint area, at which these calls are to fail.
-fn memory(
-    alloc: Global,
-    host: &MemoryHost,
-    cell: Vec<u8>,
-    fuses: Vec<Fuse>,
-) -> Result<MemoryHost, NotDone> {
-    let net = copied_net(host.net())?;
-    Ok(MemoryHost::new(alloc, net, cell, fuses))
-}
-
-// The same bytes, of which none is in doubt.
-fn copied_disk(alloc: Global, disk: &MemoryDisk, fuses: Vec<Fuse>) -> Result<MemoryDisk, NotDone> {
-    let kernel = held(disk, Area::Kernel).clone()?;
-    let cell = held(disk, Area::Checkpoint).clone()?;
-    Ok(MemoryDisk::new(alloc, kernel, cell, fuses))
-}
-
-fn disk_with(
-    alloc: Global,
-    disk: &MemoryDisk,
-    area: Area,
-    bytes: Vec<u8>,
-) -> Result<MemoryDisk, NotDone> {
-    match area {
-        Area::Kernel => {
-            let cell = held(disk, Area::Checkpoint).clone()?;
-            Ok(MemoryDisk::new(alloc, bytes, cell, Vec::new(alloc)))
-        }
-        Area::Checkpoint => {
-            let kernel = held(disk, Area::Kernel).clone()?;
-            Ok(MemoryDisk::new(alloc, kernel, bytes, Vec::new(alloc)))
-        }
-    }
-}
 
 // Runs on a host of this network that lies. What stands stays as it is.
 fn run_lying(
@@ -125,35 +66,9 @@ fn run_lying(
     run: &Run,
     world: &mut World,
 ) -> Result<(Machine, Report), NotDone> {
-    let Some(net) = host.net() else {
-        return Err(NotDone);
-    };
-    let machine = Machine::Memory(memory(alloc, host, host.cell().clone()?, Vec::new(alloc))?);
-    let cell = host.cell().clone()?;
-    let mut liar = LyingHost::new(alloc, net.copy()?, cell);
-    let report = run_on(alloc, run, &mut liar, world);
-    Ok((machine, report))
-}
-
-fn refuser(alloc: Global, host: &MemoryHost, faults: &Faults) -> Result<RefusingHost, NotDone> {
-    let Some(net) = host.net() else {
-        return Err(NotDone);
-    };
-    let cell = host.cell().clone()?;
-    let fuses = faults.host.clone()?;
-    let refusals = faults.refusals.clone()?;
-    Ok(RefusingHost::new(alloc, net.copy()?, cell, fuses, refusals))
-}
-
-// What then stands, as a host that refuses nothing of its own.
-fn taken_over(alloc: Global, host: &mut RefusingHost) -> Result<Machine, NotDone> {
-    let mut bytes = [0_u8; MOST_TAKEN];
-    let Ok(filled) = host.cell_read(0, &mut bytes) else {
-        return Err(NotDone);
-    };
-    let cell = Vec::from_slice(alloc, cut(&bytes, filled))?;
-    let net = copied_net(host.net())?;
-    Ok(Machine::Memory(MemoryHost::new(alloc, net, cell, Vec::new(alloc))))
+    let mut liar = liar(alloc, host)?;
+    let machine = Machine::Memory(copied_host(alloc, host, Vec::new(alloc))?);
+    Ok((machine, run_on(alloc, run, &mut liar, world)))
 }
 
 // Runs on a host in memory that refuses some kernel calls.
@@ -161,23 +76,22 @@ fn run_refusing(
     alloc: Global,
     host: &MemoryHost,
     run: &Run,
-    faults: &Faults,
+    faults: &mut Faults,
     world: &mut World,
 ) -> Result<(Machine, Report), NotDone> {
     let mut host = refuser(alloc, host, faults)?;
     let report = run_on(alloc, run, &mut host, world);
-    Ok((taken_over(alloc, &mut host)?, report))
+    Ok((Machine::Memory(taken_over(alloc, &mut host)?), report))
 }
 
 fn run_memory(
     alloc: Global,
     host: &MemoryHost,
     run: &Run,
-    faults: &Faults,
+    faults: &mut Faults,
     world: &mut World,
 ) -> Result<(Machine, Report), NotDone> {
-    let fuses = faults.host.clone()?;
-    let mut host = memory(alloc, host, host.cell().clone()?, fuses)?;
+    let mut host = copied_host(alloc, host, taken(alloc, &mut faults.host))?;
     let report = run_on(alloc, run, &mut host, world);
     Ok((Machine::Memory(host), report))
 }
@@ -186,10 +100,11 @@ fn run_disk(
     alloc: Global,
     disk: &MemoryDisk,
     run: &Run,
-    faults: &Faults,
+    faults: &mut Faults,
     world: &mut World,
 ) -> Result<(Machine, Report), NotDone> {
-    let mut host = DiskHost::new(copied_disk(alloc, disk, faults.host.clone()?)?);
+    let disk = copied_disk(alloc, disk, taken(alloc, &mut faults.host))?;
+    let mut host = DiskHost::new(disk);
     let report = run_on(alloc, run, &mut host, world);
     Ok((Machine::Disk(host.into_disk()), report))
 }
@@ -199,7 +114,11 @@ impl Ran {
     pub fn nothing(alloc: Global, kind: Kind) -> Ran {
         Ran {
             machine: Machine::bare(alloc, kind),
-            seen: Seen::none(alloc),
+            report: Report {
+                status: 0,
+                cause: Cause::Done,
+            },
+            world: World::over(alloc, Vec::new(alloc), no_files(alloc)),
         }
     }
 
@@ -207,9 +126,33 @@ impl Ran {
     pub fn into_machine(self) -> Machine {
         let Ran {
             machine,
-            seen: _seen,
+            report: _report,
+            world: _world,
         } = self;
         machine
+    }
+
+    /// What was written to the output.
+    pub fn out(&self) -> &Vec<u8> {
+        self.world.out.bytes()
+    }
+
+    /// What was written to the errors.
+    pub fn err(&self) -> &Vec<u8> {
+        self.world.err.bytes()
+    }
+
+    /// The files of the folder.
+    pub fn files(&self) -> &[FolderFile] {
+        self.world.folder.files().as_slice()
+    }
+
+    /// The network that didn't verify.
+    pub fn found(&self) -> Option<&Net> {
+        match &self.report.cause {
+            Cause::NotVerified(net, _) => Some(net),
+            _ => None,
+        }
     }
 }
 
@@ -228,9 +171,7 @@ impl Machine {
     pub fn copy(&self, alloc: Global) -> Result<Machine, NotDone> {
         let fuses = Vec::new(alloc);
         Ok(match self {
-            Machine::Memory(host) => {
-                Machine::Memory(memory(alloc, host, host.cell().clone()?, fuses)?)
-            }
+            Machine::Memory(host) => Machine::Memory(copied_host(alloc, host, fuses)?),
             Machine::Disk(disk) => Machine::Disk(copied_disk(alloc, disk, fuses)?),
         })
     }
@@ -275,12 +216,12 @@ impl Machine {
         }
     }
 
-    // Runs on a copy that has these faults.
+    // Runs on a copy that has these faults. A host over a disk doesn't lie, and refuses by its network alone.
     fn run_copy(
         &self,
         alloc: Global,
         run: &Run,
-        faults: &Faults,
+        faults: &mut Faults,
         world: &mut World,
     ) -> Result<(Machine, Report), NotDone> {
         match self {
@@ -296,40 +237,61 @@ impl Machine {
         }
     }
 
-    /// Runs on a copy in this world, and gives what then stands. A host over a disk doesn't lie, and refuses by its network
-    /// alone.
-    pub fn run_in(
-        &self,
-        alloc: Global,
-        run: &Run,
-        faults: &Faults,
-        world: &mut World,
-    ) -> Result<Ran, NotDone> {
-        let (machine, report) = self.run_copy(alloc, run, faults, world)?;
-        let seen = world.seen(&report)?;
-        Ok(Ran { machine, seen })
-    }
-
-    /// Runs with these inputs, and without a folder.
+    /// Runs on a copy with these inputs and faults, and without a folder.
     pub fn run(
         &self,
         alloc: Global,
         run: &Run,
-        faults: &Faults,
+        faults: Faults,
         inputs: Vec<(String, Vec<u8>)>,
     ) -> Result<Ran, NotDone> {
-        let mut world = World::new(alloc, inputs, faults)?;
-        self.run_in(alloc, run, faults, &mut world)
+        let mut faults = faults;
+        let mut world = World::new(alloc, inputs, &mut faults);
+        let (machine, report) = self.run_copy(alloc, run, &mut faults, &mut world)?;
+        Ok(Ran {
+            machine,
+            report,
+            world,
+        })
     }
 
-    /// Runs the program with these words, which has these bytes as standard input.
+    // Runs the whole program on a copy.
+    fn serve_copy(
+        &self,
+        alloc: Global,
+        step: &Step,
+        world: &mut World,
+    ) -> Result<(Machine, Report), NotDone> {
+        match self {
+            Machine::Memory(host) => {
+                let mut host = copied_host(alloc, host, Vec::new(alloc))?;
+                let report = program(alloc, step, &mut host, world);
+                Ok((Machine::Memory(host), report))
+            }
+            Machine::Disk(disk) => {
+                let mut host = DiskHost::new(copied_disk(alloc, disk, Vec::new(alloc))?);
+                let report = program(alloc, step, &mut host, world);
+                Ok((Machine::Disk(host.into_disk()), report))
+            }
+        }
+    }
+
+    /// Runs the program with these words on a copy, in this world.
+    pub fn ask_in(&self, alloc: Global, line: &str, world: World) -> Result<Ran, NotDone> {
+        let mut world = world;
+        let step = step(alloc, NOW, line)?;
+        let (machine, report) = self.serve_copy(alloc, &step, &mut world)?;
+        Ok(Ran {
+            machine,
+            report,
+            world,
+        })
+    }
+
+    /// Runs the program with these words on a copy, which has these bytes as standard input and no folder.
     pub fn ask(&self, alloc: Global, line: &str, input: &[u8]) -> Result<Ran, NotDone> {
-        let run = Run::Program(Step {
-            at: NOW,
-            words: words(alloc, line)?,
-        });
         let inputs = standard_input(alloc, input)?;
-        self.run(alloc, &run, &Faults::none(alloc), inputs)
+        self.ask_in(alloc, line, World::over(alloc, inputs, no_files(alloc)))
     }
 
     /// The bytes of an area, as they are kept. A host in memory has the checkpoint's alone.
@@ -343,18 +305,21 @@ impl Machine {
 
     /// The machine with these bytes in an area; of a host in memory in the checkpoint's.
     pub fn with_area(&self, alloc: Global, area: Area, bytes: Vec<u8>) -> Result<Machine, NotDone> {
-        Ok(match self {
-            Machine::Memory(host) => Machine::Memory(memory(alloc, host, bytes, Vec::new(alloc))?),
-            Machine::Disk(disk) => Machine::Disk(disk_with(alloc, disk, area, bytes)?),
-        })
+        match self {
+            Machine::Memory(host) => {
+                let net = copied_net(host.net())?;
+                Ok(Machine::Memory(MemoryHost::new(alloc, net, bytes, Vec::new(alloc))))
+            }
+            Machine::Disk(disk) => Ok(Machine::Disk(disk_with(alloc, disk, area, bytes)?)),
+        }
     }
 }
 
-/// What `show` prints of a network, or the error where there is none.
-pub fn shown(alloc: Global, net: Option<Net>) -> Result<Vec<u8>, NotDone> {
+/// Pushes what `show` prints of a network, or the error where there is none.
+pub fn push_shown(alloc: Global, net: Option<Net>, out: &mut Text) -> Result<(), NotDone> {
     let host = MemoryHost::new(alloc, net, Vec::new(alloc), Vec::new(alloc));
     let ran = Machine::Memory(host).ask(alloc, "show", b"")?;
-    let mut text = ran.seen.out.clone()?;
-    text.extend_from_slice(&ran.seen.err)?;
-    Ok(text)
+    out.push_bytes(ran.out());
+    out.push_bytes(ran.err());
+    Ok(())
 }

@@ -18,6 +18,8 @@ mod cases;
 mod expected;
 // The files of a folder, as cases write them.
 mod files;
+// Hosts that are made anew from what stands.
+mod hosts;
 // Inputs by their names.
 mod inputs;
 // The lines of plans, and the calls that they are read back as.
@@ -28,9 +30,9 @@ mod machine;
 mod not_done;
 // Plans, part by part.
 mod parts;
-// Numbers, words and bytes as lines write them.
+// Numbers and words as lines write them.
 mod reading;
-// One command on a host, and what is seen of it.
+// One command on a host, and what it reads and writes.
 mod runs;
 // Services as cases of tables.
 mod service_cases;
@@ -53,11 +55,10 @@ mod trial;
 
 use crate::cases::Cases;
 use crate::machine::Kind;
-use crate::not_done::NotDone;
 use crate::parts::push_plans;
 use crate::service_cases::Services;
 use crate::told::Told;
-use case_table::report;
+use case_table::{Text, report};
 use std::alloc::Global;
 use std::io::{self, Read, Write};
 
@@ -69,34 +70,32 @@ fn part<'a>(input: &'a str, heading: &str) -> &'a str {
 }
 
 // Runs all cases on hosts of one kind, behind what was told before.
-fn run_kind(alloc: Global, kind: Kind, text: &str, told: Told) -> Result<Told, NotDone> {
+fn run_kind(alloc: Global, kind: Kind, text: &str, told: Told) -> Told {
     let mut cases = Cases::new(alloc, kind, told);
     for line in text.lines() {
-        cases.take(alloc, line)?;
+        cases.take(alloc, line);
     }
     cases.finish(alloc)
 }
 
-fn push_commands(alloc: Global, text: &str, out: &mut Vec<u8>) -> Result<(), NotDone> {
-    let in_memory = run_kind(alloc, Kind::Memory, text, Told::new(alloc))?;
-    let both = run_kind(alloc, Kind::Disk, text, in_memory)?;
-    both.push(out)
+fn push_commands(alloc: Global, text: &str, out: &mut Text) {
+    let in_memory = run_kind(alloc, Kind::Memory, text, Told::new(alloc));
+    let both = run_kind(alloc, Kind::Disk, text, in_memory);
+    both.push(out);
 }
 
-fn whole(alloc: Global, input: &str) -> Result<Vec<u8>, NotDone> {
-    let mut out = Vec::new(alloc);
-    push_commands(alloc, part(input, "=== commands\n"), &mut out)?;
-    push_plans(alloc, part(input, "=== plans\n"), &mut out)?;
-    let services = report::<Services>(alloc, part(input, "=== services\n"))?;
-    out.extend_from_slice(&services)?;
-    Ok(out)
+fn push_whole(alloc: Global, input: &str, out: &mut Text) {
+    push_commands(alloc, part(input, "=== commands\n"), out);
+    let planned = push_plans(alloc, part(input, "=== plans\n"), out);
+    out.remember(planned.is_ok());
+    report::<Services>(alloc, part(input, "=== services\n"), out);
 }
 
 fn main(rt: HostRuntime) -> io::Result<()> {
     let mut input = String::new(rt.alloc());
     rt.stdin().read_to_string(&mut input)?;
-    match whole(rt.alloc(), input.as_str()) {
-        Ok(told) => rt.stdout().write_all(&told),
-        Err(NotDone) => rt.stdout().write_all(b"out of memory\n"),
-    }
+    let mut out = Text::new(rt.alloc());
+    push_whole(rt.alloc(), input.as_str(), &mut out);
+    rt.stdout()
+        .write_all(out.whole().unwrap_or(b"out of memory\n".as_slice()))
 }

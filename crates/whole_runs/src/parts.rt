@@ -9,6 +9,7 @@ use crate::not_done::NotDone;
 use crate::tally::Tally;
 use crate::texts::bytes_of;
 use crate::trial::try_document;
+use case_table::Text;
 use std::alloc::Global;
 
 fn try_each(alloc: Global, hardware: &[u8], line: &str) -> Result<Tally, NotDone> {
@@ -16,49 +17,44 @@ fn try_each(alloc: Global, hardware: &[u8], line: &str) -> Result<Tally, NotDone
     let mut machine = made.into_machine();
     let mut tally = Tally::none();
     for text in line.split(" then ") {
-        let (after, tried) = try_document(alloc, &machine, &bytes_of(alloc, text)?)?;
-        machine = after;
-        tally = tally.with(tried);
+        let document = bytes_of(alloc, text)?;
+        machine = try_document(alloc, &machine, &document, &mut tally)?;
     }
     Ok(tally)
 }
 
 // Says the documents of a line where something differs.
-fn read_line(
-    alloc: Global,
-    hardware: &[u8],
-    line: &str,
-    out: &mut Vec<u8>,
-) -> Result<Tally, NotDone> {
+fn read_line(alloc: Global, hardware: &[u8], line: &str, out: &mut Text) -> Result<Tally, NotDone> {
     if line.is_empty() || line.starts_with("// ") {
         return Ok(Tally::none());
     }
     let tally = try_each(alloc, hardware, line)?;
     if tally.differ > 0 {
-        tally.push(alloc, line, out)?;
+        tally.push(line, out);
     }
     Ok(tally)
 }
 
-fn read_part(alloc: Global, title: &str, body: &str, out: &mut Vec<u8>) -> Result<Tally, NotDone> {
+fn read_part(alloc: Global, title: &str, body: &str, out: &mut Text) -> Result<Tally, NotDone> {
     let (hardware, lines) = body.split_once('\n').unwrap_or((body, ""));
     let hardware = bytes_of(alloc, hardware)?;
     let mut tally = Tally::none();
     for line in lines.lines() {
-        tally = tally.with(read_line(alloc, &hardware, line, out)?);
+        tally.add(read_line(alloc, &hardware, line, out)?);
     }
-    tally.push(alloc, title, out)?;
+    tally.push(title, out);
     Ok(tally)
 }
 
-/// Appends a line for each line of documents of which something differs, and the counts of each part and of all.
-pub fn push_plans(alloc: Global, input: &str, out: &mut Vec<u8>) -> Result<(), NotDone> {
+/// Pushes a line for each line of documents of which something differs, and the counts of each part and of all.
+pub fn push_plans(alloc: Global, input: &str, out: &mut Text) -> Result<(), NotDone> {
     let mut tally = Tally::none();
     let parts = input.strip_prefix("== ").unwrap_or(input);
     for part in parts.split("\n== ") {
         if let Some((title, body)) = part.split_once('\n') {
-            tally = tally.with(read_part(alloc, title, body, out)?);
+            tally.add(read_part(alloc, title, body, out)?);
         }
     }
-    tally.push(alloc, "all", out)
+    tally.push("all", out);
+    Ok(())
 }

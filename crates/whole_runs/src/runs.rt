@@ -1,4 +1,4 @@
-//! One command on a host, and what is seen of it.
+//! One command on a host, and what it reads and writes.
 
 use crate::files::no_files;
 use crate::not_done::NotDone;
@@ -7,36 +7,39 @@ use boot_service::MemoryFolder;
 use case_table::first_word;
 use host_core::Host;
 use host_memory::{FixedClock, Fuse, MemorySink, MemorySource, Refusal};
-use net_model::Net;
-use nmstate_top::{Cause, Report, Step, run_at, run_command, run_script};
+use nmstate_top::{Report, Step, run_at, run_command, run_script};
 use program_top::run_program;
 use std::alloc::Global;
+use std::mem;
 
-/// What is run: words at a moment, by `run_command`, by `run_at` or by `run_program`, or the steps of a script, by `run_script`.
+/// What is run: words at a moment, by `run_command` or by `run_at`, or the steps of a script, by `run_script`.
 pub enum Run {
     Command(Step),
     At(Step),
     Script(Vec<Step>),
-    Program(Step),
 }
 
 // By hand, so that a proof sees one call where one is dropped, and not a step for each part.
 impl Drop for Run {
     fn drop(self) {
         match self {
-            Run::Command(_) | Run::At(_) | Run::Script(_) | Run::Program(_) => {}
+            Run::Command(_) | Run::At(_) | Run::Script(_) => {}
         }
     }
+}
+
+/// Words at a moment.
+pub fn step(alloc: Global, at: u64, line: &str) -> Result<Step, NotDone> {
+    Ok(Step {
+        at,
+        words: words(alloc, line)?,
+    })
 }
 
 /// `MOMENT WORDS`.
 pub fn step_of(alloc: Global, line: &str) -> Result<Step, NotDone> {
     let (moment, rest) = first_word(line);
-    let at = number(moment)?;
-    Ok(Step {
-        at,
-        words: words(alloc, rest)?,
-    })
+    step(alloc, number(moment)?, rest)
 }
 
 /// `MOMENT WORDS; MOMENT WORDS ..`.
@@ -92,14 +95,14 @@ impl Faults {
             call: number(call)?,
             done: how == "done",
         };
-        match object {
-            "host" => self.host.push(fuse)?,
-            "source" => self.source.push(fuse)?,
-            "out" => self.out.push(fuse)?,
-            "err" => self.err.push(fuse)?,
+        let pushed = match object {
+            "host" => self.host.push(fuse),
+            "source" => self.source.push(fuse),
+            "out" => self.out.push(fuse),
+            "err" => self.err.push(fuse),
             _ => return Err(NotDone),
-        }
-        Ok(())
+        };
+        Ok(pushed?)
     }
 
     // `CALL NUMBER`.
@@ -112,72 +115,30 @@ impl Faults {
         }
     }
 
-    /// Takes a line that says what is to fail, or answers that it is none.
-    pub fn take(&mut self, word: &str, rest: &str) -> Result<bool, NotDone> {
+    /// Takes a line that says what is to fail.
+    pub fn take(&mut self, word: &str, rest: &str) -> Result<(), NotDone> {
         match word {
-            "fail" => self.fail(rest)?,
-            "lying" => self.lies = true,
-            "refuses" => self.refuse(rest)?,
-            _ => return Ok(false),
-        }
-        Ok(true)
-    }
-}
-
-/// What is seen of a command: its status, what it wrote, and the network that didn't verify.
-pub struct Seen {
-    pub status: u8,
-    pub out: Vec<u8>,
-    pub err: Vec<u8>,
-    pub found: Option<Net>,
-}
-
-// By hand, as that of `Run`.
-impl Drop for Seen {
-    fn drop(self) {
-        let Seen {
-            status: _,
-            out: _,
-            err: _,
-            found: _,
-        } = self;
-    }
-}
-
-impl Seen {
-    /// Nothing was run.
-    pub fn none(alloc: Global) -> Seen {
-        Seen {
-            status: 0,
-            out: Vec::new(alloc),
-            err: Vec::new(alloc),
-            found: None,
+            "fail" => self.fail(rest),
+            "refuses" => self.refuse(rest),
+            _ => {
+                self.lies = true;
+                Ok(())
+            }
         }
     }
 }
 
-/// Copies a network, or none.
-pub fn copied_net(net: Option<&Net>) -> Result<Option<Net>, NotDone> {
-    match net {
-        Some(net) => Ok(Some(net.copy()?)),
-        None => Ok(None),
-    }
-}
-
-// The network that didn't verify.
-fn found(cause: &Cause) -> Result<Option<Net>, NotDone> {
-    match cause {
-        Cause::NotVerified(net, _) => copied_net(Some(net)),
-        _ => Ok(None),
-    }
+/// Takes fuses out of where they stand.
+pub fn taken(alloc: Global, fuses: &mut Vec<Fuse>) -> Vec<Fuse> {
+    mem::replace(fuses, Vec::new(alloc))
 }
 
 /// What a command has beside its host: inputs, a folder, and what it writes to.
 pub struct World {
     src: MemorySource,
     pub folder: MemoryFolder,
-    out: MemorySink,
-    err: MemorySink,
+    pub out: MemorySink,
+    pub err: MemorySink,
 }
 
 // By hand, as that of `Run`.
@@ -193,43 +154,24 @@ impl Drop for World {
 }
 
 impl World {
-    /// These inputs, and a folder without files.
-    pub fn new(
-        alloc: Global,
-        inputs: Vec<(String, Vec<u8>)>,
-        faults: &Faults,
-    ) -> Result<World, NotDone> {
-        let source = faults.source.clone()?;
-        let out = faults.out.clone()?;
-        let err = faults.err.clone()?;
-        Ok(World {
-            src: MemorySource::new(alloc, inputs, source),
+    /// These inputs, and a folder without files. The faults of source and sinks are taken.
+    pub fn new(alloc: Global, inputs: Vec<(String, Vec<u8>)>, faults: &mut Faults) -> World {
+        World {
+            src: MemorySource::new(alloc, inputs, taken(alloc, &mut faults.source)),
             folder: no_files(alloc),
-            out: MemorySink::new(alloc, out),
-            err: MemorySink::new(alloc, err),
-        })
+            out: MemorySink::new(alloc, taken(alloc, &mut faults.out)),
+            err: MemorySink::new(alloc, taken(alloc, &mut faults.err)),
+        }
     }
 
-    /// No input, and this folder.
-    pub fn over(alloc: Global, folder: MemoryFolder) -> World {
+    /// These inputs, and this folder.
+    pub fn over(alloc: Global, inputs: Vec<(String, Vec<u8>)>, folder: MemoryFolder) -> World {
         World {
-            src: MemorySource::new(alloc, Vec::new(alloc), Vec::new(alloc)),
+            src: MemorySource::new(alloc, inputs, Vec::new(alloc)),
             folder,
             out: MemorySink::new(alloc, Vec::new(alloc)),
             err: MemorySink::new(alloc, Vec::new(alloc)),
         }
-    }
-
-    /// What is seen of a command that ended with this report.
-    pub fn seen(&self, report: &Report) -> Result<Seen, NotDone> {
-        let out = self.out.bytes().clone()?;
-        let err = self.err.bytes().clone()?;
-        Ok(Seen {
-            status: report.status,
-            out,
-            err,
-            found: found(&report.cause)?,
-        })
     }
 }
 
@@ -271,7 +213,13 @@ fn script<H: Host>(alloc: Global, steps: &Vec<Step>, host: &mut H, world: &mut W
     )
 }
 
-fn program<H: Host + Drop>(alloc: Global, step: &Step, host: &mut H, world: &mut World) -> Report {
+/// Runs the whole program on a host, by `run_program`.
+pub fn program<H: Host + Drop>(
+    alloc: Global,
+    step: &Step,
+    host: &mut H,
+    world: &mut World,
+) -> Report {
     let mut nodes: Vec<H> = Vec::new(alloc);
     let mut clock = FixedClock::new(step.at);
     run_program(
@@ -288,11 +236,10 @@ fn program<H: Host + Drop>(alloc: Global, step: &Step, host: &mut H, world: &mut
 }
 
 /// Runs on a host.
-pub fn run_on<H: Host + Drop>(alloc: Global, run: &Run, host: &mut H, world: &mut World) -> Report {
+pub fn run_on<H: Host>(alloc: Global, run: &Run, host: &mut H, world: &mut World) -> Report {
     match run {
         Run::Command(step) => command(alloc, step, host, world),
         Run::At(step) => at_moment(alloc, step, host, world),
         Run::Script(steps) => script(alloc, steps, host, world),
-        Run::Program(step) => program(alloc, step, host, world),
     }
 }

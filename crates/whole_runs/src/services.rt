@@ -1,34 +1,15 @@
 //! Services one after another, and what they tell and leave.
 
 use crate::files::{copied, find, folder, read_files};
-use crate::machine::{Kind, Machine, Ran, is_same};
+use crate::hosts::is_same;
+use crate::machine::{Kind, Machine, Ran};
 use crate::not_done::NotDone;
 use crate::reading::number;
-use crate::runs::{Faults, Run, Seen, World, step_of};
-use base_model::push_decimal;
+use crate::runs::World;
 use boot_service::{FolderFile, FolderFuse};
+use case_table::{Text, first_word};
 use net_model::Net;
 use std::alloc::Global;
-
-/// What stands after a service and what it told, and the folder as it left it.
-pub struct Served {
-    pub ran: Ran,
-    world: World,
-}
-
-// By hand, so that a proof sees one call where one is dropped, and not a step for each part.
-impl Drop for Served {
-    fn drop(self) {
-        let Served { ran: _, world: _ } = self;
-    }
-}
-
-impl Served {
-    /// The files of the folder.
-    pub fn files(&self) -> &[FolderFile] {
-        self.world.folder.files().as_slice()
-    }
-}
 
 /// Two devices, down.
 const DEVICES: &str =
@@ -46,17 +27,19 @@ pub fn serve(
     machine: &Machine,
     files: Vec<FolderFile>,
     fuses: Vec<FolderFuse>,
-) -> Result<Served, NotDone> {
-    let mut world = World::over(alloc, folder(alloc, files, fuses)?);
-    let run = Run::Program(step_of(alloc, "1000 service x")?);
-    let ran = machine.run_in(alloc, &run, &Faults::none(alloc), &mut world)?;
-    Ok(Served { ran, world })
+) -> Result<Ran, NotDone> {
+    let folder = folder(alloc, files, fuses)?;
+    machine.ask_in(
+        alloc,
+        "service x",
+        World::over(alloc, Vec::new(alloc), folder),
+    )
 }
 
 /// What stands once a document is applied, where it is.
 pub fn apply(alloc: Global, machine: &Machine, document: &[u8]) -> Result<Machine, NotDone> {
     let ran = machine.ask(alloc, "apply", document)?;
-    if ran.seen.status != 0 {
+    if ran.report.status != 0 {
         return Err(NotDone);
     }
     Ok(ran.into_machine())
@@ -64,7 +47,7 @@ pub fn apply(alloc: Global, machine: &Machine, document: &[u8]) -> Result<Machin
 
 /// One call that fails, of this number, done or not.
 pub fn fuse(alloc: Global, call: u64, done: bool) -> Result<Vec<FolderFuse>, NotDone> {
-    Ok(vec![in alloc; FolderFuse { call, done }]?)
+    Ok(Vec::from_slice(alloc, &[FolderFuse { call, done }])?)
 }
 
 // `ok`, `fail:N` or `done:N`.
@@ -78,28 +61,40 @@ fn fuses_of(alloc: Global, word: &str) -> Result<Vec<FolderFuse>, NotDone> {
 }
 
 // What is written to the output and to the errors, and a status that isn't 0.
-fn push_seen(seen: &Seen, out: &mut Vec<u8>) -> Result<(), NotDone> {
-    out.extend_from_slice(seen.out.as_slice())?;
-    out.extend_from_slice(seen.err.as_slice())?;
-    if seen.status != 0 {
-        out.push(b'[')?;
-        push_decimal(u64::from(seen.status), out)?;
-        out.extend_from_slice(b"]\n")?;
+fn push_seen(ran: &Ran, out: &mut Text) {
+    out.push_bytes(ran.out());
+    out.push_bytes(ran.err());
+    if ran.report.status != 0 {
+        out.push_byte(b'[');
+        out.push_count(u64::from(ran.report.status), "]\n");
     }
-    Ok(())
 }
 
 // The names of the marked files.
-fn push_marked(files: &[FolderFile], out: &mut Vec<u8>) -> Result<(), NotDone> {
-    out.extend_from_slice(b"marked")?;
+fn push_marked(files: &[FolderFile], out: &mut Text) {
+    out.push_str("marked");
     for file in files {
         if file.marked {
-            out.push(b' ')?;
-            out.extend_from_slice(file.name.as_bytes())?;
+            out.push_byte(b' ');
+            out.push_bytes(file.name.as_bytes());
         }
     }
-    out.push(b'\n')?;
-    Ok(())
+    out.push_byte(b'\n');
+}
+
+// A service over these files, and what it tells and marks.
+fn serve_one(
+    alloc: Global,
+    machine: &Machine,
+    files: &[FolderFile],
+    word: &str,
+    out: &mut Text,
+) -> Result<Ran, NotDone> {
+    let fuses = fuses_of(alloc, word)?;
+    let ran = serve(alloc, machine, copied(alloc, files)?, fuses)?;
+    push_seen(&ran, out);
+    push_marked(ran.files(), out);
+    Ok(ran)
 }
 
 // A service for each word, and what each tells and marks. Gives the network that then stands.
@@ -108,18 +103,16 @@ fn serve_each(
     first: &Machine,
     files: &[FolderFile],
     words: &str,
-    out: &mut Vec<u8>,
+    out: &mut Text,
 ) -> Result<Option<Net>, NotDone> {
-    let mut machine = first.copy(alloc)?;
-    let mut files = copied(alloc, files)?;
-    for word in words.split(' ') {
-        let served = serve(alloc, &machine, files, fuses_of(alloc, word)?)?;
-        push_seen(&served.ran.seen, out)?;
-        push_marked(served.files(), out)?;
-        files = copied(alloc, served.files())?;
-        machine = served.ran.machine.copy(alloc)?;
+    let (word, others) = first_word(words);
+    let mut ran = serve_one(alloc, first, files, word, out)?;
+    for word in others.split(' ') {
+        if !word.is_empty() {
+            ran = serve_one(alloc, &ran.machine, ran.files(), word, out)?;
+        }
     }
-    machine.net(alloc)
+    ran.machine.net(alloc)
 }
 
 // The network that the documents of these names make, applied one after another; `none` has none of them.
@@ -145,27 +138,29 @@ fn told_on(
     files: &str,
     runs: &str,
     names: &str,
-) -> Result<Vec<u8>, NotDone> {
+) -> Result<Text, NotDone> {
     let files = read_files(alloc, files)?;
     let first = first(alloc, kind)?;
-    let mut out = Vec::new(alloc);
+    let mut out = Text::new(alloc);
     let left = serve_each(alloc, &first, &files, runs, &mut out)?;
     let is_wanted = is_same(&left, &applied(alloc, &first, &files, names)?);
-    out.extend_from_slice(if is_wanted { "same" } else { "other" }.as_bytes())?;
+    out.push_str(if is_wanted { "same" } else { "other" });
     Ok(out)
 }
 
-/// `FILE ..; RUN ..; NAME ..`: a service for each RUN over these files. What each tells and marks, and whether the network is
-/// then the one that the documents of these names make, applied one after another. What is told on a host over a disk follows,
+/// `FILE ..; RUN ..; NAME ..`: a service for each RUN over these files. Pushes what each tells and marks, and whether the network
+/// is then the one that the documents of these names make, applied one after another. What is told on a host over a disk follows,
 /// where it is something else than in memory.
-pub fn told(alloc: Global, case: &str) -> Result<Vec<u8>, NotDone> {
+pub fn push_told(alloc: Global, case: &str, out: &mut Text) -> Result<(), NotDone> {
     let (files, rest) = case.split_once("; ").unwrap_or((case, ""));
     let (runs, names) = rest.split_once("; ").unwrap_or((rest, ""));
-    let mut out = told_on(alloc, Kind::Memory, files, runs, names)?;
+    let memory = told_on(alloc, Kind::Memory, files, runs, names)?;
     let disk = told_on(alloc, Kind::Disk, files, runs, names)?;
-    if out != disk {
-        out.extend_from_slice(b"\non a disk:\n")?;
-        out.extend_from_slice(disk.as_slice())?;
+    out.push_text(&memory);
+    if memory.bytes != disk.bytes {
+        out.push_str("\non a disk:\n");
+        out.push_text(&disk);
     }
-    Ok(out)
+    out.remember(disk.is_whole);
+    Ok(())
 }

@@ -1,11 +1,12 @@
 //! Stops of a service at each call, and what a recovery and another service make of them.
 
 use crate::files::{copied, first_marked, first_of, read_files};
-use crate::machine::{Kind, Machine, Ran, is_same};
+use crate::hosts::is_same;
+use crate::machine::{Kind, Machine, Ran};
 use crate::not_done::NotDone;
-use crate::services::{Served, apply, first, fuse, serve};
-use base_model::push_decimal;
+use crate::services::{apply, first, fuse, serve};
 use boot_service::FolderFile;
+use case_table::Text;
 use net_model::Net;
 use std::alloc::Global;
 
@@ -55,10 +56,10 @@ fn serve_first(
     first: &Machine,
     files: &[FolderFile],
     count: u64,
-) -> Result<Served, NotDone> {
+) -> Result<Ran, NotDone> {
     let files = first_of(alloc, files, count, 0)?;
     let served = serve(alloc, first, files, Vec::new(alloc))?;
-    if served.ran.seen.status != 0 {
+    if served.report.status != 0 {
         return Err(NotDone);
     }
     Ok(served)
@@ -68,7 +69,7 @@ fn calls(alloc: Global, first: &Machine, files: &[FolderFile]) -> Result<Vec<u64
     let mut calls = Vec::new(alloc);
     for count in 0..(files.len() as u64).saturating_add(1) {
         let served = serve_first(alloc, first, files, count)?;
-        calls.push(served.ran.machine.calls())?;
+        calls.push(served.machine.calls())?;
     }
     Ok(calls)
 }
@@ -87,18 +88,18 @@ fn course_of(alloc: Global, kind: Kind, files: &str) -> Result<Course, NotDone> 
 }
 
 // The lines of the files behind the first so many.
-fn applied_lines(alloc: Global, files: &[FolderFile], from: u64) -> Result<Vec<u8>, NotDone> {
-    let mut lines = Vec::new(alloc);
+fn applied_lines(alloc: Global, files: &[FolderFile], from: u64) -> Text {
+    let mut lines = Text::new(alloc);
     let mut place = 0u64;
     for file in files {
         if place >= from {
-            lines.extend_from_slice(b"applied ")?;
-            lines.extend_from_slice(file.name.as_bytes())?;
-            lines.push(b'\n')?;
+            lines.push_str("applied ");
+            lines.push_bytes(file.name.as_bytes());
+            lines.push_byte(b'\n');
         }
         place = place.saturating_add(1);
     }
-    Ok(lines)
+    lines
 }
 
 impl Course {
@@ -116,12 +117,13 @@ impl Course {
     }
 
     // Whether a service told that it applied all documents but the first so many, marked each, and left the network of all.
-    fn is_served(&self, alloc: Global, served: &Served, marked: u64) -> Result<bool, NotDone> {
-        let lines = applied_lines(alloc, &self.files, marked)?;
-        let seen = &served.ran.seen;
-        let is_told = seen.status == 0 && seen.out == lines && seen.err.is_empty();
+    fn is_served(&self, alloc: Global, served: &Ran, marked: u64) -> Result<bool, NotDone> {
+        let lines = applied_lines(alloc, &self.files, marked);
+        let is_told = served.report.status == 0
+            && lines.is(served.out())
+            && served.err().is_empty();
         let is_marked = first_marked(served.files()) == Some(self.count());
-        let is_net = self.is_net(alloc, &served.ran.machine, self.count())?;
+        let is_net = self.is_net(alloc, &served.machine, self.count())?;
         Ok(is_told && is_marked && is_net)
     }
 
@@ -130,7 +132,7 @@ impl Course {
         let next = marked.saturating_add(1);
         let is_net = self.is_net(alloc, &ran.machine, marked)?
             || self.is_net(alloc, &ran.machine, next)?;
-        Ok(ran.seen.status == 0 && is_net)
+        Ok(ran.report.status == 0 && is_net)
     }
 
     // Whether what a stop left comes to the end of all documents by a recovery and another service.
@@ -199,7 +201,7 @@ impl Course {
     // A stop behind each call of a service over all documents.
     fn stop_each(&self, alloc: Global, tally: &mut Tally) -> Result<(), NotDone> {
         let served = serve_first(alloc, &self.first, &self.files, self.count())?;
-        let ran = &served.ran.machine;
+        let ran = &served.machine;
         for after in 0..ran.calls().saturating_add(1) {
             self.stop_at(alloc, ran, after, tally)?;
         }
@@ -216,10 +218,10 @@ impl Course {
     ) -> Result<bool, NotDone> {
         let files = first_of(alloc, &self.files, self.count(), 0)?;
         let served = serve(alloc, &self.first, files, fuse(alloc, call, done)?)?;
-        if served.ran.seen.status == 0 {
+        if served.report.status == 0 {
             return Ok(false);
         }
-        let ran = &served.ran.machine;
+        let ran = &served.machine;
         self.look(alloc, ran, ran.calls(), served.files(), tally)?;
         Ok(true)
     }
@@ -251,7 +253,7 @@ fn push_tally(
     kind: Kind,
     files: &str,
     at: At,
-    out: &mut Vec<u8>,
+    out: &mut Text,
 ) -> Result<(), NotDone> {
     let course = course_of(alloc, kind, files)?;
     let mut tally = Tally { stops: 0, wrong: 0 };
@@ -259,20 +261,17 @@ fn push_tally(
         At::CallsOfTheHost => course.stop_each(alloc, &mut tally)?,
         At::CallsOfTheFolder => course.fail_each(alloc, &mut tally)?,
     }
-    push_decimal(tally.stops, out)?;
-    out.extend_from_slice(b" stops, ")?;
-    push_decimal(tally.wrong, out)?;
-    out.extend_from_slice(b" wrong")?;
+    out.push_count(tally.stops, " stops, ");
+    out.push_count(tally.wrong, " wrong");
     Ok(())
 }
 
 /// `FILE ..`, documents in the order of their names: a stop behind each call of the host that a service makes, with each of what
-/// it may leave, a recovery and another service; or each call of the folder fails, done and not, and a stop follows. How many
-/// stops there were, and how many of them didn't come to the network and the marks of all documents.
-pub fn stopped(alloc: Global, files: &str, at: At) -> Result<Vec<u8>, NotDone> {
-    let mut out = Vec::from_slice(alloc, b"in memory ")?;
-    push_tally(alloc, Kind::Memory, files, at, &mut out)?;
-    out.extend_from_slice(b"; on a disk ")?;
-    push_tally(alloc, Kind::Disk, files, at, &mut out)?;
-    Ok(out)
+/// it may leave, a recovery and another service; or each call of the folder fails, done and not, and a stop follows. Pushes how
+/// many stops there were, and how many of them didn't come to the network and the marks of all documents.
+pub fn push_stopped(alloc: Global, files: &str, at: At, out: &mut Text) -> Result<(), NotDone> {
+    out.push_str("in memory ");
+    push_tally(alloc, Kind::Memory, files, at, out)?;
+    out.push_str("; on a disk ");
+    push_tally(alloc, Kind::Disk, files, at, out)
 }

@@ -1,6 +1,8 @@
 //! Stored bytes that are damaged.
 
 use crate::not_done::NotDone;
+use base_model::OutOfMemory;
+use case_table::Text;
 use host_core::Area;
 use std::alloc::Global;
 
@@ -24,9 +26,15 @@ pub fn behind(held: &[u8], from: u64) -> &[u8] {
 }
 
 /// The bytes with others in their place from a position on.
-pub fn overwritten(alloc: Global, held: &[u8], at: u64, given: &[u8]) -> Result<Vec<u8>, NotDone> {
-    let mut bytes = Vec::from_slice(alloc, cut(held, at))?;
-    bytes.extend_from_slice(given)?;
-    bytes.extend_from_slice(behind(behind(held, at), given.len() as u64))?;
-    Ok(bytes)
+pub fn overwritten(
+    alloc: Global,
+    held: &[u8],
+    at: u64,
+    given: &[u8],
+) -> Result<Vec<u8>, OutOfMemory> {
+    let mut bytes = Text::new(alloc);
+    bytes.push_bytes(cut(held, at));
+    bytes.push_bytes(given);
+    bytes.push_bytes(behind(behind(held, at), given.len() as u64));
+    bytes.into_bytes()
 }

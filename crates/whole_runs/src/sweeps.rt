@@ -1,28 +1,41 @@
 //! Faults and stops at each place of a command, and what a recovery makes of them.
 
 use crate::expected::push_named;
+use crate::hosts::{copied_net, is_same};
 use crate::inputs::copied;
-use crate::machine::{Machine, is_same};
+use crate::machine::Machine;
 use crate::not_done::NotDone;
-use crate::reading::words;
-use crate::runs::{Faults, Run, copied_net, step_of};
+use crate::reading::number;
+use crate::runs::{Faults, Run, step, step_of};
+use case_table::Text;
 use host_memory::Fuse;
 use net_model::Net;
 use std::alloc::Global;
+use std::mem;
 
 /// A network that stood, or none, under a name.
 #[derive(Drop)]
 pub struct Kept {
-    pub name: String,
+    pub name: Text,
     pub net: Option<Net>,
 }
 
 /// What was kept under a name.
-pub fn find<'a>(kept: &'a [Kept], name: &str) -> Result<&'a Kept, NotDone> {
-    match kept.iter().find(|kept| kept.name.as_str() == name) {
-        Some(kept) => Ok(kept),
-        None => Err(NotDone),
+pub fn find<'a>(all: &'a [Kept], name: &str) -> Result<&'a Kept, NotDone> {
+    for kept in all {
+        if kept.name.is(name.as_bytes()) {
+            return Ok(kept);
+        }
     }
+    Err(NotDone)
+}
+
+// A network that may stand behind a recovery, and whether it did.
+#[derive(Drop)]
+struct Allowed {
+    name: Text,
+    net: Option<Net>,
+    is_met: bool,
 }
 
 /// A command at each place of which a fault or a stop falls, the recovery behind it, and what may then stand, the state
@@ -30,12 +43,11 @@ pub fn find<'a>(kept: &'a [Kept], name: &str) -> Result<&'a Kept, NotDone> {
 struct Sweep {
     run: Run,
     recovery: Run,
-    allowed: Vec<Kept>,
-    // The places among them of those that stood behind a recovery.
-    met: Vec<usize>,
+    allowed: Vec<Allowed>,
     inputs: Vec<(String, Vec<u8>)>,
-    faults: Faults,
-    said: Vec<u8>,
+    // Where the stop or the faults of the last run fell.
+    place: Text,
+    said: Text,
 }
 
 // By hand, so that a proof sees one call where one is dropped, and not a step for each part.
@@ -45,9 +57,8 @@ impl Drop for Sweep {
             run: _,
             recovery: _,
             allowed: _,
-            met: _,
             inputs: _,
-            faults: _,
+            place: _,
             said: _,
         } = self;
     }
@@ -60,13 +71,53 @@ const MOST_CALLS: u64 = 400;
 const WINDOW: u64 = 12;
 
 // The states of these names.
-fn states(alloc: Global, names: &str, kept: &[Kept]) -> Result<Vec<Kept>, NotDone> {
+fn states(alloc: Global, names: &str, kept: &[Kept]) -> Result<Vec<Allowed>, NotDone> {
     let mut states = Vec::new(alloc);
-    for name in words(alloc, names)? {
-        let net = copied_net(find(kept, &name)?.net.as_ref())?;
-        states.push(Kept { name, net })?;
+    for name in names.split(' ') {
+        let net = copied_net(find(kept, name)?.net.as_ref())?;
+        states.push(Allowed {
+            name: Text::of(alloc, name),
+            net,
+            is_met: false,
+        })?;
     }
     Ok(states)
+}
+
+// Marks the first of the states that a network is, and answers whether it is any.
+fn meets(states: &mut Vec<Allowed>, net: &Option<Net>) -> bool {
+    for allowed in states.iter_mut() {
+        if is_same(&allowed.net, net) {
+            allowed.is_met = true;
+            return true;
+        }
+    }
+    false
+}
+
+// Says the states that were never met, each on a line.
+fn push_unmet(states: &[Allowed], said: &mut Text) {
+    for allowed in states {
+        if !allowed.is_met {
+            push_named(allowed.name.as_str(), b"never stands", said);
+        }
+    }
+}
+
+fn place_of_stop(alloc: Global, after: u64, pick: u8) -> Text {
+    let mut place = Text::of(alloc, "stop ");
+    place.push_count(after, " ");
+    place.push_number(u64::from(pick));
+    place
+}
+
+fn place_of_faults(alloc: Global, fuses: &[Fuse]) -> Text {
+    let mut place = Text::of(alloc, "faults");
+    for fuse in fuses {
+        place.push_str(if fuse.done { " done " } else { " not done " });
+        place.push_number(fuse.call);
+    }
+    place
 }
 
 impl Sweep {
@@ -76,103 +127,91 @@ impl Sweep {
         line: &str,
         kept: &[Kept],
         inputs: Vec<(String, Vec<u8>)>,
-        faults: Faults,
     ) -> Result<Sweep, NotDone> {
         let (command, rest) = line.split_once(", recovered at ").unwrap_or((line, ""));
         let (moment, names) = rest.split_once(": ").unwrap_or((rest, ""));
-        let recovery = format!(in alloc; "{moment} recover")?;
         Ok(Sweep {
             run: Run::Command(step_of(alloc, command)?),
-            recovery: Run::Command(step_of(alloc, &recovery)?),
+            recovery: Run::Command(step(alloc, number(moment)?, "recover")?),
             allowed: states(alloc, names, kept)?,
-            met: Vec::new(alloc),
             inputs,
-            faults,
-            said: Vec::new(alloc),
+            place: Text::new(alloc),
+            said: Text::new(alloc),
         })
     }
 
-    // The place of a network among those that may stand.
-    fn place_of(&self, net: &Option<Net>) -> Option<usize> {
-        self.allowed
-            .iter()
-            .position(|allowed| is_same(&allowed.net, net))
+    fn say(&mut self, what: &str) {
+        self.said.push_text(&self.place);
+        self.said.push_str(": ");
+        self.said.push_line(what);
     }
 
-    fn say(&mut self, place: &str, what: &str) -> Result<(), NotDone> {
-        push_named(&mut self.said, place, what.as_bytes())
-    }
-
-    // Looks at what stands behind a recovery.
-    fn meet(&mut self, alloc: Global, place: &str, machine: &Machine) -> Result<(), NotDone> {
-        match self.place_of(&machine.net(alloc)?) {
-            Some(at) if self.met.contains(&at) => Ok(()),
-            Some(at) => Ok(self.met.push(at)?),
-            None => self.say(place, "another state stands"),
+    // Whether a network is the one from before the command.
+    fn is_before(&self, net: &Option<Net>) -> bool {
+        match self.allowed.first() {
+            Some(before) => is_same(&before.net, net),
+            None => false,
         }
     }
 
     // Recovers without a fault, and looks at what then stands. Answers whether there was nothing to recover.
-    fn recover(&mut self, alloc: Global, place: &str, machine: &Machine) -> Result<bool, NotDone> {
+    fn recover(&mut self, alloc: Global, machine: &Machine) -> Result<bool, NotDone> {
         let none = Faults::none(alloc);
-        let after = machine.run(alloc, &self.recovery, &none, Vec::new(alloc))?;
-        if after.seen.status != 0 {
-            self.say(place, "the recovery is refused")?;
+        let after = machine.run(alloc, &self.recovery, none, Vec::new(alloc))?;
+        if after.report.status != 0 {
+            self.say("the recovery is refused");
         }
-        self.meet(alloc, place, &after.machine)?;
-        Ok(after.seen.out.as_slice() == b"nothing to recover\n".as_slice())
+        if !meets(&mut self.allowed, &after.machine.net(alloc)?) {
+            self.say("another state stands");
+        }
+        Ok(after.out().as_slice() == b"nothing to recover\n".as_slice())
     }
 
-    // A stop behind each call of the command, with each pick of what it may leave.
-    fn stops(&mut self, alloc: Global, machine: &Machine) -> Result<(), NotDone> {
+    // A stop behind so many calls, with each pick of what it may leave.
+    fn stop(&mut self, alloc: Global, ran: &Machine, after: u64) -> Result<(), NotDone> {
+        for pick in 0..4_u8 {
+            self.place = place_of_stop(alloc, after, pick);
+            let stopped = ran.stopped(alloc, after, pick)?;
+            self.recover(alloc, &stopped)?;
+        }
+        Ok(())
+    }
+
+    // A stop behind each call of the command.
+    fn stops(&mut self, alloc: Global, machine: &Machine, faults: Faults) -> Result<(), NotDone> {
         let inputs = copied(alloc, &self.inputs)?;
-        let after = machine.run(alloc, &self.run, &self.faults, inputs)?;
-        for moment in 0..after.machine.calls().saturating_add(1) {
-            for pick in 0..4_u8 {
-                let place = format!(in alloc; "stop {moment} {pick}")?;
-                let stopped = after.machine.stopped(alloc, moment, pick)?;
-                self.recover(alloc, &place, &stopped)?;
-            }
+        let ran = machine.run(alloc, &self.run, faults, inputs)?;
+        for after in 0..ran.machine.calls().saturating_add(1) {
+            self.stop(alloc, &ran.machine, after)?;
         }
         Ok(())
     }
 
     // Runs with these calls of the host failing. Answers whether none of them was made.
-    fn fails(
-        &mut self,
-        alloc: Global,
-        machine: &Machine,
-        fuses: Vec<Fuse>,
-    ) -> Result<bool, NotDone> {
-        let place = format!(in alloc; "{fuses:?}")?;
+    fn fails(&mut self, alloc: Global, machine: &Machine, fuses: &[Fuse]) -> Result<bool, NotDone> {
+        self.place = place_of_faults(alloc, fuses);
         let mut faults = Faults::none(alloc);
-        faults.host = fuses;
+        faults.host = Vec::from_slice(alloc, fuses)?;
         let inputs = copied(alloc, &self.inputs)?;
-        let after = machine.run(alloc, &self.run, &faults, inputs)?;
-        if after.seen.status == 0 {
+        let after = machine.run(alloc, &self.run, faults, inputs)?;
+        if after.report.status == 0 {
             return Ok(true);
         }
-        if !matches!(after.seen.status, 4 | 5 | 10) {
-            self.say(&place, "an answer that isn't of a fault of the host")?;
+        if !matches!(after.report.status, 4 | 5 | 10) {
+            self.say("an answer that isn't of a fault of the host");
         }
-        let is_closed = self.recover(alloc, &place, &after.machine)?;
+        let is_closed = self.recover(alloc, &after.machine)?;
         // What was rolled back has no checkpoint, and stands as before without a recovery.
-        if after.seen.status == 4
-            && (!is_closed || self.place_of(&after.machine.net(alloc)?) != Some(0))
-        {
-            self.say(&place, "it wasn't rolled back")?;
+        if after.report.status == 4 && !(is_closed && self.is_before(&after.machine.net(alloc)?)) {
+            self.say("it wasn't rolled back");
         }
         Ok(false)
     }
 
     // One call of the host fails, done or not. Answers whether the command doesn't make it.
     fn one_fails(&mut self, alloc: Global, machine: &Machine, call: u64) -> Result<bool, NotDone> {
-        let mut is_behind = true;
-        for done in [false, true] {
-            let fuses = vec![in alloc; Fuse { call, done }]?;
-            is_behind = self.fails(alloc, machine, fuses)? && is_behind;
-        }
-        Ok(is_behind)
+        let is_behind = self.fails(alloc, machine, &[Fuse { call, done: false }])?;
+        Ok(self.fails(alloc, machine, &[Fuse { call, done: true }])? && is_behind)
     }
 
     // Each call of the host in turn fails, done or not.
@@ -182,23 +221,36 @@ impl Sweep {
                 return Ok(());
             }
         }
-        self.say("faults", "the command makes too many calls")
+        self.say("the command makes too many calls");
+        Ok(())
+    }
+
+    // Two calls of the host fail, each of them done or not.
+    fn both_fail(
+        &mut self,
+        alloc: Global,
+        machine: &Machine,
+        first: u64,
+        second: u64,
+    ) -> Result<(), NotDone> {
+        for pick in 0..4_u8 {
+            let one = Fuse {
+                call: first,
+                done: pick / 2 == 1,
+            };
+            let other = Fuse {
+                call: second,
+                done: pick % 2 == 1,
+            };
+            self.fails(alloc, machine, &[one, other])?;
+        }
+        Ok(())
     }
 
     // This call of the host fails, and each of those close behind it too.
     fn two_fail(&mut self, alloc: Global, machine: &Machine, first: u64) -> Result<(), NotDone> {
         for second in first.saturating_add(1)..first.saturating_add(WINDOW) {
-            for (one, other) in [(false, false), (false, true), (true, false), (true, true)] {
-                let first = Fuse {
-                    call: first,
-                    done: one,
-                };
-                let second = Fuse {
-                    call: second,
-                    done: other,
-                };
-                self.fails(alloc, machine, vec![in alloc; first, second]?)?;
-            }
+            self.both_fail(alloc, machine, first, second)?;
         }
         Ok(())
     }
@@ -211,22 +263,13 @@ impl Sweep {
             }
             self.two_fail(alloc, machine, first)?;
         }
-        self.say("faults", "the command makes too many calls")
-    }
-
-    // What differs: what was said, and the states that were never met, each on a line.
-    fn differences(&mut self, alloc: Global) -> Result<Vec<u8>, NotDone> {
-        let mut said = self.said.clone()?;
-        for (place, allowed) in self.allowed.iter().enumerate() {
-            if !self.met.contains(&place) {
-                push_named(&mut said, &allowed.name, b"never stands")?;
-            }
-        }
-        Ok(said)
+        self.say("the command makes too many calls");
+        Ok(())
     }
 }
 
-/// Does the sweep that a line asks for: `stops`, `faults` or `pairs`. Gives what differs.
+/// Does the sweep that a line asks for: `stops`, `faults` or `pairs`. Gives what differs: what was said, and the states that were
+/// never met.
 pub fn swept(
     alloc: Global,
     word: &str,
@@ -235,13 +278,13 @@ pub fn swept(
     inputs: Vec<(String, Vec<u8>)>,
     faults: Faults,
     machine: &Machine,
-) -> Result<Vec<u8>, NotDone> {
-    let mut sweep = Sweep::of(alloc, line, kept, inputs, faults)?;
+) -> Result<Text, NotDone> {
+    let mut sweep = Sweep::of(alloc, line, kept, inputs)?;
     match word {
-        "stops" => sweep.stops(alloc, machine)?,
+        "stops" => sweep.stops(alloc, machine, faults)?,
         "faults" => sweep.faults(alloc, machine)?,
-        "pairs" => sweep.pairs(alloc, machine)?,
-        _ => return Err(NotDone),
+        _ => sweep.pairs(alloc, machine)?,
     }
-    sweep.differences(alloc)
+    push_unmet(&sweep.allowed, &mut sweep.said);
+    Ok(mem::replace(&mut sweep.said, Text::new(alloc)))
 }

@@ -1,7 +1,6 @@
 //! How many documents, lines and calls there were.
 
-use crate::not_done::NotDone;
-use std::alloc::Global;
+use case_table::Text;
 
 /// How many documents there were, lines of plans, calls that these were read back as, and plans of which something differs.
 #[derive(Clone, Copy)]
@@ -23,28 +22,21 @@ impl Tally {
         }
     }
 
-    /// Both together.
-    pub fn with(self, other: Tally) -> Tally {
-        Tally {
-            documents: self.documents.saturating_add(other.documents),
-            lines: self.lines.saturating_add(other.lines),
-            calls: self.calls.saturating_add(other.calls),
-            differ: self.differ.saturating_add(other.differ),
-        }
+    /// Adds those of another.
+    pub fn add(&mut self, other: Tally) {
+        self.documents = self.documents.saturating_add(other.documents);
+        self.lines = self.lines.saturating_add(other.lines);
+        self.calls = self.calls.saturating_add(other.calls);
+        self.differ = self.differ.saturating_add(other.differ);
     }
 
-    /// Appends a line with the counts under a title.
-    pub fn push(self, alloc: Global, title: &str, out: &mut Vec<u8>) -> Result<(), NotDone> {
-        let Tally {
-            documents,
-            lines,
-            calls,
-            differ,
-        } = self;
-        let counts = format!(in alloc;
-            "{title}: {documents} documents, {lines} lines, read back as {calls} calls, {differ} plans differ\n"
-        )?;
-        out.extend_from_slice(counts.as_bytes())?;
-        Ok(())
+    /// Pushes a line with the counts under a title.
+    pub fn push(self, title: &str, out: &mut Text) {
+        out.push_str(title);
+        out.push_str(": ");
+        out.push_count(self.documents, " documents, ");
+        out.push_count(self.lines, " lines, read back as ");
+        out.push_count(self.calls, " calls, ");
+        out.push_count(self.differ, " plans differ\n");
     }
 }

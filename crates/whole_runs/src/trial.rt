@@ -3,7 +3,6 @@
 use crate::lines::{count_lines, lines_text, plan_text, read_back};
 use crate::machine::{Machine, Ran};
 use crate::not_done::NotDone;
-use crate::runs::Seen;
 use crate::tally::Tally;
 use net_model::Call;
 use plan_core::plan;
@@ -24,24 +23,24 @@ fn leads_to(alloc: Global, machine: &Machine, lines: &[u8], shown: &[u8]) -> Res
     let before = machine.ask(alloc, "show", b"")?;
     let tried = machine.ask(alloc, "simulate", lines)?;
     let after = tried.machine.ask(alloc, "show", b"")?;
-    let is_well = tried.seen.status == 0 && tried.seen.err.is_empty();
-    Ok(is_well && tried.seen.out.as_slice() == shown && before.seen.out == after.seen.out)
+    let is_well = tried.report.status == 0 && tried.err().is_empty();
+    Ok(is_well && tried.out().as_slice() == shown && before.out() == after.out())
 }
 
 // The plan of a document that was then applied, and its lines, which are tried out on the network from before.
 fn forth(
     alloc: Global,
     before: &Machine,
-    text: &Seen,
-    lines: &Seen,
+    text: &Ran,
+    lines: &Ran,
     applied: &Ran,
 ) -> Result<Tally, NotDone> {
-    let calls = read_back(alloc, &text.out, &lines.out)?;
+    let calls = read_back(alloc, text.out(), lines.out());
     let shown = applied.machine.ask(alloc, "show", b"")?;
-    let leads = leads_to(alloc, before, &lines.out, &shown.seen.out)?;
-    let is_told = text.status == 0 && lines.status == 0 && text.err == lines.err;
-    let is_right = is_told && applied.seen.status == 0 && leads;
-    Ok(tally_of(1, &lines.out, calls, is_right))
+    let leads = leads_to(alloc, before, lines.out(), shown.out())?;
+    let is_told = text.report.status == 0 && lines.report.status == 0 && text.err() == lines.err();
+    let is_right = is_told && applied.report.status == 0 && leads;
+    Ok(tally_of(1, lines.out(), calls, is_right))
 }
 
 // The calls between the networks of two machines, if they have the same devices.
@@ -64,12 +63,12 @@ fn back(alloc: Global, machine: &Machine, before: &Machine) -> Result<Tally, Not
     let Some(planned) = calls_between(alloc, machine, before)? else {
         return Ok(tally_of(0, b"", None, false));
     };
-    let lines = lines_text(alloc, &planned)?;
-    let text = plan_text(alloc, &planned)?;
-    let calls = read_back(alloc, &text, &lines)?;
+    let lines = lines_text(alloc, &planned);
+    let text = plan_text(alloc, &planned);
+    let calls = read_back(alloc, &text.bytes, &lines.bytes);
     let shown = before.ask(alloc, "show", b"")?;
-    let leads = leads_to(alloc, machine, &lines, &shown.seen.out)?;
-    Ok(tally_of(0, &lines, calls, leads))
+    let leads = leads_to(alloc, machine, &lines.bytes, shown.out())?;
+    Ok(tally_of(0, &lines.bytes, calls, leads))
 }
 
 /// Applies a document or a policy to a machine, and holds its plan and the plan back against their lines. Gives what then stands.
@@ -77,11 +76,12 @@ pub fn try_document(
     alloc: Global,
     before: &Machine,
     document: &[u8],
-) -> Result<(Machine, Tally), NotDone> {
+    tally: &mut Tally,
+) -> Result<Machine, NotDone> {
     let text = before.ask(alloc, "plan", document)?;
     let lines = text.machine.ask(alloc, "plan --batch", document)?;
     let applied = lines.machine.ask(alloc, "apply", document)?;
-    let there = forth(alloc, before, &text.seen, &lines.seen, &applied)?;
-    let and_back = back(alloc, &applied.machine, before)?;
-    Ok((applied.into_machine(), there.with(and_back)))
+    tally.add(forth(alloc, before, &text, &lines, &applied)?);
+    tally.add(back(alloc, &applied.machine, before)?);
+    Ok(applied.into_machine())
 }

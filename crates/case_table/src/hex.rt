@@ -1,5 +1,6 @@
 //! Bytes as hexadecimal digits.
 
+use crate::text::Text;
 use base_model::OutOfMemory;
 use std::alloc::Global;
 
@@ -13,7 +14,7 @@ fn value(digit: u8) -> Option<u8> {
 
 /// The bytes of digits, of which two are a byte; all else is passed over.
 pub fn bytes_of_hex(alloc: Global, text: &str) -> Result<Vec<u8>, OutOfMemory> {
-    let mut bytes = Vec::new(alloc);
+    let mut bytes = Text::new(alloc);
     let mut high: Option<u8> = None;
     for digit in text.as_bytes() {
         let Some(low) = value(*digit) else {
@@ -21,13 +22,13 @@ pub fn bytes_of_hex(alloc: Global, text: &str) -> Result<Vec<u8>, OutOfMemory> {
         };
         match high {
             Some(first) => {
-                bytes.push(first.wrapping_mul(16).wrapping_add(low))?;
+                bytes.push_byte(first.wrapping_mul(16).wrapping_add(low));
                 high = None;
             }
             None => high = Some(low),
         }
     }
-    Ok(bytes)
+    bytes.into_bytes()
 }
 
 fn digit(value: u8) -> u8 {
@@ -38,11 +39,10 @@ fn digit(value: u8) -> u8 {
     }
 }
 
-/// Appends the digits of bytes.
-pub fn push_hex(bytes: &[u8], out: &mut Vec<u8>) -> Result<(), OutOfMemory> {
+/// Pushes the digits of bytes.
+pub fn push_hex(bytes: &[u8], out: &mut Text) {
     for byte in bytes {
-        out.push(digit(*byte / 16))?;
-        out.push(digit(*byte % 16))?;
+        out.push_byte(digit(*byte / 16));
+        out.push_byte(digit(*byte % 16));
     }
-    Ok(())
 }
