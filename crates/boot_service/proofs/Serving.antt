@@ -109,6 +109,7 @@ applies_done honest tells doc now old new x a = record {
   exact = λ h. plain (a.exact h);
   unbegun = tt;
   intact = λ h calm. tt;
+  waits = a.waits;
   exit = a.exit;
   reads = a.reads;
   kept = a.kept;

@@ -14,7 +14,7 @@ use Rattle.engine_model.specs.Sound.{Sound, WhereSound}
 use Rattle.engine_model.specs.Stations.{Only, Settled, Either, Kept, at, entry_of, left_by}
 use Rattle.engine_model.specs.Exit.{ApplyExit}
 use Rattle.engine_model.specs.Refusals.{ApplyCounts}
-use Rattle.engine_model.specs.Failing.{ApplyIdle, ApplyIntact}
+use Rattle.engine_model.specs.Failing.{ApplyIdle, ApplyIntact, ApplyWaits}
 use Rattle.engine_model.specs.Faults.{ApplySays, ApplyAnswers, ApplyExact, MayStandHalf, Tries, FailsTwice, Dumps, Backs, HasTaken}
 use Rattle.engine_model.specs.declared.answers.ApplyOpts.{ApplyOpts}
 use Rattle.engine_model.specs.declared.answers.Applied.{Applied}
@@ -77,6 +77,8 @@ pub record Applies (honest tells : Type 0) (a : Asked) (old new : HostView) (res
   -- devices, the host is as it was
   pub unbegun : ApplyIdle tells a.now old new result
   pub intact : honest → (Rose old.faults new.faults → ⊥) → ApplyIntact tells old new result
+  -- so it is where a change waits that isn't due, whatever is answered
+  pub waits : ApplyWaits tells a.now old new
   -- what stops leave at the exit, what the host reads as then, and what stops leave at each moment
   pub exit : WhereSound honest old (ApplyExit a (entry_of old) (left_by new) (Rose old.faults new.faults) (RoseTwice old.faults new.faults) result)
   pub reads : WhereSound honest old (ApplyExit a (at (standing old.state)) (Only (standing new.state)) (Rose old.faults new.faults) (RoseTwice old.faults new.faults) result)

@@ -52,6 +52,7 @@ use Rattle.answer_text.specs.Speaking.{Spoken}
 use Rattle.answer_text.proofs.lemmas.Told.{written, told_refused}
 use Rattle.command_laws.specs.Begun.{side_of, Seen, Wants, told_side, fault_notes}
 use Rattle.command_laws.proofs.lemmas.Applies.{answer_of, tried}
+use Rattle.command_laws.proofs.lemmas.EndsEarly.{never_clear}
 use Rattle.command_laws.proofs.lemmas.PolicySeen.{given, failed, same_given, same_doc, sided, never_pending, seen_faults, seen_moment, seen_quiet, seen_unbegun, seen_taken, seen_none, seen_answer, seen_after, seen_found, seen_kept, seen_left, seen_alone}
 use Rattle.command_laws.proofs.lemmas.PolicyAnswers.{Unpending, unpending, Unhurt, unhurt, may, may_want, leaves, unbegun}
 
@@ -364,4 +365,5 @@ module _ (r : Run) (p : PolicyData) (opts : ApplyOpts) (doc : Doc) (done : Recov
           spares = λ a. spares a.honest a.sound;
           looks = tt;
           unbegun = unbegun r p opts back mid (never_pending done) none idle taken result last never_waits unhurt_all;
+          waits = λ t waiting. absurd (never_clear r.host_tells r.honest r.now r.host between done clear seen.begun.recovers t waiting.0 waiting.1);
         }

@@ -18,7 +18,7 @@ ghost use Rattle.engine_model.specs.Sound.{WhereSound};
 ghost use Rattle.engine_model.specs.Stations.{Only, Kept, Ends};
 ghost use Rattle.engine_model.specs.Answers.{IsUndone};
 ghost use Rattle.engine_model.specs.Refusals.{NoCallMade, ApplyCounts};
-ghost use Rattle.engine_model.specs.Failing.{ApplyIdle, ApplyIntact};
+ghost use Rattle.engine_model.specs.Failing.{ApplyIdle, ApplyIntact, ApplyWaits};
 ghost use Rattle.engine_model.specs.Faults.{ApplySays, ApplyExact, MayStandHalf, Tries, FailsTwice, Dumps, Backs, HasTaken};
 ghost use Rattle.engine_core.specs.Attempts.{sealed, done, IsEither, IsFault, WhereRuns};
 ghost use Rattle.engine_core.specs.Saying.{Start, Follows, WhereMerges, DamagedSince, Why, SettledBy, Said, taken_back_as, pending_as, damaged_as, stopped_as, IsGivenUp, ChangeIdle, ChangeIntact};
@@ -307,6 +307,8 @@ pub fn settle_and_change<H: Host>(
     ensures says { ApplySays H.tells (asked doc.now opts.now now) (H.told host.old) (H.told host.new) result }
     ensures counts { ApplyCounts (H.told host.old).kernel (H.told host.new).kernel result }
     ensures unbegun { ApplyIdle H.tells now (H.told host.old) (H.told host.new) result }
+    // Where a change waits that isn't due: whatever is answered, the host is as it was.
+    ensures waits { ApplyWaits H.tells now (H.told host.old) (H.told host.new) }
     // On an honest host whose count didn't rise, damage and other devices leave the host as it was.
     ensures intact { H.honest → (Rose (H.told host.old).faults (H.told host.new).faults → ⊥)
         → ApplyIntact H.tells (H.told host.old) (H.told host.new) result }

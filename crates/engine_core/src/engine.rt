@@ -12,7 +12,7 @@ ghost use Rattle.engine_model.specs.Sound.{WhereSound};
 ghost use Rattle.engine_model.specs.Stations.{Only, Settled, Either, Kept, at, entry_of, left_by};
 ghost use Rattle.engine_model.specs.Exit.{ApplyExit, CommitExit};
 ghost use Rattle.engine_model.specs.Refusals.{ApplyCounts};
-ghost use Rattle.engine_model.specs.Failing.{IsUnbegun, ApplyIdle, ApplyIntact};
+ghost use Rattle.engine_model.specs.Failing.{IsUnbegun, ApplyIdle, ApplyIntact, ApplyWaits};
 ghost use Rattle.engine_model.specs.Faults.{ApplyAnswers, ApplyExact, CommitAnswers, ApplySays, MayStandHalf, Tries, FailsTwice, Dumps, Backs, HasTaken};
 ghost use Rattle.engine_core.specs.Calm.{CalmSince, UpToNow};
 ghost use Rattle.engine_core.specs.Committing.{IsRefusal};
@@ -50,6 +50,8 @@ pub fn apply<H: Host>(
     // On every host: where the answer comes before anything was begun, the host is as it was. Of a refused document this is said on
     // hosts that tell their content, where no change was to be taken back first.
     ensures unbegun { ApplyIdle H.tells now (H.told host.old) (H.told host.new) result }
+    // Where a change waits that isn't due: whatever is answered, the host is as it was.
+    ensures waits { ApplyWaits H.tells now (H.told host.old) (H.told host.new) }
     // On an honest host, sound or not, whose count didn't rise: damage and other devices leave the host as it was.
     ensures intact { H.honest → (Rose (H.told host.old).faults (H.told host.new).faults → ⊥)
         → ApplyIntact H.tells (H.told host.old) (H.told host.new) result }

@@ -5,7 +5,7 @@ use Rattle.host_core.specs.HostView.{HostView, WasRefused, NoneRefused}
 use Rattle.host_core.specs.Stops.{Steps, Stays}
 use Rattle.checkpoint_cell.specs.Settled.{standing}
 use Rattle.engine_model.specs.Refusals.{NoCallMade, RefusedOnce}
-use Rattle.engine_model.specs.Faults.{HasTaken, IsDamaged, Differs, StillOpen, WantsBack}
+use Rattle.engine_model.specs.Faults.{HasSet, HasTaken, IsDamaged, Differs, StillOpen, WantsBack}
 use Rattle.engine_model.specs.declared.answers.Applied.{Applied}
 use Rattle.engine_model.specs.declared.answers.ApplyFault.{ApplyFault}
 use Rattle.engine_model.specs.declared.answers.ApplyFault.TheVariants as ap
@@ -44,3 +44,8 @@ abbrev pub ApplyIntact : Type 0 → HostView → HostView → Result Applied App
 ApplyIntact tells old new (Err (ap.Damaged area)) = IsUnbegun tells old new
 ApplyIntact tells old new (Err (ap.HardwareDiffers names)) = IsUnbegun tells old new
 ApplyIntact tells old new result = Unit {0}
+
+-- What an apply leaves where a change waits that isn't due, whatever it answers: the host as it was. It is said on hosts that tell their
+-- content.
+abbrev pub ApplyWaits : Type 0 → ℕ → HostView → HostView → Type 0
+ApplyWaits tells now old new = tells → HasSet (standing old.state).cell → (HasTaken now (standing old.state).cell → ⊥) → IsUnbegun tells old new

@@ -1,4 +1,4 @@
--- What a text is read as. Grammar says by cases which text spells which expression; that both agree is not proved.
+-- What a text is read as, and what stands in a place, which are shown to meet Grammar and Places of `policy_grammar`.
 use Rattle.std.specs.Prelude.{ℕ, ◌-◌, Bool, true, false, not, ◌&&◌, ◌||◌, ◌==◌, if◌then◌else◌, List, [], ◌∷◌, length, take, drop, Option, Some, None, option_map, option_and_then, codes}
 use Rattle.std.specs.List.{list_all}
 use Rattle.std.specs.Str.{bytes_eq}

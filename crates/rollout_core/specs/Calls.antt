@@ -14,7 +14,7 @@ use Rattle.engine_model.specs.Stations.{Only, Settled, Either, Kept, at, entry_o
 use Rattle.engine_model.specs.Exit.{ApplyExit, CommitExit, BackExit}
 use Rattle.engine_model.specs.Answers.{IsBefore}
 use Rattle.engine_model.specs.Refusals.{ApplyCounts, BackCounts}
-use Rattle.engine_model.specs.Failing.{IsUnbegun, ApplyIdle, ApplyIntact}
+use Rattle.engine_model.specs.Failing.{IsUnbegun, ApplyIdle, ApplyIntact, ApplyWaits}
 use Rattle.engine_model.specs.Faults.{ApplyAnswers, ApplyExact, ApplySays, CommitAnswers, BackAnswers, BackExact, BackSays, MayStandHalf, Tries, FailsTwice, Dumps, Backs, HasSet, HasTaken, GaveSaved}
 use Rattle.engine_model.specs.declared.answers.Applied.{Applied}
 use Rattle.engine_model.specs.declared.answers.ApplyFault.{ApplyFault}
@@ -37,6 +37,8 @@ module _ (tells honest : Type 0) (old new : HostView) where
     -- other devices, the host is as it was
     pub unbegun : ApplyIdle tells a.now old new answer
     pub intact : honest → (Rose old.faults new.faults → ⊥) → ApplyIntact tells old new answer
+    -- so it is where a change waits that isn't due, whatever is answered
+    pub waits : ApplyWaits tells a.now old new
     pub exit : WhereSound honest old (ApplyExit a (entry_of old) (left_by new) (Rose old.faults new.faults) (RoseTwice old.faults new.faults) answer)
     pub reads : WhereSound honest old (ApplyExit a (at (standing old.state)) (Only (standing new.state)) (Rose old.faults new.faults) (RoseTwice old.faults new.faults) answer)
     pub kept : WhereSound honest old (Kept (Either (Settled a.now (entry_of old)) (Only (apply a (standing old.state)).after)) old new)

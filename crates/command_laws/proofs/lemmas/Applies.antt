@@ -12,7 +12,7 @@ use Rattle.engine_model.specs.Sound.{Sound}
 use Rattle.engine_model.specs.Stations.{Stands, Entry, Only, Settled, Either, Kept, at}
 use Rattle.engine_model.specs.Exit.{ApplyExit}
 use Rattle.engine_model.specs.Refusals.{ApplyCounts}
-use Rattle.engine_model.specs.Failing.{ApplyIdle, ApplyIntact}
+use Rattle.engine_model.specs.Failing.{ApplyIdle, ApplyIntact, ApplyWaits}
 use Rattle.engine_model.specs.Faults.{ApplyAnswers, ApplyExact, ApplySays, Tries, FailsTwice, Dumps, Backs, HasTaken}
 use Rattle.engine_model.specs.declared.Left.TheVariants as sides
 use Rattle.engine_model.specs.declared.Applied.{Applied}
@@ -165,6 +165,7 @@ module _ (r : Run) (doc : Doc) (opts : ApplyOpts) where
   module _ (inputs : Inputs) (may_read : MayRead r inputs) (is : order_of r.in_script inputs r.words ≡ Ok (applying doc opts)) (result : Result Applied ApplyFault)
       (says : ApplySays r.host_tells Ask r.host r.host_after result) (counts : ApplyCounts r.host.kernel r.host_after.kernel result)
       (idle : ApplyIdle r.host_tells r.now r.host r.host_after result)
+      (waits : ApplyWaits r.host_tells r.now r.host r.host_after)
       (intact : r.honest → (HostRose r → ⊥) → ApplyIntact r.host_tells r.host r.host_after result)
       (tries : Tries (HasExcuse r opts) r.host.faults r.host.kernel.refusals r.host_after result)
       (twice : r.honest → FailsTwice (HasTaken r.now (reads r).cell) r.host.faults r.host_after result) (dumps : Dumps r.host_tells opts.no_verify r.host_after result)
@@ -198,4 +199,5 @@ module _ (r : Run) (doc : Doc) (opts : ApplyOpts) where
       spares = λ a from to stood merges quiet other. undisturbed a.honest a.sound from to stood merges quiet (λ memory. other (ap answer_of memory));
       looks = tt;
       unbegun = unbegun result idle intact;
+      waits = λ t waiting. unchanged r (waits t waiting.0 waiting.1);
     }

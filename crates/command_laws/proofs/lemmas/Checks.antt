@@ -238,4 +238,5 @@ module _ (r : Run) (nothing : ChangesNothing r.host_tells r.host r.host_after) w
       spares = λ a. tt;
       looks = record { state = nothing.state; stops = nothing.stops };
       unbegun = tt;
+      waits = tt;
     }

@@ -5,7 +5,7 @@ use Rattle.net_model.specs.NetData.{NetData}
 use Rattle.policy_model.specs.Values.{PolicyData}
 use Rattle.host_core.specs.HostView.{State, Kernel, HostView, NoneRefused}
 use Rattle.host_core.specs.declared.DumpFault.{DumpFault}
-use Rattle.checkpoint_cell.specs.Cell.{Checkpoint}
+use Rattle.checkpoint_cell.specs.Cell.{Checkpoint, cell_of}
 use Rattle.checkpoint_cell.specs.Settled.{Standing, standing, settled, settled_from, taken_back, restored_to}
 use Rattle.engine_model.specs.Machine.{Outcome, stays, saved_on, restored_as, restore, recover, recover_cell, apply_fault}
 use Rattle.engine_model.specs.Sound.{Fit}
@@ -14,7 +14,7 @@ use Rattle.engine_model.specs.Stations.{Stands, Entry, Within, Before, Settled, 
 use Rattle.engine_model.specs.Exit.{BackExit, Unsettled}
 use Rattle.engine_model.specs.Refusals.{NoCallMade, BackCounts}
 use Rattle.engine_model.specs.Failing.{IsUnbegun}
-use Rattle.engine_model.specs.Faults.{IsOutcome, LeftSays, BackAnswers, BackExact, BackSays, HasTaken, SettlesOnly, StillOpen}
+use Rattle.engine_model.specs.Faults.{IsOutcome, LeftSays, BackAnswers, BackExact, BackSays, HasSet, HasTaken, SettlesOnly, StillOpen}
 use Rattle.engine_model.specs.declared.ApplyOpts.{ApplyOpts}
 use Rattle.engine_model.specs.declared.Left.{Left}
 use Rattle.engine_model.specs.declared.Left.TheVariants as side
@@ -24,7 +24,7 @@ use Rattle.engine_model.specs.declared.BackFault.{BackFault}
 use Rattle.engine_model.specs.declared.BackFault.TheVariants as ba
 use Rattle.engine_model.proofs.lemmas.Finding.{found_saved}
 use Rattle.engine_model.proofs.lemmas.Leading.{near_wider, kept_wider}
-use Rattle.engine_model.proofs.lemmas.Backs.{settles}
+use Rattle.engine_model.proofs.lemmas.Backs.{settles, recover_waits}
 use Rattle.top_model.specs.Said.{Said}
 use Rattle.top_model.specs.Orders.{Inputs, Order, document_on, applying_policy, committing, rolling_back, recovering, order_of}
 use Rattle.top_model.specs.Machine.{apply_cause, apply_read, apply_on, apply_after, apply_policy, ground, ground_after, machine_of}
@@ -35,7 +35,7 @@ use Rattle.top_model.specs.Counts.{PolicyCounted}
 use Rattle.top_model.specs.Tried.{Tried}
 use Rattle.top_model.specs.Exits.{PolicyLeaves}
 use Rattle.top_model.specs.Undisturbed.{Spares}
-use Rattle.top_model.specs.Answered.{GoesOn, Unbegun, Answered}
+use Rattle.top_model.specs.Answered.{GoesOn, Unbegun, LeavesWaiting, Answered}
 use Rattle.top_model.specs.declared.report.Cause.{Cause}
 use Rattle.top_model.specs.declared.report.Cause.TheVariants.{Pending, HostFault, Damaged}
 use Rattle.top_model.proofs.lemmas.Unbegun.{unchanged}
@@ -199,6 +199,24 @@ unsettled : (now : ℕ) (before : Entry) (cell : Option Checkpoint) → before.r
 unsettled now before None is taken = absurd taken
 unsettled now before (Some c) is taken = record { checkpoint = c; is = is; taken = taken }
 
+-- a recovery finds a change that waits and isn't due
+found_undue : (now : ℕ) (s : State) (c : Checkpoint) → cell_of s.cell ≡ Some c → (b : Bool) → taken_back now c.phase c.made c.deadline ≡ b → (taken_back now c.phase c.made c.deadline ≡ true → ⊥)
+    → (recover now (standing s)).answer ≡ given Nothing → ⊥
+found_undue now s c is true taken untaken nothing = untaken taken
+found_undue now s c is false taken untaken nothing =
+    let e : given (Waits c.deadline) ≡ given Nothing = sym (ap (λ (o : Outcome Recovered BackFault). o.answer) (recover_waits now s c is taken)) ∙ nothing in cc
+
+found_waiting : (now : ℕ) (s : State) (cell : Option Checkpoint) → cell_of s.cell ≡ cell → HasSet cell → (HasTaken now cell → ⊥) → (recover now (standing s)).answer ≡ given Nothing → ⊥
+found_waiting now s None is set untaken nothing = absurd set
+found_waiting now s (Some c) is set untaken nothing = found_undue now s c is (taken_back now c.phase c.made c.deadline) refl untaken nothing
+
+-- so none comes to its end there
+pub never_clear : (tells honest : Type 0) (now : ℕ) (old mid : HostView) (done : Recovered) → IsClear done → Recovers tells honest now old mid (given done) → tells → HasSet (standing old.state).cell
+    → (HasTaken now (standing old.state).cell → ⊥) → ⊥
+never_clear tells honest now old mid Nothing clear first t set untaken = found_waiting now old.state (cell_of old.state.cell) refl set untaken (first.nothing t refl)
+never_clear tells honest now old mid (Waits deadline) clear first t set untaken = absurd clear
+never_clear tells honest now old mid Restored clear first t set untaken = untaken (first.restored t refl)
+
 -- another order than those of the three single words
 other_commit : (p : PolicyData) (opts : ApplyOpts) → applying_policy p opts ≢ committing
 other_commit p opts e = cc
@@ -270,6 +288,17 @@ module _ (r : Run) (p : PolicyData) (opts : ApplyOpts) where
   fault_unbegun (ba.Damaged area) idle = λ honest calm. unchanged r (idle tt)
   fault_unbegun (ba.HardwareDiffers names) idle = λ honest calm. unchanged r (idle tt)
   fault_unbegun ba.OutOfMemory idle = tt
+
+  -- where a change waits that isn't due, nothing was begun
+  fault_waits : (fault : BackFault) → (IsBefore fault → IsUnbegun r.host_tells r.host r.host_after) → (r.host_tells → (IsBefore fault → ⊥) → HasTaken r.now (reads r).cell) → LeavesWaiting r Policy
+  fault_waits ba.NoCheckpoint idle begun = λ t waiting. unchanged r (idle tt)
+  fault_waits (ba.HostFault side.NotBegun) idle begun = λ t waiting. unchanged r (idle tt)
+  fault_waits (ba.HostFault side.RolledBack) idle begun = λ t waiting. absurd (waiting.1 (begun t (λ x. x)))
+  fault_waits (ba.HostFault side.Pending) idle begun = λ t waiting. absurd (waiting.1 (begun t (λ x. x)))
+  fault_waits (ba.KernelRefused k n left) idle begun = λ t waiting. absurd (waiting.1 (begun t (λ x. x)))
+  fault_waits (ba.Damaged area) idle begun = λ t waiting. unchanged r (idle tt)
+  fault_waits (ba.HardwareDiffers names) idle begun = λ t waiting. unchanged r (idle tt)
+  fault_waits ba.OutOfMemory idle begun = λ t waiting. absurd (waiting.1 (begun t (λ x. x)))
 
   -- the machine's answer is the cause of the machine's fault
   fault_expected : (fault : BackFault) → (recover r.now (reads r)).answer ≡ failed fault → (machine_of r.now Policy (reads r)).answer ≡ Err (recovery_cause fault)
@@ -355,6 +384,7 @@ module _ (r : Run) (p : PolicyData) (opts : ApplyOpts) where
           goes_on = goes_on;
           looks = tt;
           unbegun = fault_unbegun fault first.unbegun;
+          waits = fault_waits fault first.unbegun first.begun;
           exactly = λ honest. fault_exactly fault never wants first.says (first.exact honest);
           expects = λ a. fault_expects fault never wants (first.answer a.honest a.sound);
           leaves = λ a. fault_leaves (entry r) (left_at_exit r) (HostRose r) (HostRoseTwice r) (machine_of r.now Policy (reads r)).after (back_settled goes_on a) fault never (taken (entry r) refl a)
@@ -379,6 +409,7 @@ module _ (r : Run) (p : PolicyData) (opts : ApplyOpts) where
       goes_on = goes_on;
       looks = tt;
       unbegun = λ t. unchanged r (first.idle (waits_other deadline));
+      waits = λ t waiting. unchanged r (first.idle (waits_other deadline));
       exactly = λ honest. refused_answer p opts r.now (reads r) (Pending deadline) (when_waiting p opts r.now (reads r) deadline (first.exact honest));
       expects = λ a. refused_outcome p opts r.now (reads r) (Pending deadline) r.host_after (when_waiting p opts r.now (reads r) deadline (first.exact a.honest)) (first.after a.honest);
       leaves = λ a x there. near_wider (Only (recover r.now (reads r)).after) (Settled r.now (entry r)) (back_settled goes_on a) x (first.exit a.honest a.sound x there);

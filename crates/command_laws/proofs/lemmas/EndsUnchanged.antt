@@ -36,7 +36,7 @@ use Rattle.top_model.specs.declared.report.Cause.TheVariants.{DocRefused, HostFa
 use Rattle.top_model.proofs.lemmas.Counting.{nothing_other}
 use Rattle.top_model.proofs.lemmas.Settles.{same_some}
 use Rattle.command_laws.specs.Begun.{Recovers, Looks, side_of, look_cause}
-use Rattle.command_laws.proofs.lemmas.EndsEarly.{Reached, Recovery, back_kept, back_settled, clear_settles, fail_counted, given, ground_clear, looked, none_some, nothing_there, ok_err, refused_answer, refused_outcome, restored_net, settles_by, wants, when_damaged, when_refused}
+use Rattle.command_laws.proofs.lemmas.EndsEarly.{Reached, Recovery, back_kept, back_settled, clear_settles, fail_counted, given, ground_clear, looked, never_clear, none_some, nothing_there, ok_err, refused_answer, refused_outcome, restored_net, settles_by, wants, when_damaged, when_refused}
 
 -- what was counted
 module _ (r : Run) (done : Recovered) (clear : IsClear done) (mid : HostView) (first : Recovers r.host_tells r.honest r.now r.host mid (Ok done)) (none : NoCallMade mid.kernel r.host_after.kernel) where
@@ -154,6 +154,7 @@ module _ (r : Run) (p : PolicyData) (opts : ApplyOpts) (inputs : Inputs) (may_re
         goes_on = goes_on;
         looks = tt;
         unbegun = tt;
+        waits = λ t waiting. absurd (never_clear r.host_tells r.honest r.now r.host mid done clear first t waiting.0 waiting.1);
         exactly = λ honest. wanted;
         expects = λ a. wanted;
         leaves = λ a. inr (inr (tt, λ x there. near_wider (Settled r.now (entry r)) _ (λ y back. inl back) x (settled_exit r p opts goes_on done clear mid first state steps a x there)));
@@ -179,6 +180,7 @@ module _ (r : Run) (p : PolicyData) (opts : ApplyOpts) (inputs : Inputs) (may_re
         goes_on = goes_on;
         looks = tt;
         unbegun = fail_unbegun r p opts done clear (unchanged_back r p opts goes_on done clear mid first state steps);
+        waits = λ t waiting. absurd (never_clear r.host_tells r.honest r.now r.host mid done clear first t waiting.0 waiting.1);
         exactly = λ honest. rose;
         expects = λ a. rose;
         leaves = λ a. fail_leaves r p opts (entry r) (left_at_exit r) (HostRose r) (HostRoseTwice r) (machine_of r.now (Ok (applying_policy p opts)) (reads r)).after done clear
@@ -219,6 +221,7 @@ module _ (r : Run) (p : PolicyData) (opts : ApplyOpts) (inputs : Inputs) (may_re
         goes_on = goes_on;
         looks = tt;
         unbegun = λ honest calm. unrestored r p opts done clear (unchanged_back r p opts goes_on done clear mid first look.state look.stops) (unrestored_net honest);
+        waits = λ t waiting. absurd (never_clear r.host_tells r.honest r.now r.host mid done clear first t waiting.0 waiting.1);
         exactly = λ honest. inr (refused_answer p opts r.now (reads r) (Damaged 0) (refused honest));
         expects = λ a. refused_outcome p opts r.now (reads r) (Damaged 0) r.host_after (refused a.honest) (reads_back r p opts goes_on done clear mid first look.state look.stops a.honest);
         leaves = λ a. unrestored r p opts done clear (unbegun_exit r p opts goes_on done clear mid first look.state look.stops) (unrestored_net a.honest);
@@ -270,6 +273,7 @@ module _ (r : Run) (p : PolicyData) (opts : ApplyOpts) (inputs : Inputs) (may_re
         goes_on = goes_on;
         looks = tt;
         unbegun = late_unbegun r p opts done clear (unchanged_back r p opts goes_on done clear mid first look.state look.stops) (λ is t. first.restored t (ap given is));
+        waits = λ t waiting. absurd (never_clear r.host_tells r.honest r.now r.host mid done clear first t waiting.0 waiting.1);
         exactly = λ honest. refused_answer p opts r.now (reads r) (DocRefused fault) (refused honest);
         expects = λ a. refused_outcome p opts r.now (reads r) (DocRefused fault) r.host_after (refused a.honest) (reads_back r p opts goes_on done clear mid first look.state look.stops a.honest);
         leaves = λ a. settled_exit r p opts goes_on done clear mid first look.state look.stops a;

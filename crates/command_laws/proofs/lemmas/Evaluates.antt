@@ -240,6 +240,7 @@ module _ (r : Run) (p : PolicyData) (nothing : ChangesNothing r.host_tells r.hos
         spares = λ a. tt;
         looks = record { state = nothing.state; stops = nothing.stops };
         unbegun = tt;
+        waits = tt;
       }
 
 -- ---- a plan for it
@@ -366,6 +367,7 @@ module _ (r : Run) (p : PolicyData) (in_batch : Bool) (nothing : ChangesNothing 
         spares = λ a. tt;
         looks = record { state = nothing.state; stops = nothing.stops };
         unbegun = tt;
+        waits = tt;
       }
 
 -- ---- what is told of it, with the notes of the document

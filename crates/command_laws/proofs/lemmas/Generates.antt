@@ -134,4 +134,5 @@ module _ (r : Run) (devices : List Link) (first second : Doc) where
           spares = λ a. tt;
           looks = untouched;
           unbegun = tt;
+          waits = tt;
         }

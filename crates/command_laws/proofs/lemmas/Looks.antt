@@ -250,6 +250,7 @@ module _ (r : Run) (only : Option Text) (json : Bool) (nothing : ChangesNothing 
         spares = λ a. tt;
         looks = record { state = nothing.state; stops = nothing.stops };
         unbegun = tt;
+        waits = tt;
       }
 
 -- ---- plan
@@ -330,4 +331,5 @@ module _ (r : Run) (doc : Doc) (in_batch : Bool) (nothing : ChangesNothing r.hos
         spares = λ a. tt;
         looks = record { state = nothing.state; stops = nothing.stops };
         unbegun = tt;
+        waits = tt;
       }

@@ -288,4 +288,5 @@ module _ (r : Run) (links : List Link) where
         spares = λ honest. tt;
         looks = tt;
         unbegun = unbegun result m;
+        waits = tt;
       }

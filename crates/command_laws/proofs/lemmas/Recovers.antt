@@ -24,7 +24,7 @@ use Rattle.top_model.specs.Told.{Answer, Told}
 use Rattle.top_model.specs.Causes.{MayWant, MayAnswer, Comes, Expects, ExactlyOf}
 use Rattle.top_model.specs.Tried.{Tried}
 use Rattle.top_model.specs.Exits.{BackLeaves}
-use Rattle.top_model.specs.Answered.{GoesOn, Unbegun, Answered}
+use Rattle.top_model.specs.Answered.{GoesOn, Unbegun, LeavesWaiting, Answered}
 use Rattle.top_model.proofs.lemmas.Unbegun.{unchanged}
 use Rattle.top_model.proofs.lemmas.Counting.{nothing_other, waits_other, recover_counted}
 use Rattle.top_model.proofs.lemmas.Wanting.{may_want_recovering}
@@ -132,6 +132,20 @@ module _ (r : Run) where
   unbegun (Err (HardwareDiffers names)) idle before = unchanged r (before tt)
   unbegun (Err OutOfMemory) idle before = tt
 
+  -- where a change waits that isn't due, nothing was restored
+  waits : (result : Result Recovered BackFault) → (r.host_tells → Done result) → Begins result → Idles result → Fails result → LeavesWaiting r (Ok recovering)
+  waits (Ok Nothing) done begun idle before = λ t waiting. unchanged r (idle nothing_other)
+  waits (Ok (Waiting deadline)) done begun idle before = λ t waiting. unchanged r (idle (waits_other deadline))
+  waits (Ok Restored) done begun idle before = λ t waiting. absurd (waiting.1 (done t).0)
+  waits (Err NoCheckpoint) done begun idle before = λ t waiting. unchanged r (before tt)
+  waits (Err (HostFault sides.NotBegun)) done begun idle before = λ t waiting. unchanged r (before tt)
+  waits (Err (HostFault sides.RolledBack)) done begun idle before = λ t waiting. absurd (waiting.1 (begun t (λ never. never)))
+  waits (Err (HostFault sides.Pending)) done begun idle before = λ t waiting. absurd (waiting.1 (begun t (λ never. never)))
+  waits (Err (KernelRefused k n side)) done begun idle before = λ t waiting. absurd (waiting.1 (begun t (λ never. never)))
+  waits (Err (Damaged area)) done begun idle before = λ t waiting. unchanged r (before tt)
+  waits (Err (HardwareDiffers names)) done begun idle before = λ t waiting. unchanged r (before tt)
+  waits (Err OutOfMemory) done begun idle before = λ t waiting. absurd (waiting.1 (begun t (λ never. never)))
+
   exactly : (result : Result Recovered BackFault) → Says result → BackExact (recover r.now (reads r)).answer result → StandsSo result → (IsErrOf result OutOfMemory → MayWant r) → ExactlyOf r (Ok recovering) (answer_of result)
   exactly (Ok x) says is stands wants = (ap answer_of is, stands)
   exactly (Err NoCheckpoint) says is stands wants = ap answer_of is
@@ -181,4 +195,5 @@ module _ (r : Run) where
       spares = λ a. tt;
       looks = tt;
       unbegun = unbegun result idle before;
+      waits = waits result done begun idle before;
     }

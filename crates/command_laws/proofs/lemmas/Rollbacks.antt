@@ -156,4 +156,5 @@ module _ (r : Run) where
       spares = λ a. tt;
       looks = tt;
       unbegun = unbegun result idle;
+      waits = tt;
     }

@@ -177,6 +177,7 @@ module _ (r : Run) (calls : List Call) (nothing : ChangesNothing r.host_tells r.
         spares = λ a. tt;
         looks = record { state = nothing.state; stops = nothing.stops };
         unbegun = tt;
+        waits = tt;
       }
 
 -- ---- the text of it

@@ -28,7 +28,7 @@ use Rattle.top_model.specs.Counts.{Counts}
 use Rattle.top_model.specs.Tried.{Tried}
 use Rattle.top_model.specs.Exits.{AtExit, KeptBy, Reaches}
 use Rattle.top_model.specs.Undisturbed.{Spares, LeavesAlone}
-use Rattle.top_model.specs.Answered.{GoesOn, Unchanged, LooksAlone, Unbegun, Rests, Answered}
+use Rattle.top_model.specs.Answered.{GoesOn, Unchanged, LooksAlone, Unbegun, LeavesWaiting, Rests, Answered}
 use Rattle.top_model.specs.declared.report.Cause.{Cause}
 use Rattle.top_model.specs.declared.report.Cause.TheVariants.{Usage, ReadFault, OutOfMemory}
 use Rattle.command_laws.proofs.lemmas.Either.{either}
@@ -413,6 +413,23 @@ unbegun_unread r (Ok (making links)) = λ t some. looks_still r
 unbegun_unread r (Ok (generating devices first second)) = tt
 unbegun_unread r (Err refusal) = tt
 
+-- nor was a change that waits
+waiting_still : (r : Run) (order : Result Order Cause) → LeavesWaiting (still r) order
+waiting_still r (Ok (showing only json)) = tt
+waiting_still r (Ok (planning doc in_batch)) = tt
+waiting_still r (Ok (evaluating p)) = tt
+waiting_still r (Ok (planning_policy p in_batch)) = tt
+waiting_still r (Ok (simulating calls)) = tt
+waiting_still r (Ok (applying doc how)) = λ t waits. looks_still r
+waiting_still r (Ok (applying_policy p how)) = λ t waits. looks_still r
+waiting_still r (Ok committing) = tt
+waiting_still r (Ok rolling_back) = tt
+waiting_still r (Ok recovering) = λ t waits. looks_still r
+waiting_still r (Ok checking) = tt
+waiting_still r (Ok (making links)) = tt
+waiting_still r (Ok (generating devices first second)) = tt
+waiting_still r (Err refusal) = tt
+
 module _ (r : Run) (untouched : r.untouched) (goes_on : GoesOn (still r)) where
   -- memory ran out
   pub out_of_memory : (order : Result Order Cause) → Gives r order → MayWant r → Told (still r) order (Err OutOfMemory) → Answered (still r)
@@ -434,6 +451,7 @@ module _ (r : Run) (untouched : r.untouched) (goes_on : GoesOn (still r)) where
     spares = λ rests. spares r order (Err OutOfMemory) goes_on.lawful goes_on.tells (rests_still r order rests);
     looks = looks r untouched order;
     unbegun = unbegun_memory r order;
+    waits = waiting_still r order;
   }
 
   -- the input wasn't read
@@ -456,6 +474,7 @@ module _ (r : Run) (untouched : r.untouched) (goes_on : GoesOn (still r)) where
     spares = λ rests. spares r order (Err ReadFault) goes_on.lawful goes_on.tells (rests_still r order rests);
     looks = looks r untouched order;
     unbegun = unbegun_unread r order;
+    waits = waiting_still r order;
   }
 
   -- words or inputs were refused
@@ -478,4 +497,5 @@ module _ (r : Run) (untouched : r.untouched) (goes_on : GoesOn (still r)) where
     spares = λ rests. tt;
     looks = tt;
     unbegun = tt;
+    waits = tt;
   }

@@ -106,6 +106,7 @@ module _ (r : Run) (is : command_of r.words ≡ Some Commit) (tells_if : r.hones
       spares = λ a. tt;
       looks = tt;
       unbegun = idle;
+      waits = tt;
       goes_on = goes_on;
     }
 

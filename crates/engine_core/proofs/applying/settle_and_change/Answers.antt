@@ -11,7 +11,7 @@ use Rattle.engine_model.specs.declared.answers.Left.TheVariants.{NotBegun, Rolle
 use Rattle.engine_core.specs.Saying.{start_of, Follows, SettledBy}
 use Rattle.engine_core.proofs.Says.{start_since, said_damaged, unsettled_damaged}
 use Rattle.engine_core.proofs.Gives.{unsettled_exit, after_exit, after_kept, now_ends}
-use Rattle.checkpoint_cell.specs.Cell.{cell_of}
+use Rattle.checkpoint_cell.specs.Cell.{Checkpoint, cell_of}
 use Rattle.engine_core.proofs.Calms.{calm_stays}
 use Rattle.std.proofs.Common.{refl, Result}
 use Rattle.checkpoint_cell.specs.Settled.{standing}
@@ -31,7 +31,7 @@ use Rattle.net_model.specs.NetData.{NetData}
 use Rattle.std.proofs.Common.{inr}
 use Rattle.engine_model.specs.Refusals.{ApplyCounts}
 use Rattle.engine_core.proofs.Counts.{unsettled_counts}
-use Rattle.engine_model.specs.Faults.{Tries, FailsTwice, Dumps, Backs, HasTaken}
+use Rattle.engine_model.specs.Faults.{Tries, FailsTwice, Dumps, Backs, HasSet, HasTaken}
 use Rattle.engine_model.proofs.lemmas.Backs.{has_taken}
 use Rattle.engine_model.specs.Machine.{recover}
 use Rattle.engine_core.proofs.Exacts.{nothing_after, restored_after}
@@ -39,7 +39,7 @@ use Rattle.engine_core.proofs.Tries.{tries_more, unsettled_tries, twice_before, 
 use Rattle.host_core.proofs.lemmas.Counts.{rose_after}
 use Rattle.engine_core.proofs.Apart.{waiting_kept, nothing_kept, back_begun}
 use Rattle.engine_core.proofs.Idles.{settled_idle, unsettled_idle, settled_intact, restored_intact, unsettled_intact}
-use Rattle.engine_model.specs.Failing.{IsUnbegun, ApplyIdle, ApplyIntact}
+use Rattle.engine_model.specs.Failing.{IsUnbegun, Fails, ApplyIdle, ApplyIntact}
 use Rattle.engine_core.proofs.applying.settle_and_change.Goals as goal
 use Rattle.engine_core.proofs.applying.settle_and_change.Goals.{After-take_back, In-Ok-Nothing, In-Ok-Restored}
 
@@ -161,6 +161,26 @@ returns-in-Err-clause-unbegun g c =
     let old = g.H.Host.told c.args.host.now in
     let new = g.H.Host.told c.take_back.new.host in
     subst (λ (a : ApplyFault). ApplyIdle g.H.Host.tells c.args.now old new (Err a)) (sym c.unsettled.ensures) (unsettled_idle g.H.Host.tells c.args.now old new c.in-Err.fault c.in-Err.ensures.fails)
+
+-- ---- what is left where a change waits that isn't due
+
+pub returns-in-Ok-Waiting-clause-waits : goal.returns-in-Ok-Waiting-clause-waits
+returns-in-Ok-Waiting-clause-waits g c = λ tells set untaken. c.in-Ok-Waiting.ensures.idle (waiting_kept c.in-Ok-Waiting.deadline c.in-Ok-Waiting.field-0-is)
+
+pub returns-in-Ok-Nothing-clause-waits : goal.returns-in-Ok-Nothing-clause-waits
+returns-in-Ok-Nothing-clause-waits g c = λ tells set untaken.
+    let none = c.take_back.ensures.nothing tells (c.in-Ok-Nothing.is ∙ ap (λ r. Ok r) c.in-Ok-Nothing.field-0-is) in
+    absurd (subst (λ (k : Option Checkpoint). HasSet k) none set)
+
+pub returns-in-Ok-Restored-clause-waits : goal.returns-in-Ok-Restored-clause-waits
+returns-in-Ok-Restored-clause-waits g c = λ tells set untaken. absurd (untaken (restored_taken g (goal.at.returns-in-Ok-Restored-clause-waits g c).In-Ok-Restored tells))
+
+pub returns-in-Err-clause-waits : goal.returns-in-Err-clause-waits
+returns-in-Err-clause-waits g c = λ tells set untaken.
+    let old = g.H.Host.told c.args.host.now in
+    let new = g.H.Host.told c.take_back.new.host in
+    let is = c.in-Err.ensures.untaken tells (λ t. untaken (has_taken c.args.now (cell_of old.state.cell) t)) in
+    (subst (λ (f : BackFault). Fails g.H.Host.tells old new f) is c.in-Err.ensures.fails).1
 
 -- ---- what is left where damage or other devices are told
 

@@ -20,6 +20,7 @@ returns g c =
           exact = done.exact;
           unbegun = done.unbegun;
           intact = done.intact;
+          waits = done.waits;
           exit = done.exit;
           reads = done.reads;
           kept = done.kept;
