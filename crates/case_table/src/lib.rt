@@ -23,4 +23,4 @@ pub use hex::{bytes_of_hex, push_hex};
 pub use numbered::push_numbered;
 pub use parts::{Answers, report};
 pub use text::Text;
-pub use texts::{bytes_of, first_word};
+pub use texts::{bytes_of, first_word, parted};

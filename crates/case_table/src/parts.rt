@@ -49,23 +49,30 @@ fn read_case<A: Answers>(alloc: Global, kind: &str, line: &str, out: &mut Text) 
     }
 }
 
-fn read_part<A: Answers>(alloc: Global, heading: &str, body: &str, out: &mut Text) -> Count {
-    let (kind, title) = first_word(heading);
-    let mut count = Count::none();
-    for line in body.lines() {
-        count = count.with(read_case::<A>(alloc, kind, line, out));
+// Pushes the counts of a part. No part has no title.
+fn push_part(title: &str, part: Count, out: &mut Text) {
+    if !title.is_empty() {
+        part.push(title, out);
     }
-    count.push(title, out);
-    count
 }
 
 /// Pushes a line for each case that answers otherwise, and the counts of each part and of all.
 pub fn report<A: Answers>(alloc: Global, input: &str, out: &mut Text) {
-    let mut count = Count::none();
-    for part in input.split("== ") {
-        if let Some((heading, body)) = part.split_once('\n') {
-            count = count.with(read_part::<A>(alloc, heading, body, out));
+    let mut kind = "";
+    let mut title = "";
+    let mut part = Count::none();
+    let mut all = Count::none();
+    for line in input.lines() {
+        match line.strip_prefix("== ") {
+            Some(heading) => {
+                push_part(title, part, out);
+                all = all.with(part);
+                part = Count::none();
+                (kind, title) = first_word(heading);
+            }
+            None => part = part.with(read_case::<A>(alloc, kind, line, out)),
         }
     }
-    count.push("all", out);
+    push_part(title, part, out);
+    all.with(part).push("all", out);
 }

@@ -4,9 +4,14 @@ use crate::text::Text;
 use base_model::OutOfMemory;
 use std::alloc::Global;
 
+/// What stands before and behind the first `between` in a text: all of it and nothing where that isn't there.
+pub fn parted<'a>(text: &'a str, between: &str) -> (&'a str, &'a str) {
+    text.split_once(between).unwrap_or((text, ""))
+}
+
 /// The first word of a text, and what follows the space behind it.
 pub fn first_word(text: &str) -> (&str, &str) {
-    text.split_once(' ').unwrap_or((text, ""))
+    parted(text, " ")
 }
 
 fn digit(byte: u8) -> u8 {
@@ -35,8 +40,8 @@ fn push_times(times: u32, text: &str, out: &mut Text) {
 
 // `N<TEXT>`, and the text behind it.
 fn push_repeated(piece: &str, out: &mut Text) {
-    let (number, rest) = piece.split_once('<').unwrap_or((piece, ""));
-    let (text, rest) = rest.split_once('>').unwrap_or((rest, ""));
+    let (number, rest) = parted(piece, "<");
+    let (text, rest) = parted(rest, ">");
     push_times(number.parse::<u32>().unwrap_or(0), text, out);
     out.push_str(rest);
 }
@@ -56,7 +61,7 @@ fn push_piece(piece: &str, out: &mut Text) {
 
 /// What a text of a case stands for.
 pub fn spelled(alloc: Global, text: &str) -> Text {
-    let (plain, marked) = text.split_once('%').unwrap_or((text, ""));
+    let (plain, marked) = parted(text, "%");
     let mut out = Text::new(alloc);
     out.push_str(plain);
     for piece in marked.split('%') {

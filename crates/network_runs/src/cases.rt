@@ -17,7 +17,7 @@ use crate::networks::{first, merged, try_call};
 use crate::pairs::push_led;
 use crate::printing::is_printed;
 use crate::reading::number;
-use case_table::{Text, push_numbered};
+use case_table::{Text, first_word, parted, push_numbered};
 use net_equal::same_net;
 use net_model::Net;
 use std::alloc::Global;
@@ -188,7 +188,7 @@ impl Cases {
 
     // `NAME DOCUMENT`.
     fn name(&mut self, alloc: Global, rest: &str) -> Option<()> {
-        let (name, document) = rest.split_once(' ')?;
+        let (name, document) = first_word(rest);
         let document = lines(alloc, document);
         let net = merged(alloc, self.devices.as_ref()?, document.as_str())?;
         self.push(alloc, name, net)
@@ -196,9 +196,9 @@ impl Cases {
 
     // `NAME NEW N CALL`.
     fn grow(&mut self, alloc: Global, rest: &str) -> Option<()> {
-        let (name, rest) = rest.split_once(' ')?;
-        let (new, rest) = rest.split_once(' ')?;
-        let (times, words) = rest.split_once(' ')?;
+        let (name, rest) = first_word(rest);
+        let (new, rest) = first_word(rest);
+        let (times, words) = first_word(rest);
         let times = number(times)?;
         let net = find(&self.networks, name)?.copy().ok()?;
         let net = grown(alloc, net, times, words)?;
@@ -207,7 +207,7 @@ impl Cases {
 
     // `SEED N`, of a line.
     fn drawn(&mut self, alloc: Global, line: &str, rest: &str) -> Option<()> {
-        let (seed, count) = rest.split_once(' ')?;
+        let (seed, count) = first_word(rest);
         let seed = u64::from(number(seed)?);
         let count = number(count)?;
         let mut told = Text::new(alloc);
@@ -219,8 +219,8 @@ impl Cases {
 
     // `NAME: CALL => ANSWER`.
     fn case(&mut self, alloc: Global, line: &str) -> Option<()> {
-        let (name, rest) = line.split_once(": ")?;
-        let (words, wanted) = rest.split_once(" => ")?;
+        let (name, rest) = parted(line, ": ");
+        let (words, wanted) = parted(rest, " => ");
         self.count = self.count.wrapping_add(1);
         let call = call(alloc, words)?;
         let before = find(&self.networks, name)?;
@@ -251,7 +251,7 @@ impl Cases {
     }
 
     fn acts(&mut self, alloc: Global, line: &str) -> Option<()> {
-        let (word, rest) = line.split_once(' ')?;
+        let (word, rest) = first_word(line);
         match word {
             "hardware" => self.hardware(alloc, rest),
             "network" => self.name(alloc, rest),

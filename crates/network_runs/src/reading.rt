@@ -4,10 +4,10 @@ use net_model::{Mac, Name, Prefix, TableId};
 use net_text::{read_mac, read_prefix};
 use std::alloc::Global;
 
-/// The words that single spaces part.
+/// The words of a line.
 pub fn words<'a>(alloc: Global, line: &'a str) -> Option<Vec<&'a str>> {
     let mut words = Vec::new(alloc);
-    for word in line.split(' ') {
+    for word in line.split_ascii_whitespace() {
         words.push(word).ok()?;
     }
     Some(words)

@@ -7,7 +7,7 @@ use crate::documents::{document, merged};
 use crate::nodes::Node;
 use crate::rollouts::{head_of, moments, nodes, roll};
 use crate::words::{event_of, number};
-use case_table::Text;
+use case_table::{Text, first_word};
 use document_model::Doc;
 use engine_core::recover;
 use net_equal::same_net;
@@ -81,7 +81,7 @@ impl Entry {
 // `node I WORD`, where the line is one of an event.
 fn event_in(line: &str) -> Option<Event> {
     let rest = line.strip_prefix("node ")?;
-    let (node, word) = rest.split_once(' ')?;
+    let (node, word) = first_word(rest);
     event_of(word, number(node)?)
 }
 

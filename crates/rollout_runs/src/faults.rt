@@ -6,7 +6,7 @@ use crate::checks::{Stops, leave, wrong_in};
 use crate::documents::{BOTH, document};
 use crate::nodes::{Node, node_with};
 use crate::rollouts::head_of;
-use case_table::Text;
+use case_table::{Text, first_word};
 use document_model::Doc;
 use host_memory::Fuse;
 use std::alloc::Global;
@@ -123,7 +123,7 @@ fn tallied(alloc: Global, sweep: Sweep<'_>, name: &str) -> Option<Tally> {
 /// how many there were, and how many things went wrong.
 pub fn push_swept(alloc: Global, case: &str, out: &mut Text) -> Option<()> {
     let head = head_of(case)?;
-    let (count, most) = head.rest.split_once(' ')?;
+    let (count, most) = first_word(head.rest);
     let sweep = Sweep {
         limit: head.limit,
         times: head.moments,

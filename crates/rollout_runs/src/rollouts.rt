@@ -5,7 +5,7 @@ ghost use Rattle.document_model.specs.Entries.{is_document};
 use crate::documents::document;
 use crate::moments::Moments;
 use crate::nodes::{Node, node_of};
-use case_table::Text;
+use case_table::{Text, parted};
 use document_model::Doc;
 use host_memory::MemorySink;
 use rollout_core::{Core, MAX_NODES};
@@ -18,7 +18,7 @@ pub const TIMEOUT: u32 = 60;
 /// The moments of these words.
 pub fn moments(alloc: Global, words: &str) -> Option<Vec<u64>> {
     let mut moments = Vec::new(alloc);
-    for word in words.split(' ') {
+    for word in words.split_ascii_whitespace() {
         moments.push(word.parse::<u64>().ok()?).ok()?;
     }
     Some(moments)
@@ -27,7 +27,7 @@ pub fn moments(alloc: Global, words: &str) -> Option<Vec<u64>> {
 /// The nodes of these words.
 pub fn nodes(alloc: Global, words: &str) -> Option<Vec<Node>> {
     let mut nodes = Vec::new(alloc);
-    for word in words.split(' ') {
+    for word in words.split_ascii_whitespace() {
         nodes.push(node_of(alloc, word)?).ok()?;
     }
     Some(nodes)
@@ -77,9 +77,9 @@ pub struct Head<'a> {
 
 /// Reads `LIMIT; MOMENT ..; DOCUMENT; ..`.
 pub fn head_of(case: &str) -> Option<Head<'_>> {
-    let (limit, case) = case.split_once("; ")?;
-    let (moments, case) = case.split_once("; ")?;
-    let (document, rest) = case.split_once("; ")?;
+    let (limit, case) = parted(case, "; ");
+    let (moments, case) = parted(case, "; ");
+    let (document, rest) = parted(case, "; ");
     Some(Head {
         limit: limit.parse::<u32>().ok()?,
         moments,

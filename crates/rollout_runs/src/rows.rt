@@ -2,7 +2,7 @@
 
 use crate::plain::node_of;
 use crate::words::{begun, event_of, number, word_of};
-use case_table::{Text, first_word};
+use case_table::{Text, first_word, parted};
 use rollout_model::{Action, Core, Event, NodeState};
 use std::alloc::Global;
 
@@ -52,7 +52,7 @@ fn push_accepted(core: &mut Core, events: &str, out: &mut Text) -> Option<()> {
 
 /// `NODES LIMIT: NODE WORD, ..`: pushes whether each event is accepted, and what stands after them.
 pub fn push_told(alloc: Global, case: &str, out: &mut Text) -> Option<()> {
-    let (words, events) = case.split_once(": ")?;
+    let (words, events) = parted(case, ": ");
     let mut core = core_of(alloc, words)?;
     push_accepted(&mut core, events, out)?;
     push_end(&core, out);
@@ -84,7 +84,7 @@ fn carry_out(core: &mut Core, word: &str, out: &mut Text) -> Option<()> {
 }
 
 fn carry_all_out(core: &mut Core, answers: &str, out: &mut Text) -> Option<()> {
-    for word in answers.split(' ') {
+    for word in answers.split_ascii_whitespace() {
         carry_out(core, word, out)?;
     }
     Some(())
@@ -92,7 +92,7 @@ fn carry_all_out(core: &mut Core, answers: &str, out: &mut Text) -> Option<()> {
 
 /// `NODES LIMIT: WORD ..`: pushes the events where what is next is done and answered so, up to the end, and what stands then.
 pub fn push_carried_out(alloc: Global, case: &str, out: &mut Text) -> Option<()> {
-    let (words, answers) = case.split_once(": ")?;
+    let (words, answers) = parted(case, ": ");
     let mut core = core_of(alloc, words)?;
     carry_all_out(&mut core, answers, out)?;
     if core.next() != Action::Finish {

@@ -2,7 +2,7 @@
 
 use crate::places::push_place;
 use base_model::{Items, OutOfMemory, Path, PathStep, Str, push_decimal};
-use case_table::Text;
+use case_table::{Text, first_word};
 use std::alloc::Global;
 
 // `.KEY` or `[POSITION`.
@@ -19,10 +19,8 @@ fn step(alloc: Global, word: &str) -> Result<PathStep, OutOfMemory> {
 // The place to which the steps of words lead.
 fn place(alloc: Global, words: &str) -> Result<Path, OutOfMemory> {
     let mut path = Path::top(alloc);
-    for word in words.split(' ') {
-        if !word.is_empty() {
-            path.push(step(alloc, word)?)?;
-        }
+    for word in words.split_ascii_whitespace() {
+        path.push(step(alloc, word)?)?;
     }
     Ok(path)
 }
@@ -37,7 +35,7 @@ fn push_behind(alloc: Global, words: &str, out: &mut Text) -> Result<(), OutOfMe
 
 // `STEP STEPS`: the place of the steps, the one that goes the step further, and the first once more.
 fn push_extended(alloc: Global, words: &str, out: &mut Text) -> Result<(), OutOfMemory> {
-    let (word, steps) = words.split_once(' ').unwrap_or((words, ""));
+    let (word, steps) = first_word(words);
     let path = place(alloc, steps)?;
     let further = path.extended(step(alloc, word)?)?;
     push_place(&path, out);
@@ -86,7 +84,7 @@ fn edit(list: &mut Items<u32>, word: &str, out: &mut Text) {
 // What is taken out of a list by edits, and what it is then.
 fn push_edits(alloc: Global, words: &str, out: &mut Text) {
     let mut list = Items::of(Vec::new(alloc));
-    for word in words.split(' ') {
+    for word in words.split_ascii_whitespace() {
         edit(&mut list, word, out);
     }
     out.push_byte(b':');

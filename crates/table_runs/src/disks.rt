@@ -5,7 +5,7 @@
 ghost use Rattle.std.specs.Prelude.{◌<◌};
 
 use base_model::OutOfMemory;
-use case_table::{Text, first_word};
+use case_table::{Text, first_word, parted};
 use host_core::{Disk, Failed};
 use host_memory::{Fuse, MemoryDisk};
 use std::alloc::Global;
@@ -114,7 +114,7 @@ fn fuse_of(case: &str) -> (Option<Fuse>, &str) {
     let Some(rest) = case.strip_prefix("fuse ") else {
         return (None, case);
     };
-    let (fuse, steps) = rest.split_once("; ").unwrap_or((rest, ""));
+    let (fuse, steps) = parted(rest, "; ");
     let (call, how) = first_word(fuse);
     let fuse = Fuse {
         call: number(call),

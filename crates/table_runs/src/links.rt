@@ -2,7 +2,7 @@
 //! `address=PREFIX`, `addresses=N`, `updelay=N` with `miimon` 100, `hello-time=N`.
 
 use crate::reading::{name, number, prefix};
-use case_table::first_word;
+use case_table::{first_word, parted};
 use net_model::{
     Addr, BondMode, BondOpts, BridgeOpts, Items, Kind, Link, Mac, Name, PortOpts, Prefix, Proto,
     TableId, VlanId,
@@ -93,9 +93,9 @@ pub fn link_of(alloc: Global, words: &str) -> Option<Link> {
     let (word, rest) = first_word(rest);
     let (other, _) = first_word(rest);
     let mut link = link(alloc, name(text)?, kind(word, other)?);
-    for word in rest.split(' ') {
+    for word in rest.split_ascii_whitespace() {
         if is_option(word) {
-            let (key, value) = word.split_once('=').unwrap_or((word, ""));
+            let (key, value) = parted(word, "=");
             set(alloc, &mut link, key, value)?;
         }
     }

@@ -3,7 +3,7 @@
 
 use crate::links::link_of;
 use crate::reading::{addr, name, number, prefix};
-use case_table::{Text, first_word, push_numbered};
+use case_table::{Text, first_word, parted, push_numbered};
 use net_model::{
     Addr, Dns, Domain, Items, Link, Net, NetFault, Parts, Route, Rule, Subnet, TableId, Target,
 };
@@ -52,8 +52,8 @@ fn route(words: &str) -> Option<Route> {
         gateway: None,
         dev: name("eth1")?,
     };
-    for word in words.split(' ') {
-        let (key, value) = word.split_once('=').unwrap_or((word, ""));
+    for word in words.split_ascii_whitespace() {
+        let (key, value) = parted(word, "=");
         set(&mut route, key, value)?;
     }
     Some(route)

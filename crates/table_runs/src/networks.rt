@@ -2,12 +2,12 @@
 
 use crate::lists::Lists;
 use crate::questions::push_asked;
-use case_table::Text;
+use case_table::{Text, parted};
 use std::alloc::Global;
 
 // `LISTS`, or `LISTS ? QUESTION`.
 fn push_answer(alloc: Global, kind: &str, text: &str, out: &mut Text) -> Option<()> {
-    let (lists, question) = text.split_once(" ? ").unwrap_or((text, ""));
+    let (lists, question) = parted(text, " ? ");
     let lists = Lists::of(alloc, lists)?;
     match kind {
         "part" => lists.push_part(alloc, out),

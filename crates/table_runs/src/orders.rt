@@ -2,7 +2,7 @@
 
 use crate::commands::words;
 use base_model::{OutOfMemory, Str};
-use case_table::Text;
+use case_table::{Text, parted};
 use host_memory::{Fuse, MemorySource};
 use order_reading::{Order, read_order, read_script, script_file, steps_of};
 use std::alloc::Global;
@@ -73,8 +73,8 @@ fn push_order(
     case: &str,
     out: &mut Text,
 ) -> Result<(), OutOfMemory> {
-    let (line, rest) = case.split_once(" | ").unwrap_or((case, ""));
-    let (failing, text) = rest.split_once(" | ").unwrap_or((rest, ""));
+    let (line, rest) = parted(case, " | ");
+    let (failing, text) = parted(rest, " | ");
     let mut source = source(alloc, text, failing.parse::<u64>().unwrap_or(0))?;
     let asked = words(alloc, line)?;
     out.push_str(name_asked(alloc, in_script, asked.as_slice(), &mut source));

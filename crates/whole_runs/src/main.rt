@@ -58,14 +58,14 @@ use crate::machine::Kind;
 use crate::parts::push_plans;
 use crate::service_cases::Services;
 use crate::told::Told;
-use case_table::{Text, report};
+use case_table::{Text, parted, report};
 use std::alloc::Global;
 use std::io::{self, Read, Write};
 
 // What stands below a heading, up to the next one.
 fn part<'a>(input: &'a str, heading: &str) -> &'a str {
-    let (_, below) = input.split_once(heading).unwrap_or((input, ""));
-    let (part, _) = below.split_once("\n=== ").unwrap_or((below, ""));
+    let (_, below) = parted(input, heading);
+    let (part, _) = parted(below, "\n=== ");
     part
 }
 

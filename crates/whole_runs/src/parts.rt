@@ -9,7 +9,7 @@ use crate::not_done::NotDone;
 use crate::tally::Tally;
 use crate::texts::bytes_of;
 use crate::trial::try_document;
-use case_table::Text;
+use case_table::{Text, parted};
 use std::alloc::Global;
 
 fn try_each(alloc: Global, hardware: &[u8], line: &str) -> Result<Tally, NotDone> {
@@ -36,7 +36,7 @@ fn read_line(alloc: Global, hardware: &[u8], line: &str, out: &mut Text) -> Resu
 }
 
 fn read_part(alloc: Global, title: &str, body: &str, out: &mut Text) -> Result<Tally, NotDone> {
-    let (hardware, lines) = body.split_once('\n').unwrap_or((body, ""));
+    let (hardware, lines) = parted(body, "\n");
     let hardware = bytes_of(alloc, hardware)?;
     let mut tally = Tally::none();
     for line in lines.lines() {

@@ -11,13 +11,10 @@ pub fn number(word: &str) -> Result<u64, NotDone> {
     }
 }
 
-/// The words that single spaces part; an empty text has none.
+/// The words of a line.
 pub fn words(alloc: Global, line: &str) -> Result<Vec<String>, NotDone> {
     let mut words = Vec::new(alloc);
-    if line.is_empty() {
-        return Ok(words);
-    }
-    for word in line.split(' ') {
+    for word in line.split_ascii_whitespace() {
         words.push(String::from_str(alloc, word)?)?;
     }
     Ok(words)

@@ -7,7 +7,7 @@ use crate::not_done::NotDone;
 use crate::reading::number;
 use crate::runs::World;
 use boot_service::{FolderFile, FolderFuse};
-use case_table::{Text, first_word};
+use case_table::{Text, first_word, parted};
 use net_model::Net;
 use std::alloc::Global;
 
@@ -107,10 +107,8 @@ fn serve_each(
 ) -> Result<Option<Net>, NotDone> {
     let (word, others) = first_word(words);
     let mut ran = serve_one(alloc, first, files, word, out)?;
-    for word in others.split(' ') {
-        if !word.is_empty() {
-            ran = serve_one(alloc, &ran.machine, ran.files(), word, out)?;
-        }
+    for word in others.split_ascii_whitespace() {
+        ran = serve_one(alloc, &ran.machine, ran.files(), word, out)?;
     }
     ran.machine.net(alloc)
 }
@@ -126,7 +124,7 @@ fn applied(
         return first.net(alloc);
     }
     let mut machine = first.copy(alloc)?;
-    for name in names.split(' ') {
+    for name in names.split_ascii_whitespace() {
         machine = apply(alloc, &machine, &find(files, name)?.bytes)?;
     }
     machine.net(alloc)
@@ -152,8 +150,8 @@ fn told_on(
 /// is then the one that the documents of these names make, applied one after another. What is told on a host over a disk follows,
 /// where it is something else than in memory.
 pub fn push_told(alloc: Global, case: &str, out: &mut Text) -> Result<(), NotDone> {
-    let (files, rest) = case.split_once("; ").unwrap_or((case, ""));
-    let (runs, names) = rest.split_once("; ").unwrap_or((rest, ""));
+    let (files, rest) = parted(case, "; ");
+    let (runs, names) = parted(rest, "; ");
     let memory = told_on(alloc, Kind::Memory, files, runs, names)?;
     let disk = told_on(alloc, Kind::Disk, files, runs, names)?;
     out.push_text(&memory);

@@ -7,7 +7,7 @@ use crate::machine::Machine;
 use crate::not_done::NotDone;
 use crate::reading::number;
 use crate::runs::{Faults, Run, step, step_of};
-use case_table::Text;
+use case_table::{Text, parted};
 use host_memory::Fuse;
 use net_model::Net;
 use std::alloc::Global;
@@ -73,7 +73,7 @@ const WINDOW: u64 = 12;
 // The states of these names.
 fn states(alloc: Global, names: &str, kept: &[Kept]) -> Result<Vec<Allowed>, NotDone> {
     let mut states = Vec::new(alloc);
-    for name in names.split(' ') {
+    for name in names.split_ascii_whitespace() {
         let net = copied_net(find(kept, name)?.net.as_ref())?;
         states.push(Allowed {
             name: Text::of(alloc, name),
@@ -128,8 +128,8 @@ impl Sweep {
         kept: &[Kept],
         inputs: Vec<(String, Vec<u8>)>,
     ) -> Result<Sweep, NotDone> {
-        let (command, rest) = line.split_once(", recovered at ").unwrap_or((line, ""));
-        let (moment, names) = rest.split_once(": ").unwrap_or((rest, ""));
+        let (command, rest) = parted(line, ", recovered at ");
+        let (moment, names) = parted(rest, ": ");
         Ok(Sweep {
             run: Run::Command(step_of(alloc, command)?),
             recovery: Run::Command(step(alloc, number(moment)?, "recover")?),

@@ -2,7 +2,7 @@
 
 use crate::reading::push_times;
 use base_model::OutOfMemory;
-use case_table::Text;
+use case_table::{Text, parted};
 use std::alloc::Global;
 
 fn push_lines(text: &str, out: &mut Text) {
@@ -18,8 +18,8 @@ fn push_piece(piece: &str, out: &mut Text) {
         push_lines(rest, out);
         return;
     }
-    let (times, rest) = piece.split_once('<').unwrap_or((piece, ""));
-    let (text, rest) = rest.split_once('>').unwrap_or((rest, ""));
+    let (times, rest) = parted(piece, "<");
+    let (text, rest) = parted(rest, ">");
     push_times(times.parse::<u64>().unwrap_or(0), text, b'#', out);
     push_lines(rest, out);
 }
@@ -27,7 +27,7 @@ fn push_piece(piece: &str, out: &mut Text) {
 /// The bytes that a text on one line stands for: `|` for a line's end, `%|` for a bar, and `%N<TEXT>` for a text so many times,
 /// with the number of the time, from 1, for each `#` in it.
 pub fn bytes_of(alloc: Global, text: &str) -> Result<Vec<u8>, OutOfMemory> {
-    let (plain, marked) = text.split_once('%').unwrap_or((text, ""));
+    let (plain, marked) = parted(text, "%");
     let mut out = Text::new(alloc);
     push_lines(plain, &mut out);
     for piece in marked.split('%') {
