@@ -1,4 +1,4 @@
--- What a binary search tells of a list that rises, by the test of what is the same.
+-- What a binary search tells of a strictly sorted list, by the test of what is the same.
 use Rattle.std.proofs.Common.{◌≡◌, ℕ, Bool, true, false, List, get_or, Ordering, refl, sym, ap, ◌∙◌, arith}
 use Rattle.std.specs.Prelude.{Ok, Err, insert}
 use Rattle.std.specs.List.{list_any}

@@ -3,7 +3,7 @@
 
 // Addresses that come and go.
 mod addresses;
-// Places in lists that rise.
+// Places in strictly sorted lists.
 mod places;
 // The refusals of calls on addresses, routes, rules and DNS.
 mod refuse;

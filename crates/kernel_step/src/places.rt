@@ -1,4 +1,4 @@
-//! Places in lists that rise, by binary search.
+//! Places in strictly sorted lists, by binary search.
 ghost use Rattle.std.specs.Prelude.{◌≡◌, ◌≤◌, true, false, length, insert};
 ghost use Rattle.std.specs.List.{list_any};
 ghost use Rattle.net_model.specs.Words.{rises, put};

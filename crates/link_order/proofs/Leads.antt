@@ -3,7 +3,7 @@ use Rattle.std.proofs.Common.{◌≡◌, ℕ, Bool, true, false, not, ◌&&◌, 
 use Rattle.std.specs.Option.{option_to_list}
 use Rattle.std.proofs.lemmas.Cmp.{nat_list_eq_equiv}
 use Rattle.net_model.specs.Name.{same_bytes}
-use Rattle.net_model.specs.Words.{positions}
+use Rattle.reach.specs.Positions.{positions}
 use Rattle.net_model.specs.Links.{is_named, has_peer}
 use Rattle.net_model.specs.Dependence.{has_base}
 use Rattle.net_model.specs.declared.Link.{Link}

@@ -4,7 +4,7 @@ ghost use Rattle.std.specs.List.{filter_map};
 ghost use Rattle.std.specs.Option.{option_map_or, option_and_then, option_to_list};
 ghost use Rattle.reach.specs.Reach.{is_reached};
 ghost use Rattle.net_model.specs.Name.{same_bytes};
-ghost use Rattle.net_model.specs.Words.{positions};
+ghost use Rattle.reach.specs.Positions.{positions};
 ghost use Rattle.net_model.specs.Links.{is_named, peer_of, has_peer};
 ghost use Rattle.net_model.specs.Dependence.{has_base};
 ghost use Rattle.merge_model.specs.Stated.{find_entry, is_mentioned, is_absent};

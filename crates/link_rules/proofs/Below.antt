@@ -8,14 +8,14 @@ use Rattle.std.proofs.lemmas.List.Quantifiers.{position-Some}
 use Rattle.reach.specs.Reach.{is_reached, IsGraph, IsLeast, Represents}
 use Rattle.reach.proofs.lemmas.Least.{least_is_reached}
 use Rattle.net_model.specs.Name.{same_bytes}
-use Rattle.net_model.specs.Words.{positions}
+use Rattle.reach.specs.Positions.{positions}
 use Rattle.net_model.specs.Links.{is_named, is_port_of}
 use Rattle.net_model.specs.Dependence.{has_base, depends_on}
 use Rattle.net_model.specs.Valid.{names_differ}
 use Rattle.net_model.specs.declared.Kind.{Kind}
 use Rattle.net_model.specs.declared.Kind.TheVariants.{Ethernet, Bond, Bridge, Vlan, Vrf, Dummy, Veth}
 use Rattle.net_model.specs.declared.Link.{Link}
-use Rattle.net_model.proofs.lemmas.Arrows.{positions_sound, positions_whole}
+use Rattle.reach.proofs.lemmas.Positions.{positions_sound, positions_whole}
 use Rattle.merge_model.specs.Kinds.{base_of}
 use Rattle.link_order.proofs.lemmas.Placed.{unplaced}
 use Rattle.link_order.proofs.lemmas.Rows.{positions_same, no_places, named_place, unnamed_place}

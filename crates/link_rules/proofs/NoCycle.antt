@@ -7,7 +7,7 @@ use Rattle.reach.specs.Cycle.{target, HasRanks, Decides}
 use Rattle.net_model.specs.Dependence.{depends_on, on_cycle, no_cycle}
 use Rattle.net_model.specs.Valid.{names_differ}
 use Rattle.net_model.specs.declared.Link.{Link}
-use Rattle.net_model.proofs.lemmas.Arrows.{rows-IsGraph, rows-Represents}
+use Rattle.reach.proofs.lemmas.Positions.{rows-IsGraph, rows-Represents}
 use Rattle.net_model.proofs.lemmas.Cycles.{rows, decided_at}
 use Rattle.merge_model.specs.Places.{least_name}
 use Rattle.link_rules.specs.Rows.{row_below}

@@ -1,6 +1,6 @@
 -- The links that a link depends on, by their places.
 use Rattle.std.specs.Prelude.{ℕ, Bool, List, ◌++◌}
-use Rattle.net_model.specs.Words.{positions}
+use Rattle.reach.specs.Positions.{positions}
 use Rattle.net_model.specs.Links.{is_port_of}
 use Rattle.net_model.specs.Dependence.{has_base}
 use Rattle.net_model.specs.declared.Link.{Link}

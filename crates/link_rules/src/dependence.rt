@@ -1,7 +1,7 @@
 //! The rule 11 of the merge: whether a link depends on itself, through any others.
 ghost use Rattle.std.specs.Prelude.{◌≡◌, ◌<◌, ◌+◌, Some, true, not, if◌then◌else◌, IfOk, OnOk, length, map, filter, slice_index_or};
 ghost use Rattle.std.specs.Option.{option_map, option_to_list};
-ghost use Rattle.net_model.specs.Words.{positions};
+ghost use Rattle.reach.specs.Positions.{positions};
 ghost use Rattle.net_model.specs.Links.{is_named};
 ghost use Rattle.net_model.specs.Dependence.{on_cycle, no_cycle};
 ghost use Rattle.net_model.specs.Valid.{names_differ};

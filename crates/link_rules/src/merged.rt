@@ -1,7 +1,7 @@
 //! The merged links, found by their names.
 ghost use Rattle.std.specs.Prelude.{◌≡◌, true, map, option_copied, IfOk};
 ghost use Rattle.std.specs.Option.{option_to_list};
-ghost use Rattle.net_model.specs.Words.{positions};
+ghost use Rattle.reach.specs.Positions.{positions};
 ghost use Rattle.net_model.specs.Links.{find_link, is_named};
 ghost use Rattle.net_model.specs.Valid.{names_differ};
 ghost use Rattle.net_model.specs.declared.Link.{Link};

@@ -5,7 +5,7 @@
 mod cycle;
 // What hangs on a link.
 mod hanging;
-// Links by name, in lists that rise by name.
+// Links by name, in lists strictly sorted by name.
 mod lookup;
 // Links that go down.
 mod lower;

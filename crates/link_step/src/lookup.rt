@@ -1,4 +1,4 @@
-//! Links by name, in lists that rise by name.
+//! Links by name, in lists strictly sorted by name.
 ghost use Rattle.std.specs.Prelude.{◌≡◌, true, None};
 ghost use Rattle.std.specs.Option.{option_map_or};
 ghost use Rattle.net_model.specs.Words.{rises};

@@ -4,7 +4,6 @@ pub mod Rises
 pub mod Found
 pub mod Ports
 pub mod Ties
-pub mod Arrows
 pub mod Permute
 pub mod Sorting
 pub mod Exact

@@ -25,7 +25,7 @@ abbrev pub steps_up : {X : Type 0} → (X → X → Ordering) → List X → Boo
 steps_up R [] = true
 steps_up R (x ∷ xs) = is_before_head R x xs && steps_up R xs
 
--- into its place in a list that rises
+-- into its place in a strictly sorted list
 abbrev pub put : {X : Type 0} → (X → X → Ordering) → X → List X → List X
 put R a [] = a ∷ []
 put R a (b ∷ bs) = if is_lt (R b a) then b ∷ put R a bs else a ∷ b ∷ bs
@@ -46,11 +46,6 @@ is_empty (x ∷ xs) = false
 -- the name is one of these
 abbrev pub is_among : List (List ℕ) → List ℕ → Bool
 is_among names name = list_any (λ n. same_bytes n name) names
-
--- the places of those that pass, where the first of the list has this place
-abbrev pub positions : {X : Type 0} → (X → Bool) → ℕ → List X → List ℕ
-positions p at [] = []
-positions p at (x ∷ xs) = if p x then at ∷ positions p (at + 1) xs else positions p (at + 1) xs
 
 -- the number of the first test that fails
 abbrev pub first_false : List (ℕ × Bool) → Option ℕ

@@ -2,7 +2,7 @@
 use Rattle.std.proofs.Common.{◌≡◌, ◌∙◌, ℕ, zero, suc, Bool, true, false, eqb, ◌==◌, [], ◌∷◌, ◌++◌, replicate, refl, sym, ap}
 use Rattle.std.specs.List.{list_all}
 use Rattle.std.proofs.lemmas.Bool.{ne_eqb, eqb-true, both_ways, and_parts, and_from, false≢true}
-use Rattle.yaml_read.specs.Bytes.{space, is_same}
+use Rattle.yaml_plain.specs.Bytes.{space, is_same}
 use Rattle.policy_model.specs.Keys.{Text}
 
 -- a byte that passes a test is none that doesn't

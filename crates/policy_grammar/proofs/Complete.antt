@@ -2,8 +2,8 @@
 use Rattle.std.proofs.Common.{◌≡◌, ◌∙◌, ℕ, zero, suc, Bool, true, false, cond, ◌==◌, ◌||◌, List, [], ◌∷◌, ◌++◌, replicate, Option, Some, None, option_and_then, refl, sym, ap, subst}
 use Rattle.std.specs.List.{list_all}
 use Rattle.std.proofs.lemmas.Bool.{and_parts, and_from, false≢true}
-use Rattle.yaml_read.specs.Bytes.{space, skip_spaces}
-use Rattle.yaml_read.specs.Plain.{with_front}
+use Rattle.yaml_plain.specs.Bytes.{space, skip_spaces}
+use Rattle.yaml_plain.specs.Plain.{with_front}
 use Rattle.policy_model.specs.Keys.{Text, is_key, dotted, capture_word}
 use Rattle.policy_model.specs.Grammar.{IsSpaced, IsPath, sign, SpellsStep, bar, SpellsSteps, SpellsStart, SpellsFrom, Spells}
 use Rattle.policy_model.specs.Reading.{trimmed, between, path_of, operand_of, is_path_byte, path_split, step_from, signed, step_of, starting, start_of, and_step, steps_of, from, begun, parted, expression_of}

@@ -4,8 +4,8 @@ use Rattle.std.specs.List.{list_all, list_any}
 use Rattle.std.specs.Str.Parse.{signed_digits_value}
 use Rattle.std.proofs.lemmas.Bool.{eqb-true, and_parts, or_from, false≢true}
 use Rattle.std.proofs.lemmas.Slice.Eq.{bytes_eq-Decides}
-use Rattle.yaml_read.specs.Bytes.{quote, begins, tail, is_same}
-use Rattle.yaml_read.specs.Plain.{is_integer}
+use Rattle.yaml_plain.specs.Bytes.{quote, begins, tail, is_same}
+use Rattle.yaml_plain.specs.Plain.{is_integer}
 use Rattle.policy_model.specs.Keys.{Text, is_key, dot, dotted, capture_word}
 use Rattle.policy_model.specs.Grammar.{IsPath, SpellsReference, SpellsOperand}
 use Rattle.policy_model.specs.Reading.{between, path_of, referring, reference_of, ends_here, up_to_quote, operand_of}

@@ -2,7 +2,7 @@
 use Rattle.std.proofs.Common.{◌≡◌, ◌∙◌, ℕ, Bool, true, false, not, cond, eqb, List, [], ◌∷◌, ◌++◌, Some, None, refl, ap}
 use Rattle.std.specs.List.{list_all}
 use Rattle.std.proofs.lemmas.Bool.{and_parts, or_left, not-true, true≢false}
-use Rattle.yaml_read.specs.Bytes.{space, is_empty}
+use Rattle.yaml_plain.specs.Bytes.{space, is_empty}
 use Rattle.policy_model.specs.Keys.{Text, is_key_byte, is_key, dot, dotted}
 use Rattle.policy_model.specs.Grammar.{IsPath}
 use Rattle.policy_model.specs.Reading.{between, if_keys, path_of, is_path_byte}

@@ -2,7 +2,7 @@
 use Rattle.std.proofs.Common.{◌≡◌, ◌∙◌, ℕ, Bool, true, false, not, ◌&&◌, cond, eqb, ◌==◌, List, [], ◌∷◌, ◌++◌, refl, sym, ap, append_assoc, append-nil}
 use Rattle.std.specs.List.{list_all, list_any}
 use Rattle.std.proofs.lemmas.Bool.{eq-eqb, and_parts, and_left, and_right, or_parts}
-use Rattle.yaml_read.specs.Bytes.{quote}
+use Rattle.yaml_plain.specs.Bytes.{quote}
 use Rattle.policy_model.specs.Keys.{Text}
 use Rattle.policy_model.specs.Reading.{flips, onto_first, between}
 use Rattle.policy_grammar.proofs.Bytes.{apart}

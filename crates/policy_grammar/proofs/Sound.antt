@@ -3,8 +3,8 @@ use Rattle.std.proofs.Common.{◌≡◌, ◌∙◌, ℕ, Bool, true, false, cond
 use Rattle.std.specs.List.{join_with_byte}
 use Rattle.std.proofs.lemmas.Bool.{eqb-true, and_parts, cond_both}
 use Rattle.std.proofs.lemmas.Slice.Eq.{bytes_eq-Decides}
-use Rattle.yaml_read.specs.Bytes.{space, skip_spaces}
-use Rattle.yaml_read.specs.Plain.{with_front}
+use Rattle.yaml_plain.specs.Bytes.{space, skip_spaces}
+use Rattle.yaml_plain.specs.Plain.{with_front}
 use Rattle.policy_model.specs.Keys.{Text, is_key, dotted, capture_word}
 use Rattle.policy_model.specs.Grammar.{SpellsOperand, sign, SpellsStep, bar, SpellsSteps, SpellsStart, SpellsFrom, Spells}
 use Rattle.policy_model.specs.Reading.{trimmed, between, path_of, operand_of, is_path_byte, path_split, step_from, signed, step_of, starting, start_of, and_step, steps_of, begun, parted, expression_of}

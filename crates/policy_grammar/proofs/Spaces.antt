@@ -1,7 +1,7 @@
 -- Spaces before and behind a text.
 use Rattle.std.proofs.Common.{◌≡◌, ◌∙◌, ℕ, zero, suc, Bool, true, false, not, cond, eqb, ◌==◌, [], ◌∷◌, ◌++◌, replicate, refl, sym, ap, append_assoc}
 use Rattle.std.proofs.lemmas.Bool.{eqb-true, not-true, true≢false}
-use Rattle.yaml_read.specs.Bytes.{space, is_empty, begins, skip_spaces, trim_end, push_unless_blank}
+use Rattle.yaml_plain.specs.Bytes.{space, is_empty, begins, skip_spaces, trim_end, push_unless_blank}
 use Rattle.policy_model.specs.Keys.{Text}
 use Rattle.policy_model.specs.Grammar.{IsSpaced}
 use Rattle.policy_model.specs.Reading.{trimmed}

@@ -5,8 +5,8 @@ use Rattle.std.specs.Char.{is_digit}
 use Rattle.std.specs.Str.Parse.{signed_digits_value}
 use Rattle.std.proofs.lemmas.Bool.{and_parts, and_from, and_left, or_left, or_right, or_parts, or_cases, false≢true}
 use Rattle.std.proofs.lemmas.Slice.Eq.{bytes_eq-Decides}
-use Rattle.yaml_read.specs.Bytes.{quote, dash, is_empty, is_same}
-use Rattle.yaml_read.specs.Plain.{is_digits, is_whole, is_integer}
+use Rattle.yaml_plain.specs.Bytes.{quote, dash, is_empty, is_same}
+use Rattle.yaml_plain.specs.Plain.{is_digits, is_whole, is_integer}
 use Rattle.policy_model.specs.Keys.{Text, is_key, dotted, capture_word}
 use Rattle.policy_model.specs.Grammar.{IsPath, SpellsReference, SpellsOperand, bar}
 use Rattle.policy_model.specs.Reading.{referring, reference_of, ends_here, up_to_quote, operand_of, is_path_byte}

@@ -1,5 +1,4 @@
 pub mod lemmas
-pub mod Trims
 pub mod Parts
 pub mod Walks
 pub mod Counts

@@ -2,8 +2,8 @@
 use Rattle.std.proofs.Common.{◌≡◌, ◌∙◌, ◌<◌, ℕ, Bool, false, List, map, length, get_or, sym, ap, subst}
 use Rattle.std.specs.Str.{bytes_eq}
 use Rattle.reach.specs.Reach.{is_reached, IsGraph, IsLeast}
-use Rattle.net_model.specs.Words.{positions}
-use Rattle.net_model.proofs.lemmas.Arrows.{marked_at, rows_graph}
+use Rattle.reach.specs.Positions.{positions}
+use Rattle.reach.proofs.lemmas.Positions.{marked_at, rows_graph}
 use Rattle.policy_model.specs.Policies.{names_capture, reaches_itself}
 use Rattle.policy_model.specs.declared.Capture.{Capture}
 

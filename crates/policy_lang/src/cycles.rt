@@ -2,7 +2,7 @@
 ghost use Rattle.std.specs.Prelude.{◌≡◌, ◌<◌, length, get_or, IfOk, map, find, option_copied};
 ghost use Rattle.std.specs.List.{list_any};
 ghost use Rattle.std.specs.Str.{bytes_eq};
-ghost use Rattle.net_model.specs.Words.{positions};
+ghost use Rattle.reach.specs.Positions.{positions};
 ghost use Rattle.policy_model.specs.Policies.{have_name, names_capture, reaches_itself};
 
 use crate::sites::names_of;

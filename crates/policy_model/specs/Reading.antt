@@ -3,8 +3,8 @@ use Rattle.std.specs.Prelude.{ℕ, ◌-◌, Bool, true, false, not, ◌&&◌, �
 use Rattle.std.specs.List.{list_all}
 use Rattle.std.specs.Str.{bytes_eq}
 use Rattle.std.specs.Str.Parse.{signed_digits_value}
-use Rattle.yaml_read.specs.Bytes.{quote, skip_spaces, trim_end, begins, tail, is_same}
-use Rattle.yaml_read.specs.Plain.{is_integer, with_front}
+use Rattle.yaml_plain.specs.Bytes.{quote, skip_spaces, trim_end, begins, tail, is_same}
+use Rattle.yaml_plain.specs.Plain.{is_integer, with_front}
 use Rattle.policy_model.specs.Keys.{Text, is_key_byte, is_key, dot, capture_word}
 use Rattle.policy_model.specs.Grammar.{bar}
 use Rattle.policy_model.specs.declared.expression.Constant.TheVariants as constant

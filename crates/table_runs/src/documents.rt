@@ -9,7 +9,8 @@ use base_model::OutOfMemory;
 use case_table::{Text, first_word};
 use doc_tree::{JsonFault, TextFault, Tree, json_of_tree, tree_of_json};
 use std::alloc::Global;
-use yaml_read::{YamlFault, integer_of, is_plain_string};
+use yaml_plain::{integer_of, is_plain_string};
+use yaml_read::YamlFault;
 use yaml_text::{tree_of_yaml, yaml_of_tree};
 
 // What is printed of a tree: the tree on one line, JSON, YAML, or whether its YAML reads as the same tree.

@@ -9,7 +9,7 @@ use Rattle.net_model.specs.Name.{is_name}
 use Rattle.net_model.specs.Options.{is_within}
 use Rattle.net_text.specs.Words.{word_in, booleans}
 use Rattle.doc_tree.specs.Shape.{Shape, nothing, truth, whole, text}
-use Rattle.yaml_read.specs.Plain.{is_integer}
+use Rattle.yaml_plain.specs.Plain.{is_integer}
 use Rattle.tree_schema.specs.declared.fault.Reason.{Reason}
 use Rattle.tree_schema.specs.declared.fault.Reason.TheVariants.{WrongType, OutOfRange}
 

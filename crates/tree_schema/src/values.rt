@@ -13,7 +13,7 @@ use doc_tree::Tree;
 use itoa::Buffer;
 use net_model::Name;
 use net_text::read_bool;
-use yaml_read::integer_of;
+use yaml_plain::integer_of;
 
 pub fn is_null(tree: &Tree) -> bool
     ensures { result ≡ is_null (shape tree.now) }

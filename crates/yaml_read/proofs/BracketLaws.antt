@@ -8,7 +8,7 @@ use Rattle.yaml_read.specs.declared.stop.Stop.{Stop}
 use Rattle.yaml_read.specs.declared.stop.Repeats.{Repeats}
 use Rattle.yaml_read.specs.declared.brackets.Bracket.{Bracket}
 use Rattle.yaml_read.specs.declared.brackets.Bracket.TheVariants.{InList, InMap}
-use Rattle.yaml_read.specs.Bytes.{comma, left_bracket, right_bracket, left_brace, right_brace, begins, tail, skip_spaces}
+use Rattle.yaml_plain.specs.Bytes.{comma, left_bracket, right_bracket, left_brace, right_brace, begins, tail, skip_spaces}
 use Rattle.yaml_read.specs.Keys.{Read, ◌>>=◌, begins_other, scalar}
 use Rattle.yaml_read.specs.Flow.{behind_entry, begins_node, next_key, items_step, flow_items, flow_value, pairs_step, flow_pairs, flow}
 use Rattle.yaml_read.specs.Brackets.{end_of, without_levels, behind, inside, from_node, from_value, stop_of, is_other_stop, is_repeat_stop}
@@ -17,7 +17,7 @@ use Rattle.yaml_read.specs.Seen.{Fails}
 use Rattle.yaml_read.proofs.Fronts.{one_more, Fails-bind, Fails-same}
 use Rattle.yaml_read.proofs.FlowLaws.{flow_other, flow_deep, flow_unfit, flow_list, flow_map, flow_scalar, list_rest, map_rest}
 use Rattle.doc_tree.specs.declared.limits.TheConstants.{MAX_BYTES}
-use Rattle.yaml_read.specs.declared.style.Style.TheVariants.{Flow}
+use Rattle.yaml_plain.specs.declared.style.Style.TheVariants.{Flow}
 
 bind_assoc : {A B C E : Type 0} (r : Result A E) (f : A → Result B E) (g : B → Result C E) → ((r >>= f) >>= g) ≡ (r >>= (λ x. f x >>= g))
 bind_assoc (Ok x) f g = refl

@@ -4,7 +4,7 @@ use Rattle.std.specs.Prelude.{◌&&◌, ◌||◌, option_map}
 use Rattle.std.proofs.lemmas.Bool.{false≢true, eqb-true, ltb-true, ltb-false, le-ltb, ne_eqb, and_parts, and_right, or_cases, cases_Bool, or_parts}
 use Rattle.std.proofs.lemmas.List.{append-nil}
 use Rattle.doc_tree.specs.Shape.{Shape, nothing, truth, whole, text, list, mapping, Shapes, no_shapes, more, Pairs, no_pairs, pair, shapes_of, pairs_of}
-use Rattle.yaml_read.specs.Bytes.{tail, at_gap}
+use Rattle.yaml_plain.specs.Bytes.{tail, at_gap}
 use Rattle.yaml_read.specs.Keys.{◌>>=◌, key}
 use Rattle.yaml_read.specs.OnLine.{entry_on_line}
 use Rattle.yaml_read.specs.Rows.{Row, is_dash}
@@ -13,7 +13,7 @@ use Rattle.yaml_read.specs.Reading.{Block, is_own, own_key, own_dash, begin_with
 use Rattle.yaml_read.specs.Standing.{HasValue, IsNode, IsMapping, IsSequence, StandFor}
 use Rattle.yaml_read.proofs.Sound.{FirstPair, FirstItem, ok_is, node_some}
 use Rattle.doc_tree.specs.declared.limits.TheConstants.{MAX_LEVELS}
-use Rattle.yaml_read.specs.declared.style.Style.TheVariants as style
+use Rattle.yaml_plain.specs.declared.style.Style.TheVariants as style
 
 abbrev list_of : Pairs → List (List ℕ × Shape)
 list_of no_pairs = []

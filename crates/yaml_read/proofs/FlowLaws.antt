@@ -5,13 +5,13 @@ use Rattle.yaml_read.specs.declared.stop.Why.{Why}
 use Rattle.yaml_read.specs.declared.stop.Why.TheVariants.{Outside, Deep, Unfit}
 use Rattle.yaml_read.specs.declared.stop.Stop.{Stop}
 use Rattle.yaml_read.specs.declared.stop.Repeats.{Repeats}
-use Rattle.yaml_read.specs.Bytes.{left_bracket, right_bracket, left_brace, right_brace, begins, tail, skip_spaces}
+use Rattle.yaml_plain.specs.Bytes.{left_bracket, right_bracket, left_brace, right_brace, begins, tail, skip_spaces}
 use Rattle.yaml_read.specs.Keys.{Read, ◌>>=◌, begins_other, scalar}
 use Rattle.yaml_read.specs.Flow.{behind_entry, begins_node, next_key, items_step, flow_items, flow_value, pairs_step, flow_pairs, flow}
 use Rattle.yaml_read.specs.Seen.{Fails}
 use Rattle.yaml_read.proofs.Fronts.{turn, no_turn, behind_front, one_more, Fails-bind, Fails-same, fails_behind, ends_behind, goes_behind}
 use Rattle.doc_tree.specs.declared.limits.TheConstants.{MAX_BYTES}
-use Rattle.yaml_read.specs.declared.style.Style.TheVariants.{Flow}
+use Rattle.yaml_plain.specs.declared.style.Style.TheVariants.{Flow}
 
 module _ (repeats : Repeats) (levels : ℕ) (value : List ℕ → Read Shape) (n i : ℕ) (lt : i < n) where
   module _ (front : List Shape) (text : List ℕ) (total : Read (List Shape)) (so_far : behind_front front (flow_items repeats levels value (n - i) text) ≡ total) where

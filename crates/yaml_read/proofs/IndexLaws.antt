@@ -2,7 +2,7 @@
 use Rattle.std.proofs.Common.{◌≡◌, ◌∙◌, ℕ, Bool, true, false, cond, List, [], ◌∷◌, ◌++◌, refl, sym, ap}
 use Rattle.std.specs.Prelude.{◌||◌}
 use Rattle.std.specs.Str.{bytes_eq}
-use Rattle.yaml_read.specs.Bytes.{is_same}
+use Rattle.yaml_plain.specs.Bytes.{is_same}
 use Rattle.yaml_read.specs.Keys.{is_among}
 use Rattle.yaml_read.proofs.Kept.{same_bytes}
 

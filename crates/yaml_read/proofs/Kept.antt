@@ -5,7 +5,7 @@ use Rattle.std.specs.Str.{bytes_eq}
 use Rattle.std.proofs.lemmas.Bool.{false≢true, lt-ltb, cases_Bool, and_from, and_parts, eqb-true, eq-eqb, or_parts}
 use Rattle.std.proofs.lemmas.Slice.Eq.{bytes_eq-Decides}
 use Rattle.doc_tree.specs.Shape.{Shape, nothing, truth, whole, text, list, mapping, shapes_of, pairs_of, lacks, is_distinct, shapes_are_distinct, pairs_are_distinct, levels, shapes_levels, pairs_levels, item_count, has_short_lists, shapes_have_short_lists, pairs_have_short_lists}
-use Rattle.yaml_read.specs.Bytes.{is_same}
+use Rattle.yaml_plain.specs.Bytes.{is_same}
 use Rattle.yaml_read.specs.Keys.{is_among}
 
 -- a tree of at most so many levels, whose maps have distinct keys, and whose lists are short

@@ -6,8 +6,8 @@ use Rattle.doc_tree.specs.Shape.{Shape, nothing, list, mapping, shapes_of, pairs
 use Rattle.yaml_read.specs.declared.stop.Why.{Why}
 use Rattle.yaml_read.specs.declared.stop.Why.TheVariants.{Outside, Repeated, Deep, Unfit}
 use Rattle.yaml_read.specs.declared.stop.Repeats.TheVariants.{Refused}
-use Rattle.yaml_read.specs.Bytes.{comma, left_bracket, right_bracket, left_brace, right_brace, begins, tail, skip_spaces, trim_end}
-use Rattle.yaml_read.specs.Plain.{is_integer, is_null, plain_value, begins_plain, plain_split}
+use Rattle.yaml_plain.specs.Bytes.{comma, left_bracket, right_bracket, left_brace, right_brace, begins, tail, skip_spaces, trim_end}
+use Rattle.yaml_plain.specs.Plain.{is_integer, is_null, plain_value, begins_plain, plain_split}
 use Rattle.yaml_read.specs.Quoted.{begins_quoted, quoted}
 use Rattle.yaml_read.specs.Keys.{Read, ◌>>=◌, or_unfit, begins_other, quoted_value, value_of_plain, scalar, key, is_among}
 use Rattle.yaml_read.specs.Flow.{behind_entry, begins_node, next_key, flow_items, pair_value_at, flow_value, flow_pairs, flow}
@@ -15,8 +15,8 @@ use Rattle.yaml_read.specs.OnLine.{is_blank, is_over, is_over_plain, alone, valu
 use Rattle.yaml_read.proofs.Fronts.{one_more}
 use Rattle.yaml_read.proofs.Kept.{Kept, AllKept, PairsKept, Kept-nothing, Kept-truth, Kept-whole, Kept-text, AllKept-none, AllKept-more, Kept-list, PairsKept-none, PairsKept-more, Kept-map}
 use Rattle.doc_tree.specs.declared.limits.TheConstants.{MAX_BYTES}
-use Rattle.yaml_read.specs.declared.style.Style.TheVariants.{Block, Flow}
-use Rattle.yaml_read.specs.declared.style.Style.{Style}
+use Rattle.yaml_plain.specs.declared.style.Style.TheVariants.{Block, Flow}
+use Rattle.yaml_plain.specs.declared.style.Style.{Style}
 
 abbrev ok : {A : Type 0} → A → Result A Why
 ok x = Ok x

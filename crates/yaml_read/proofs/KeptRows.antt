@@ -7,7 +7,7 @@ use Rattle.doc_tree.specs.Shape.{Shape, nothing, list, mapping, shapes_of, pairs
 use Rattle.yaml_read.specs.declared.stop.Why.{Why}
 use Rattle.yaml_read.specs.declared.stop.Why.TheVariants.{Repeated}
 use Rattle.yaml_read.specs.declared.fault.YamlFault.TheVariants.{TooLarge, NotUtf8}
-use Rattle.yaml_read.specs.Bytes.{tail, is_same}
+use Rattle.yaml_plain.specs.Bytes.{tail, is_same}
 use Rattle.yaml_read.specs.Keys.{◌>>=◌, is_among}
 use Rattle.yaml_read.specs.OnLine.{is_blank, entry_on_line}
 use Rattle.yaml_read.specs.Rows.{Row, is_dash, row, begins_compact, rows_of_row, rows_of_line, rows_from, without_start, rows_of}

@@ -1,4 +1,3 @@
-pub mod lemmas
 pub mod BracketLaws
 pub mod Complete
 pub mod First

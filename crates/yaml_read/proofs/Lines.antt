@@ -2,7 +2,7 @@
 use Rattle.std.proofs.Common.{◌≡◌, ◌⊎◌, ℕ, ◌+◌, Bool, true, false, cond, List, [], ◌∷◌, ◌++◌, length, Result, Ok, Err, refl, sym, ap, subst, ◌∙◌, append_assoc, arith, inl, inr}
 use Rattle.doc_tree.specs.Shape.{Shape, nothing}
 use Rattle.yaml_read.specs.declared.fault.YamlFault.{YamlFault}
-use Rattle.yaml_read.specs.Bytes.{is_same}
+use Rattle.yaml_plain.specs.Bytes.{is_same}
 use Rattle.yaml_read.specs.OnLine.{is_blank}
 use Rattle.yaml_read.specs.Rows.{Row, row, lone_dash, behind_dash, begins_compact, rows_of_row, rows_of_line, rows_from, without_start, rows_of_lines}
 use Rattle.yaml_read.specs.Reading.{document}

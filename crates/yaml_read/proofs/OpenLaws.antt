@@ -2,7 +2,7 @@
 use Rattle.std.proofs.Common.{◌≡◌, ◌≢◌, ◌∙◌, ◌+◌, ◌-◌, ◌<◌, ℕ, Bool, true, false, eqb, List, Some, None, refl, sym, ap, arith}
 use Rattle.std.specs.Prelude.{◌&&◌, ◌||◌}
 use Rattle.std.proofs.lemmas.Bool.{eq-eqb, ne_eqb}
-use Rattle.yaml_read.specs.Bytes.{space, hash, is_empty, begins, tail}
+use Rattle.yaml_plain.specs.Bytes.{space, hash, is_empty, begins, tail}
 use Rattle.yaml_read.specs.Quoted.{begins_quoted, closed_quote}
 use Rattle.yaml_read.proofs.Fronts.{turn}
 use Rattle.yaml_read.specs.Outside.{opens_flow, closes_flow, parts_flow, open_step, flow_is_open}

@@ -3,8 +3,8 @@ use Rattle.std.proofs.Common.{◌≡◌, ◌∙◌, ◌++◌, ◌∷◌, ◌-◌
 use Rattle.std.specs.Prelude.{◌&&◌, option_map, option_and_then}
 use Rattle.std.proofs.lemmas.Bool.{false≢true, ne_eqb}
 use Rattle.std.proofs.lemmas.List.{append-nil}
-use Rattle.yaml_read.specs.Bytes.{is_empty, apostrophe}
-use Rattle.yaml_read.specs.Plain.{with_front}
+use Rattle.yaml_plain.specs.Bytes.{is_empty, apostrophe}
+use Rattle.yaml_plain.specs.Plain.{with_front}
 use Rattle.yaml_read.specs.Quoted.{single_quoted, piece, behind_piece, unescaped_within}
 use Rattle.yaml_read.proofs.Fronts.{turn, no_turn}
 

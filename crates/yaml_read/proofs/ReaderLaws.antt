@@ -5,7 +5,7 @@ use Rattle.doc_tree.specs.Shape.{Shape, nothing}
 use Rattle.yaml_read.specs.declared.rows.Row as code
 use Rattle.yaml_read.specs.declared.stop.Why.TheVariants.{Repeated, Deep}
 use Rattle.yaml_read.specs.declared.fault.YamlFault.{YamlFault}
-use Rattle.yaml_read.specs.Bytes.{tail}
+use Rattle.yaml_plain.specs.Bytes.{tail}
 use Rattle.yaml_read.specs.Keys.{◌>>=◌, is_among}
 use Rattle.yaml_read.specs.Rows.{Row, is_dash}
 use Rattle.yaml_read.specs.Faults.{fault_of}

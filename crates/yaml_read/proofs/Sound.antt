@@ -6,7 +6,7 @@ use Rattle.doc_tree.specs.Shape.{Shape, nothing, list, mapping, shapes_of, pairs
 use Rattle.yaml_read.specs.declared.stop.Why.{Why}
 use Rattle.yaml_read.specs.declared.stop.Why.TheVariants.{Repeated}
 use Rattle.yaml_read.specs.declared.fault.YamlFault.{YamlFault}
-use Rattle.yaml_read.specs.Bytes.{tail}
+use Rattle.yaml_plain.specs.Bytes.{tail}
 use Rattle.yaml_read.specs.Keys.{◌>>=◌, is_among}
 use Rattle.yaml_read.specs.OnLine.{entry_on_line}
 use Rattle.yaml_read.specs.Rows.{Row, is_dash}

@@ -7,7 +7,7 @@ use Rattle.yaml_read.specs.declared.stop.Stop.{Stop}
 use Rattle.yaml_read.specs.declared.stop.Repeats.{Repeats}
 use Rattle.yaml_read.specs.declared.brackets.Bracket.{Bracket}
 use Rattle.yaml_read.specs.declared.brackets.Bracket.TheVariants.{InList, InMap}
-use Rattle.yaml_read.specs.Bytes.{right_bracket, right_brace}
+use Rattle.yaml_plain.specs.Bytes.{right_bracket, right_brace}
 use Rattle.yaml_read.specs.Keys.{Read, ◌>>=◌}
 use Rattle.yaml_read.specs.Flow.{behind_entry, begins_node, flow_items, flow_value, flow_pairs, flow}
 use Rattle.yaml_read.specs.OnLine.{is_over, alone}

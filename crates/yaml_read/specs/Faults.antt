@@ -11,7 +11,7 @@ use Rattle.yaml_read.specs.Keys.{key}
 use Rattle.yaml_read.specs.OnLine.{on_line}
 use Rattle.yaml_read.specs.Rows.{Row}
 use Rattle.yaml_read.specs.Outside.{is_outside, entry_is_open, entry_of, has_two_dashes}
-use Rattle.yaml_read.specs.declared.style.Style.TheVariants.{Block}
+use Rattle.yaml_plain.specs.declared.style.Style.TheVariants.{Block}
 
 abbrev pub behind_key : List ℕ → Option (List ℕ × List ℕ) → List ℕ
 behind_key bs (Some k) = k.1

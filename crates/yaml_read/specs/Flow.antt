@@ -6,11 +6,11 @@ use Rattle.yaml_read.specs.declared.stop.Why.{Why}
 use Rattle.yaml_read.specs.declared.stop.Why.TheVariants.{Outside, Repeated, Deep, Unfit}
 use Rattle.yaml_read.specs.declared.stop.Repeats.{Repeats}
 use Rattle.yaml_read.specs.declared.stop.Repeats.TheVariants.{Refused, Taken}
-use Rattle.yaml_read.specs.Bytes.{comma, left_bracket, right_bracket, left_brace, right_brace, begins, tail, skip_spaces}
-use Rattle.yaml_read.specs.Plain.{begins_plain}
+use Rattle.yaml_plain.specs.Bytes.{comma, left_bracket, right_bracket, left_brace, right_brace, begins, tail, skip_spaces}
+use Rattle.yaml_plain.specs.Plain.{begins_plain}
 use Rattle.yaml_read.specs.Quoted.{begins_quoted}
 use Rattle.yaml_read.specs.Keys.{Read, ◌>>=◌, or_unfit, begins_other, scalar, key, is_among}
-use Rattle.yaml_read.specs.declared.style.Style.TheVariants.{Flow}
+use Rattle.yaml_plain.specs.declared.style.Style.TheVariants.{Flow}
 
 abbrev pub are_refused : Repeats → Bool
 are_refused Refused = true

@@ -2,11 +2,11 @@
 use Rattle.std.specs.Prelude.{ℕ, Bool, false, ◌&&◌, ◌||◌, if◌then◌else◌, List, codes, Option, Some, None, option_map, option_and_then, Result, Ok, Err}
 use Rattle.std.specs.List.{list_any}
 use Rattle.doc_tree.specs.Shape.{Shape, text}
-use Rattle.yaml_read.specs.declared.style.Style.{Style}
+use Rattle.yaml_plain.specs.declared.style.Style.{Style}
 use Rattle.yaml_read.specs.declared.stop.Why.{Why}
 use Rattle.yaml_read.specs.declared.stop.Why.TheVariants.{Unfit}
-use Rattle.yaml_read.specs.Bytes.{colon, comma, right_brace, begins, begins_with, is_same, tail, trim_end, at_gap, is_flow}
-use Rattle.yaml_read.specs.Plain.{plain_value, begins_plain, plain_split}
+use Rattle.yaml_plain.specs.Bytes.{colon, comma, right_brace, begins, begins_with, is_same, tail, trim_end, at_gap, is_flow}
+use Rattle.yaml_plain.specs.Plain.{plain_value, begins_plain, plain_split}
 use Rattle.yaml_read.specs.Quoted.{begins_quoted, quoted}
 
 -- something read from the front, and the text behind it

@@ -1,5 +1,3 @@
-pub mod Bytes
-pub mod Plain
 pub mod Quoted
 pub mod Keys
 pub mod Flow

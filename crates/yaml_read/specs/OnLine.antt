@@ -5,11 +5,11 @@ use Rattle.yaml_read.specs.declared.stop.Why.{Why}
 use Rattle.yaml_read.specs.declared.stop.Why.TheVariants.{Outside, Deep, Unfit}
 use Rattle.yaml_read.specs.declared.stop.Repeats.{Repeats}
 use Rattle.yaml_read.specs.declared.stop.Repeats.TheVariants.{Refused}
-use Rattle.yaml_read.specs.Bytes.{space, hash, left_bracket, left_brace, is_empty, begins, skip_spaces}
+use Rattle.yaml_plain.specs.Bytes.{space, hash, left_bracket, left_brace, is_empty, begins, skip_spaces}
 use Rattle.yaml_read.specs.Quoted.{begins_quoted}
 use Rattle.yaml_read.specs.Keys.{◌>>=◌, begins_other, scalar}
 use Rattle.yaml_read.specs.Flow.{flow}
-use Rattle.yaml_read.specs.declared.style.Style.TheVariants.{Block}
+use Rattle.yaml_plain.specs.declared.style.Style.TheVariants.{Block}
 
 -- spaces and a comment, or less
 unfoldable pub is_blank : List ℕ → Bool

@@ -1,10 +1,10 @@
 -- What of a line lies outside the subset, whatever comes before it.
 use Rattle.std.specs.Prelude.{ℕ, zero, suc, ◌+◌, ◌-◌, Bool, true, false, ◌&&◌, ◌||◌, ◌==◌, if◌then◌else◌, List, [], ◌∷◌, length, codes, Option, Some, None}
-use Rattle.yaml_read.specs.Bytes.{space, tab, hash, colon, comma, left_bracket, right_bracket, left_brace, right_brace, is_empty, begins, begins_with, tail, skip_spaces, at_gap, at_break}
-use Rattle.yaml_read.specs.Plain.{begins_plain, plain_split}
+use Rattle.yaml_plain.specs.Bytes.{space, tab, hash, colon, comma, left_bracket, right_bracket, left_brace, right_brace, is_empty, begins, begins_with, tail, skip_spaces, at_gap, at_break}
+use Rattle.yaml_plain.specs.Plain.{begins_plain, plain_split}
 use Rattle.yaml_read.specs.Quoted.{begins_quoted, closed_quote}
 use Rattle.yaml_read.specs.Rows.{Row, is_dash}
-use Rattle.yaml_read.specs.declared.style.Style.TheVariants.{Block, Flow}
+use Rattle.yaml_plain.specs.declared.style.Style.TheVariants.{Block, Flow}
 
 -- a tab stands among the spaces and tabs at the front
 abbrev pub has_tab : List ℕ → Bool

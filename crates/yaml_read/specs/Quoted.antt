@@ -3,8 +3,8 @@ use Rattle.std.specs.Prelude.{ℕ, zero, suc, Bool, true, false, not, ◌&&◌, 
 use Rattle.std.specs.List.{list_all}
 use Rattle.std.specs.Char.{is_digit}
 use Rattle.std.specs.Str.Parse.{digits_value}
-use Rattle.yaml_read.specs.Bytes.{quote, apostrophe, backslash, is_empty, begins, tail}
-use Rattle.yaml_read.specs.Plain.{with_front}
+use Rattle.yaml_plain.specs.Bytes.{quote, apostrophe, backslash, is_empty, begins, tail}
+use Rattle.yaml_plain.specs.Plain.{with_front}
 
 -- Behind an apostrophe: the scalar, and the text behind its closing apostrophe; two of them stand for one.
 -- pending: an apostrophe comes before.

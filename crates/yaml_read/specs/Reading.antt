@@ -7,13 +7,13 @@ use Rattle.yaml_read.specs.declared.stop.Why.{Why}
 use Rattle.yaml_read.specs.declared.stop.Why.TheVariants.{Repeated, Deep, Unfit}
 use Rattle.yaml_read.specs.declared.fault.YamlFault.{YamlFault}
 use Rattle.yaml_read.specs.declared.fault.YamlFault.TheVariants as faults
-use Rattle.yaml_read.specs.Bytes.{tail}
+use Rattle.yaml_plain.specs.Bytes.{tail}
 use Rattle.yaml_read.specs.Keys.{◌>>=◌, key, is_among}
 use Rattle.yaml_read.specs.OnLine.{entry_on_line}
 use Rattle.yaml_read.specs.Rows.{Row, rows_of, is_dash}
 use Rattle.yaml_read.specs.Outside.{is_outside}
 use Rattle.yaml_read.specs.Faults.{fault_of}
-use Rattle.yaml_read.specs.declared.style.Style.TheVariants as style
+use Rattle.yaml_plain.specs.declared.style.Style.TheVariants as style
 
 -- something read from the front, and the rows behind it
 abbrev pub Block : Type 0 → Type 0

@@ -1,10 +1,10 @@
 -- The rows of a text: its lines that aren't blank (YAML 1.2, sections 6.1, 6.6 and 8.2).
 use Rattle.std.specs.Prelude.{ℕ, ◌+◌, Bool, ◌&&◌, if◌then◌else◌, List, [], ◌∷◌, ◌++◌, codes, is_some}
 use Rattle.std.specs.Str.Lines.{lines}
-use Rattle.yaml_read.specs.Bytes.{dash, begins, is_same, tail, leading_spaces, skip_spaces, at_gap}
+use Rattle.yaml_plain.specs.Bytes.{dash, begins, is_same, tail, leading_spaces, skip_spaces, at_gap}
 use Rattle.yaml_read.specs.Keys.{key}
 use Rattle.yaml_read.specs.OnLine.{is_blank}
-use Rattle.yaml_read.specs.declared.style.Style.TheVariants.{Block}
+use Rattle.yaml_plain.specs.declared.style.Style.TheVariants.{Block}
 
 -- a line with its number from 1, and what stands there, with its column
 pub record Row : Type 0 where

@@ -6,7 +6,7 @@ use Rattle.doc_tree.specs.declared.limits.TheConstants.{MAX_LEVELS}
 use Rattle.doc_tree.specs.Shape.{Shape, nothing, truth, whole, text, list, mapping, Shapes, no_shapes, more, Pairs, no_pairs, pair}
 use Rattle.yaml_read.specs.declared.fault.YamlFault.{YamlFault}
 use Rattle.yaml_read.specs.declared.fault.YamlFault.TheVariants as faults
-use Rattle.yaml_read.specs.Bytes.{tail}
+use Rattle.yaml_plain.specs.Bytes.{tail}
 use Rattle.yaml_read.specs.Keys.{is_among}
 use Rattle.yaml_read.specs.OnLine.{entry_on_line}
 use Rattle.yaml_read.specs.Rows.{Row, rows_of_lines, rows_of}

@@ -1,20 +1,19 @@
 //! Where a node of flow ends, found with the open brackets in hand, so that no nesting is too deep for the stack.
 
 ghost use Rattle.std.specs.Prelude.{◌≡◌, ◌∷◌, [], reverse, ◌||◌, IfOk, IfSome, IfNone};
-ghost use Rattle.yaml_read.specs.Bytes.{comma, right_brace, begins};
+ghost use Rattle.yaml_plain.specs.Bytes.{comma, right_brace, begins};
 ghost use Rattle.yaml_read.specs.Flow.{flow};
 ghost use Rattle.yaml_read.specs.declared.brackets.Bracket.TheVariants.{InList, InMap};
 ghost use Rattle.yaml_read.specs.Brackets.{end_of, closing, without_levels, behind, inside, from_node, from_value, GoesOn};
 ghost use Rattle.yaml_read.specs.Seen.{Gives};
 
-use crate::bytes::{begins, skip_spaces, tail};
 use crate::entries::Entries;
 use crate::flow::{begins_node, behind_entry, next_key};
 use crate::keys::{begins_other, scalar};
 use crate::stop::{Repeats, Stop, Why};
-use crate::style::Style;
 use doc_tree::{MAX_BYTES, Tree};
 use std::alloc::{AllocError, Global};
+use yaml_plain::{Style, begins, skip_spaces, tail};
 
 /// A bracket that is open: the levels and the turns that are left in it, and of a map the pairs so far, without their values.
 #[derive(Drop)]

@@ -5,15 +5,14 @@ ghost use Rattle.yaml_read.specs.Keys.{key};
 ghost use Rattle.yaml_read.specs.OnLine.{on_line};
 ghost use Rattle.yaml_read.specs.Faults.{behind_key, entry_by_itself};
 ghost use Rattle.yaml_read.specs.Brackets.{flow_alone, stop_of};
-ghost use Rattle.yaml_read.specs.declared.style.Style.TheVariants.{Block};
+ghost use Rattle.yaml_plain.specs.declared.style.Style.TheVariants.{Block};
 
 use crate::brackets::flow_end;
-use crate::bytes::skip_spaces;
 use crate::keys::{begins_other, key};
 use crate::line::{begins_flow, is_blank, is_over, on_line};
 use crate::stop::{Repeats, Stop, Why};
-use crate::style::Style;
 use std::alloc::{AllocError, Global};
+use yaml_plain::{Style, skip_spaces};
 
 // The text behind the key that an entry begins with, if one does, or else the entry.
 fn behind_key(alloc: Global, text: &[u8]) -> Result<&[u8], AllocError>

@@ -6,16 +6,14 @@ ghost use Rattle.doc_tree.specs.Shape.{shape, pair_shape};
 ghost use Rattle.yaml_read.specs.Flow.{are_refused, behind_entry, begins_node, next_key, flow_items, flow_value, flow_pairs, flow};
 ghost use Rattle.yaml_read.specs.Seen.{Gives};
 
-use crate::bytes::{begins, skip_spaces, tail};
 use crate::entries::Entries;
 use crate::keys::{begins_other, key, scalar};
-use crate::plain::begins_plain;
 use crate::quoted::begins_quoted;
 use crate::stop::{Repeats, Stop, Why};
-use crate::style::Style;
 use base_model::Str;
 use doc_tree::{MAX_BYTES, Tree};
 use std::alloc::Global;
+use yaml_plain::{Style, begins, begins_plain, skip_spaces, tail};
 
 /// The text behind an entry: behind a comma, or from the closing sign on.
 #[tactic(auto, unfolding(crate::specs::Flow::behind_entry))]

@@ -6,15 +6,14 @@ ghost use Rattle.yaml_read.specs.Keys.{or_unfit, quoted_value, begins_other, sca
 ghost use Rattle.yaml_read.specs.Quoted.{quoted};
 ghost use Rattle.yaml_read.specs.Seen.{Gives};
 
-use crate::bytes::{at_gap, begins, tail, trim_end};
-use crate::plain::{begins_plain, plain_split, plain_value};
 use crate::quoted::{begins_quoted, quoted};
 use crate::stop::{Stop, Why};
-use crate::style::Style;
-use crate::text::copied;
 use base_model::Str;
 use doc_tree::Tree;
 use std::alloc::{AllocError, Global};
+use yaml_plain::{
+    Style, at_gap, begins, begins_plain, copied, plain_split, plain_value, tail, trim_end,
+};
 
 /// Whether an anchor, an alias, a tag, a block scalar or a long key begins here.
 #[tactic(auto, unfolding(crate::specs::Keys::begins_other))]

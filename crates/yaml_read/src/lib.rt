@@ -3,8 +3,6 @@
 
 // Where a node of flow ends, found with the open brackets in hand, so that no nesting is too deep for the stack.
 mod brackets;
-// What stands at the front and the end of a text.
-mod bytes;
 // The pairs of a map, with a set of their keys, so that a key is looked up in a time that grows with the logarithm of their number.
 mod entries;
 // Why an entry of a line stops being one, if it does, however deep it nests.
@@ -23,8 +21,6 @@ mod laws;
 mod line;
 // What of a line lies outside the subset, whatever comes before it.
 mod outside;
-// Plain scalars.
-mod plain;
 // Quoted scalars.
 mod quoted;
 // Texts as trees.
@@ -35,12 +31,7 @@ mod reader;
 mod rows;
 // Why the reading of a line stops.
 mod stop;
-// Where a scalar stands.
-mod style;
-// Bytes of a text as a text of their own.
-mod text;
 
 pub use fault::YamlFault;
 pub use laws::reading_laws;
-pub use plain::{integer_of, is_plain_string};
 pub use read::tree_of_yaml;

@@ -1,19 +1,18 @@
 //! What stands on a line behind a key's colon or a dash.
 
 ghost use Rattle.std.specs.Prelude.{◌≡◌, ◌||◌, option_map};
-ghost use Rattle.yaml_read.specs.Bytes.{left_bracket, left_brace, begins};
+ghost use Rattle.yaml_plain.specs.Bytes.{left_bracket, left_brace, begins};
 ghost use Rattle.doc_tree.specs.Shape.{shape};
 ghost use Rattle.yaml_read.specs.OnLine.{is_blank, is_over, is_over_plain, value_at, on_line, entry_on_line};
 ghost use Rattle.yaml_read.specs.Seen.{Gives};
 
-use crate::bytes::{begins, skip_spaces};
 use crate::flow::flow;
 use crate::keys::{begins_other, scalar};
 use crate::quoted::begins_quoted;
 use crate::stop::{Repeats, Stop, Why};
-use crate::style::Style;
 use doc_tree::Tree;
 use std::alloc::Global;
+use yaml_plain::{Style, begins, skip_spaces};
 
 /// Whether the text is spaces and a comment, or less.
 #[tactic(auto, unfolding(crate::specs::OnLine::is_blank))]

@@ -1,16 +1,14 @@
 //! What of a line lies outside the subset, whatever comes before it.
 
 ghost use Rattle.std.specs.Prelude.{◌≡◌, ◌&&◌, ◌||◌, false, true, codes};
-ghost use Rattle.yaml_read.specs.Bytes.{hash, colon, is_empty, begins, begins_with, tail, at_gap};
+ghost use Rattle.yaml_plain.specs.Bytes.{hash, colon, is_empty, begins, begins_with, tail, at_gap};
 ghost use Rattle.yaml_read.specs.Quoted.{begins_quoted, closed_quote};
 ghost use Rattle.yaml_read.specs.Outside.{has_tab, begins_mark, byte_order_mark, is_outside, behind_quote, opens_flow, closes_flow, parts_flow, flow_is_open, value_is_open, pair_is_open, entry_is_open, entry_of, has_two_dashes};
 ghost use Rattle.yaml_read.specs.Seen.{seen};
 
-use crate::bytes::{at_break, at_gap, begins, skip_spaces, tail};
-use crate::plain::{begins_plain, plain_split};
 use crate::quoted::{begins_quoted, closed_quote};
 use crate::rows::{Row, is_dash};
-use crate::style::Style;
+use yaml_plain::{Style, at_break, at_gap, begins, begins_plain, plain_split, skip_spaces, tail};
 
 // Whether a tab stands among the spaces and tabs at the front.
 fn has_tab(line: &[u8]) -> bool

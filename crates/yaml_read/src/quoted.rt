@@ -2,13 +2,12 @@
 
 ghost use Rattle.std.specs.Prelude.{◌≡◌, ◌+◌, ◌*◌, ◌∷◌, [], length, ◌==◌, ◌++◌, ◌&&◌, ◌<◌, ◌≤◌, not, false, option_map, option_and_then, encode_utf8, OnOk, Some, None, IfOk, IfSome, if◌then◌else◌};
 ghost use Rattle.std.specs.Char.{is_digit, digit_value};
-ghost use Rattle.yaml_read.specs.Bytes.{quote, apostrophe, backslash};
+ghost use Rattle.yaml_plain.specs.Bytes.{quote, apostrophe, backslash};
 ghost use Rattle.yaml_read.specs.Quoted.{single_quoted, double_quoted, hex_value, char_of, hex_escape, escape, encoded, piece, unescaped, unescaped_front, begins_quoted, quoted, closed_quote};
 
-use crate::bytes::{begins, tail};
-use crate::text::owned;
 use base_model::Str;
 use std::alloc::{AllocError, Global};
+use yaml_plain::{begins, owned, tail};
 
 fn closes(escaped: bool, byte: u8) -> bool
     ensures { result ≡ (not escaped && (byte == quote)) }

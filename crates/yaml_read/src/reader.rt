@@ -6,7 +6,6 @@ ghost use Rattle.yaml_read.specs.OnLine.{entry_on_line};
 ghost use Rattle.yaml_read.specs.Reading.{at_row, is_own, own_key, own_dash, begins_deeper, begins_below_key, first_pair, first_item, value_of, pairs, items, some_pairs, some_items, node, document};
 ghost use Rattle.yaml_read.specs.Seen.{seen, all_seen, Answers};
 
-use crate::bytes::tail;
 use crate::entries::Entries;
 use crate::fault::YamlFault;
 use crate::faults::fault_of;
@@ -15,10 +14,10 @@ use crate::line::entry_on_line;
 use crate::outside::is_outside;
 use crate::rows::{Row, is_dash};
 use crate::stop::{Stop, Why};
-use crate::style::Style;
 use base_model::Str;
 use doc_tree::{MAX_LEVELS, Tree};
 use std::alloc::{AllocError, Global};
+use yaml_plain::{Style, tail};
 
 fn is_own(column: usize, row: &Row) -> bool
     ensures { result ≡ is_own column (seen row.now) }

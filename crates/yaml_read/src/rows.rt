@@ -1,18 +1,17 @@
 //! The rows of a text: its lines that aren't blank.
 
 ghost use Rattle.std.specs.Prelude.{◌≡◌, ◌+◌, ◌&&◌, ◌<◌, ◌^◌, ◌++◌, false, length, map, is_some, IfOk, OnOk};
-ghost use Rattle.yaml_read.specs.Bytes.{tail, leading_spaces, skip_spaces};
+ghost use Rattle.yaml_plain.specs.Bytes.{tail, leading_spaces, skip_spaces};
 ghost use Rattle.std.specs.Str.Lines.{lines};
 ghost use Rattle.yaml_read.specs.Keys.{key};
 ghost use Rattle.yaml_read.specs.Rows.{is_dash, row, lone_dash, behind_dash, begins_compact, rows_of_row, rows_of_line, rows_from, without_start};
 ghost use Rattle.yaml_read.specs.Seen.{seen, all_seen};
-ghost use Rattle.yaml_read.specs.declared.style.Style.TheVariants.{Block};
+ghost use Rattle.yaml_plain.specs.declared.style.Style.TheVariants.{Block};
 
-use crate::bytes::{at_gap, is_same, leading_spaces, skip_spaces, tail};
 use crate::keys::key;
 use crate::line::is_blank;
-use crate::style::Style;
 use std::alloc::{AllocError, Global};
+use yaml_plain::{Style, at_gap, is_same, leading_spaces, skip_spaces, tail};
 
 /// A line, or a part of one: the dash before a map, or the map's first pair.
 pub struct Row {

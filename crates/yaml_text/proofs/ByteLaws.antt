@@ -4,11 +4,11 @@ use Rattle.std.specs.Prelude.{◌||◌, codes}
 use Rattle.std.specs.List.{list_any}
 use Rattle.std.specs.Char.{is_ascii_alphanumeric}
 use Rattle.std.proofs.lemmas.Bool.{ne_eqb, both_ways, or_parts, or_from, and_left}
-use Rattle.yaml_read.specs.Bytes.{begins, begins_with}
-use Rattle.yaml_read.specs.Plain.{begins_plain}
+use Rattle.yaml_plain.specs.Bytes.{begins, begins_with}
+use Rattle.yaml_plain.specs.Plain.{begins_plain}
 use Rattle.yaml_read.specs.Quoted.{begins_quoted}
 use Rattle.yaml_read.specs.Keys.{begins_other}
-use Rattle.yaml_read.specs.declared.style.Style.TheVariants.{Block}
+use Rattle.yaml_plain.specs.declared.style.Style.TheVariants.{Block}
 
 -- what a printed key begins with
 abbrev pub starts_key : ℕ → Bool

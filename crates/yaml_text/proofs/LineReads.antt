@@ -9,8 +9,8 @@ use Rattle.std.proofs.lemmas.Bool.{false≢true, or_left}
 use Rattle.doc_tree.specs.Shape.{Shape, nothing, truth, text, list, mapping, no_shapes, no_pairs}
 use Rattle.yaml_read.specs.declared.stop.Why.{Why}
 use Rattle.yaml_read.specs.declared.stop.Repeats.TheVariants.{Refused}
-use Rattle.yaml_read.specs.Bytes.{skip_spaces}
-use Rattle.yaml_read.specs.Plain.{plain_value, is_integer}
+use Rattle.yaml_plain.specs.Bytes.{skip_spaces}
+use Rattle.yaml_plain.specs.Plain.{plain_value, is_integer}
 use Rattle.yaml_read.specs.Quoted.{begins_quoted}
 use Rattle.yaml_read.specs.Keys.{◌>>=◌, key, scalar, begins_other}
 use Rattle.yaml_read.specs.Flow.{flow, flow_items, flow_pairs}
@@ -20,7 +20,7 @@ use Rattle.yaml_text.proofs.ByteLaws.{apart, no_other, starts_key}
 use Rattle.yaml_text.proofs.PlainReads.{plain_parts}
 use Rattle.yaml_text.proofs.ScalarReads.{printed_text}
 use Rattle.yaml_text.proofs.NumberReads.{starts, Shown}
-use Rattle.yaml_read.specs.declared.style.Style.TheVariants.{Block}
+use Rattle.yaml_plain.specs.declared.style.Style.TheVariants.{Block}
 
 -- the first byte of a key
 pub record First (x : List ℕ) : Type 0 where

@@ -10,14 +10,14 @@ use Rattle.std.proofs.lemmas.Bool.{ne_eqb, lt-ltb, le-ltb, le-leb, ltb-true, leb
 use Rattle.std.proofs.lemmas.Fmt.{decimal_is_IsNumeral_wide, decimal_by_steps_wide, decimal_digit}
 use Rattle.std.proofs.lemmas.List.Folds.{list_all-append}
 use Rattle.doc_tree.specs.Shape.{Shape, whole}
-use Rattle.yaml_read.specs.Bytes.{is_same}
-use Rattle.yaml_read.specs.Plain.{is_digits, is_whole, is_integer, plain_value}
+use Rattle.yaml_plain.specs.Bytes.{is_same}
+use Rattle.yaml_plain.specs.Plain.{is_digits, is_whole, is_integer, plain_value}
 use Rattle.yaml_read.specs.Keys.{key, scalar}
 use Rattle.yaml_text.specs.Scalars.{is_plain_byte, ends_with_colon}
 use Rattle.doc_tree.specs.Integers.{has_128_bits}
 use Rattle.yaml_text.proofs.ByteLaws.{apart, begins_plainly, no_quote}
 use Rattle.yaml_text.proofs.PlainReads.{plain_scalar, plain_no_key}
-use Rattle.yaml_read.specs.declared.style.Style.TheVariants.{Block}
+use Rattle.yaml_plain.specs.declared.style.Style.TheVariants.{Block}
 
 abbrev pub is_decimal : ℕ → Bool
 is_decimal c = is_in_range 48 57 c

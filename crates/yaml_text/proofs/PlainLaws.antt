@@ -3,8 +3,8 @@ use Rattle.std.proofs.Common.{◌≡◌, ◌∙◌, ◌-◌, ◌∷◌, ℕ, suc
 use Rattle.std.specs.Result.{is_ok, result_ok}
 use Rattle.std.specs.Int.{w128}
 use Rattle.std.specs.Str.Parse.{ParsesSigned, signed_digits_value}
-use Rattle.yaml_read.specs.Plain.{is_whole, is_integer}
-use Rattle.yaml_read.proofs.lemmas.Numbers.{number_is}
+use Rattle.yaml_plain.specs.Plain.{is_whole, is_integer}
+use Rattle.yaml_plain.proofs.lemmas.Numbers.{number_is}
 use Rattle.yaml_text.specs.Scalars.{ends_with_colon}
 
 pub last_is_colon : (bs : List ℕ) → ends_with_colon bs ≡ eqb (get_or bs (length bs - 1) 0) 58

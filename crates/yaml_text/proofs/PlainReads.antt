@@ -7,13 +7,13 @@ use Rattle.std.specs.Str.Parse.{signed_digits_value}
 use Rattle.std.proofs.lemmas.Bool.{and_parts, not-true, false≢true}
 use Rattle.std.proofs.lemmas.List.{append-nil}
 use Rattle.doc_tree.specs.Shape.{nothing, truth, whole, text}
-use Rattle.yaml_read.specs.Bytes.{at_gap, at_break, trim_end, push_unless_blank}
-use Rattle.yaml_read.specs.Plain.{is_text, plain_value, plain_split, with_front, ends_plain, begins_plain}
+use Rattle.yaml_plain.specs.Bytes.{at_gap, at_break, trim_end, push_unless_blank}
+use Rattle.yaml_plain.specs.Plain.{is_text, plain_value, plain_split, with_front, ends_plain, begins_plain}
 use Rattle.yaml_read.specs.Quoted.{begins_quoted}
 use Rattle.yaml_read.specs.Keys.{key, scalar}
 use Rattle.yaml_text.specs.Scalars.{is_plain_byte, begins_with_letter_or_digit, ends_with_colon, is_plain}
 use Rattle.yaml_text.proofs.ByteLaws.{apart, begins_plainly, no_quote}
-use Rattle.yaml_read.specs.declared.style.Style.TheVariants.{Block}
+use Rattle.yaml_plain.specs.declared.style.Style.TheVariants.{Block}
 
 pub record PlainParts (s : List ℕ) : Type 0 where
   pub first : begins_with_letter_or_digit s ≡ true

@@ -3,8 +3,8 @@ use Rattle.std.proofs.Common.{◌≡◌, ◌∙◌, ◌++◌, ◌/◌, ◌%◌, 
 use Rattle.std.specs.Prelude.{◌||◌, ◌&&◌, option_map}
 use Rattle.std.proofs.lemmas.Bool.{eqb-true, lt-ltb, le-ltb, agree_below_at, or_parts, or_cases, and_parts, not-true, ltb-true, false≢true}
 use Rattle.std.proofs.lemmas.Str.{encode_ascii}
-use Rattle.yaml_read.specs.Bytes.{is_empty}
-use Rattle.yaml_read.specs.Plain.{with_front}
+use Rattle.yaml_plain.specs.Bytes.{is_empty}
+use Rattle.yaml_plain.specs.Plain.{with_front}
 use Rattle.yaml_read.specs.Quoted.{single_quoted, double_quoted, hex_value, char_of, hex_escape, escape, piece, unescaped_within, unescaped, quoted}
 use Rattle.yaml_text.specs.Scalars.{is_control, hex_digit, escaped, doubled}
 

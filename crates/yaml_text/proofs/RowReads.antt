@@ -2,14 +2,14 @@
 use Rattle.std.proofs.Common.{◌≡◌, ◌∙◌, ◌++◌, ◌+◌, ℕ, suc, zero, List, [], ◌∷◌, Bool, true, false, cond, eqb, replicate, length, refl, sym, ap, ap₂, subst, arith, append_assoc, Option, Some, None, is_some}
 use Rattle.std.specs.Prelude.{◌||◌, ◌&&◌}
 use Rattle.std.proofs.lemmas.Bool.{or_from, and_right, and_left, eqb-true}
-use Rattle.yaml_read.specs.Bytes.{leading_spaces, skip_spaces, begins_with, at_gap}
+use Rattle.yaml_plain.specs.Bytes.{leading_spaces, skip_spaces, begins_with, at_gap}
 use Rattle.yaml_read.specs.Keys.{key}
 use Rattle.yaml_read.specs.OnLine.{is_blank}
 use Rattle.yaml_read.specs.Rows.{Row, row, is_dash, lone_dash, behind_dash, begins_compact, rows_of_row, rows_of_line, rows_from}
 use Rattle.yaml_read.specs.Outside.{has_tab, begins_mark, byte_order_mark, is_outside}
 use Rattle.yaml_text.specs.Layout.{spaces}
 use Rattle.yaml_text.proofs.ByteLaws.{apart, starts_key}
-use Rattle.yaml_read.specs.declared.style.Style.TheVariants.{Block}
+use Rattle.yaml_plain.specs.declared.style.Style.TheVariants.{Block}
 
 -- spaces before something else
 lead_count : (c b : ℕ) (bs : List ℕ) → eqb b 32 ≡ false → leading_spaces (replicate c 32 ++ (b ∷ bs)) ≡ c

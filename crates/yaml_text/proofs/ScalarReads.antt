@@ -5,14 +5,14 @@ use Rattle.std.specs.Char.{is_ascii_alphanumeric}
 use Rattle.std.proofs.lemmas.Bool.{false≢true}
 use Rattle.std.proofs.lemmas.List.{append-nil}
 use Rattle.doc_tree.specs.Shape.{Shape, text}
-use Rattle.yaml_read.specs.Bytes.{at_gap}
+use Rattle.yaml_plain.specs.Bytes.{at_gap}
 use Rattle.yaml_read.specs.Quoted.{quoted, begins_quoted, single_quoted}
 use Rattle.yaml_read.specs.Keys.{key, scalar}
 use Rattle.yaml_text.specs.Scalars.{is_plain, is_control, escaped, doubled, in_double_quotes, in_single_quotes, printed}
 use Rattle.yaml_text.proofs.ByteLaws.{begins_plainly, no_quote}
 use Rattle.yaml_text.proofs.PlainReads.{plain_parts, plain_key, plain_scalar, plain_no_key, text_value}
 use Rattle.yaml_text.proofs.QuoteReads.{double_reads, single_reads_quoted}
-use Rattle.yaml_read.specs.declared.style.Style.TheVariants.{Block}
+use Rattle.yaml_plain.specs.declared.style.Style.TheVariants.{Block}
 
 double_is : (s rest : List ℕ) → quoted (in_double_quotes s ++ rest) ≡ Some (s, rest)
 double_is s rest = ap (λ (x : List ℕ). quoted (34 ∷ x)) (append_assoc (flat_map escaped s) (34 ∷ []) rest) ∙ double_reads s rest

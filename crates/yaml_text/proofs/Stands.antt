@@ -5,7 +5,7 @@ use Rattle.std.proofs.lemmas.Bool.{eqb-true, eq-eqb, lt-ltb, and_parts, or_parts
 use Rattle.std.proofs.lemmas.Bool.Decides.{not_from_Decides}
 use Rattle.std.proofs.lemmas.Slice.Eq.{bytes_eq-Decides}
 use Rattle.doc_tree.specs.Shape.{Shape, nothing, truth, whole, text, list, mapping, Shapes, no_shapes, more, Pairs, no_pairs, pair, is_distinct, shapes_are_distinct, pairs_are_distinct, lacks, levels, shapes_levels, pairs_levels}
-use Rattle.yaml_read.specs.Bytes.{is_same, begins, tail, at_gap, skip_spaces}
+use Rattle.yaml_plain.specs.Bytes.{is_same, begins, tail, at_gap, skip_spaces}
 use Rattle.yaml_read.specs.Keys.{key, is_among}
 use Rattle.yaml_read.specs.OnLine.{entry_on_line}
 use Rattle.yaml_read.specs.Rows.{Row, rows_from, rows_of_line, is_dash}
@@ -20,7 +20,7 @@ use Rattle.yaml_text.proofs.ScalarReads.{printed_key}
 use Rattle.yaml_text.proofs.NumberReads.{Shown, integer_shown}
 use Rattle.yaml_text.proofs.RowReads.{row_at, key_row, key_inside, dash_row, dash_inside, compact_rows, rows_append}
 use Rattle.yaml_text.proofs.LineReads.{printed_first, text_shown, null_shown, truth_shown, shown_line, shown_no_key, no_line, empty_list_line, empty_map_line, empty_list_no_key, empty_map_no_key, nothing_no_key}
-use Rattle.yaml_read.specs.declared.style.Style.TheVariants.{Block}
+use Rattle.yaml_plain.specs.declared.style.Style.TheVariants.{Block}
 use Rattle.doc_tree.specs.declared.limits.TheConstants.{MAX_LEVELS}
 
 -- ---- keys that differ from those before

@@ -3,7 +3,7 @@ use Rattle.std.proofs.Common.{◌≡◌, ◌∙◌, ◌++◌, ◌≤◌, ℕ, Li
 use Rattle.std.specs.Prelude.{codes}
 use Rattle.std.proofs.lemmas.Bool.{and_left, false≢true}
 use Rattle.doc_tree.specs.Shape.{Shape, nothing, truth, whole, text, list, mapping, Pairs, no_pairs, pair, is_distinct, levels}
-use Rattle.yaml_read.specs.Bytes.{is_same, begins}
+use Rattle.yaml_plain.specs.Bytes.{is_same, begins}
 use Rattle.yaml_read.specs.Rows.{Row, rows_from, rows_of, rows_of_lines, without_start}
 use Rattle.yaml_read.specs.Standing.{IsNode, StandsFor}
 use Rattle.yaml_text.specs.Layout.{spaces, pairs_lines, below_key, yaml_text_of, is_filled_map}

@@ -1,7 +1,7 @@
 -- The lines of a tree, and its text.
 use Rattle.std.specs.Prelude.{ℕ, ◌+◌, Bool, true, false, if◌then◌else◌, List, [], ◌∷◌, ◌++◌, replicate, flat_map}
 use Rattle.doc_tree.specs.Shape.{Shape, nothing, truth, whole, text, list, mapping, Shapes, no_shapes, more, Pairs, no_pairs, pair}
-use Rattle.yaml_read.specs.Bytes.{space, colon, dash}
+use Rattle.yaml_plain.specs.Bytes.{space, colon, dash}
 use Rattle.yaml_text.specs.Scalars.{printed, on_line}
 
 abbrev pub line_feed : ℕ

@@ -1,7 +1,7 @@
 -- What the parts of the writer append; its whole answer is in Layout.
 use Rattle.std.specs.Prelude.{ℕ, ◌+◌, Bool, if◌then◌else◌, List, [], ◌∷◌, ◌++◌}
 use Rattle.doc_tree.specs.Shape.{Shape, nothing, truth, whole, text, list, mapping, Pairs}
-use Rattle.yaml_read.specs.Bytes.{colon, space, dash}
+use Rattle.yaml_plain.specs.Bytes.{colon, space, dash}
 use Rattle.yaml_text.specs.Scalars.{printed}
 use Rattle.yaml_text.specs.Layout.{line_feed, spaces, behind, below_key, pairs_lines, items_lines, joined, has_pairs}
 

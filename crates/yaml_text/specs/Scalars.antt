@@ -4,8 +4,8 @@ use Rattle.std.specs.List.{list_all, list_any}
 use Rattle.std.specs.Char.{is_ascii_alphanumeric}
 use Rattle.std.specs.Fmt.{signed_decimal}
 use Rattle.doc_tree.specs.Shape.{Shape, nothing, truth, whole, text, list, mapping}
-use Rattle.yaml_read.specs.Bytes.{quote, apostrophe, backslash, colon}
-use Rattle.yaml_read.specs.Plain.{is_text, plain_value}
+use Rattle.yaml_plain.specs.Bytes.{quote, apostrophe, backslash, colon}
+use Rattle.yaml_plain.specs.Plain.{is_text, plain_value}
 
 -- a letter, a digit, or one of these signs
 abbrev pub is_plain_byte : ℕ → Bool

@@ -3,8 +3,8 @@
 ghost use Rattle.std.specs.Prelude.{◌≡◌, ◌≤◌, ℕ, ℤ, List, [], ◌∷◌, ◌++◌, true, Ok, Some};
 ghost use Rattle.doc_tree.specs.Shape.{Shape, text, whole, is_distinct, levels};
 ghost use Rattle.doc_tree.specs.declared.limits.TheConstants.{MAX_LEVELS};
-ghost use Rattle.yaml_read.specs.declared.style.Style.TheVariants.{Block};
-ghost use Rattle.yaml_read.specs.Bytes.{colon, at_gap};
+ghost use Rattle.yaml_plain.specs.declared.style.Style.TheVariants.{Block};
+ghost use Rattle.yaml_plain.specs.Bytes.{colon, at_gap};
 ghost use Rattle.yaml_read.specs.Keys.{key, scalar};
 ghost use Rattle.std.specs.Fmt.{signed_decimal};
 ghost use Rattle.doc_tree.specs.Integers.{has_128_bits, integers_fit};

@@ -4,7 +4,7 @@ ghost use Rattle.std.specs.Prelude.{◌≡◌, ◌+◌, ◌*◌, ◌≤◌, ◌+
 ghost use Rattle.doc_tree.specs.Shape.{shape, pair_shape, shapes_of, pairs_of, levels, shapes_levels, pairs_levels};
 ghost use Rattle.std.specs.Fmt.{signed_decimal};
 ghost use Rattle.doc_tree.specs.declared.limits.TheConstants.{MAX_LEVELS};
-ghost use Rattle.yaml_read.specs.Bytes.{dash};
+ghost use Rattle.yaml_plain.specs.Bytes.{dash};
 ghost use Rattle.yaml_text.specs.Scalars.{on_line};
 ghost use Rattle.yaml_text.specs.Layout.{spaces, stands_below, behind, below_key, pairs_lines, items_lines, item_lines, joined};
 ghost use Rattle.yaml_text.specs.Pieces.{lead_of, pair_text, behind_text, pairs_text, item_text};

@@ -4,7 +4,7 @@ ghost use Rattle.std.specs.Prelude.{◌≡◌};
 ghost use Rattle.std.specs.List.{list_all};
 ghost use Rattle.yaml_text.specs.Scalars.{is_plain_byte, begins_with_letter_or_digit, ends_with_colon, is_plain};
 
-use yaml_read::is_plain_string;
+use yaml_plain::is_plain_string;
 
 fn is_plain_byte(byte: u8) -> bool
     ensures { result ≡ is_plain_byte byte }

@@ -3,8 +3,8 @@ use Rattle.std.proofs.Common.{◌≡◌, ℕ, ◌+◌, ◌<◌, Bool, false, ◌
 use Rattle.std.proofs.lemmas.List.{ext_get_or, get_or-map, length-map, map-append}
 use Rattle.reach.specs.Reach.{is_reached, IsGraph, IsLeast, Represents}
 use Rattle.reach.proofs.lemmas.Least.{least_is_reached}
-use Rattle.net_model.specs.Words.{positions}
-use Rattle.net_model.proofs.lemmas.Arrows.{rows-IsGraph, marked_at, at_some}
+use Rattle.reach.specs.Positions.{positions}
+use Rattle.reach.proofs.lemmas.Positions.{rows-IsGraph, marked_at, at_some}
 use Rattle.reach.proofs.lemmas.Marks.{any_default}
 use Rattle.link_order.proofs.lemmas.More.{take_one}
 

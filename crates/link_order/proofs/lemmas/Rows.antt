@@ -2,12 +2,12 @@
 use Rattle.std.proofs.Common.{◌≡◌, ◌≢◌, ◌⊎◌, inl, inr, ◌<◌, ◌+◌, ◌++◌, ℕ, zero, suc, Bool, true, false, List, [], ◌∷◌, map, take, length, get_or, set, replicate, Some, None, if◌then◌else◌, refl, sym, ap, ap₂, subst, ◌∙◌, arith}
 use Rattle.std.specs.Option.{option_to_list}
 use Rattle.std.proofs.lemmas.List.{append-nil, append_assoc, ext_get_or, get_or-map, get_or-set_same, get_or-set_other, length-map, length-set, length-take-le}
-use Rattle.net_model.specs.Words.{positions}
+use Rattle.reach.specs.Positions.{positions}
 use Rattle.net_model.specs.Links.{is_named, same_name, find_link}
 use Rattle.net_model.specs.Order.{link_cmp}
 use Rattle.net_model.specs.Valid.{names_differ}
 use Rattle.net_model.specs.declared.Link.{Link}
-use Rattle.net_model.proofs.lemmas.Arrows.{positions_sound, positions_whole}
+use Rattle.reach.proofs.lemmas.Positions.{positions_sound, positions_whole}
 use Rattle.net_model.proofs.lemmas.Found.{one_name, names_tie, found_at}
 use Rattle.net_model.proofs.lemmas.Orders.{link_cmp_total}
 use Rattle.net_model.proofs.lemmas.Places.{only_itself}

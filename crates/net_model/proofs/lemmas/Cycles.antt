@@ -2,8 +2,9 @@
 use Rattle.std.proofs.Common.{◌≡◌, ℕ, ◌<◌, zero, suc, Bool, true, false, not, ◌&&◌, ◌||◌, List, [], ◌∷◌, map, length, get_or, Some, refl, sym, ap, subst, ◌∙◌, arith}
 use Rattle.reach.specs.Reach.{is_reached, IsGraph, Represents}
 use Rattle.reach.specs.Cycle.{target, HasRanks, Decides}
+use Rattle.reach.specs.Positions.{positions}
 use Rattle.reach.proofs.lemmas.Least.{any_index}
-use Rattle.net_model.specs.Words.{positions, rises}
+use Rattle.net_model.specs.Words.{rises}
 use Rattle.net_model.specs.Order.{link_cmp}
 use Rattle.net_model.specs.Links.{find_link, is_named, same_name}
 use Rattle.net_model.specs.Dependence.{depends_on, on_cycle, no_cycle}
@@ -13,7 +14,7 @@ use Rattle.net_model.specs.declared.link.Link.{Link}
 use Rattle.net_model.proofs.lemmas.Truth.{and_left, and_right}
 use Rattle.net_model.proofs.lemmas.Orders.{link_cmp_total}
 use Rattle.net_model.proofs.lemmas.Found.{itself, found_at, names_tie, names_differ-rises}
-use Rattle.net_model.proofs.lemmas.Arrows.{rows-IsGraph, rows-Represents, all_places}
+use Rattle.reach.proofs.lemmas.Positions.{rows-IsGraph, rows-Represents, all_places}
 use Rattle.net_model.proofs.lemmas.Drawn.{drawn-IsGraph, drawn-Represents}
 use Rattle.net_model.proofs.lemmas.Places.{only_itself}
 use Rattle.net_model.proofs.lemmas.Ranks.{or_elim, rank-falls}

@@ -38,7 +38,7 @@ module _ {X : Type 0} (E : X → X → Bool) (R : X → X → Ordering) (total :
   same_sorted xs ys moved differ =
       rising_sorted R total ys (sorted R xs) (IsPermutation-trans ys xs (sorted R xs) (IsPermutation-sym xs ys moved) (sorted_moves R total xs)) (sorted_rises xs differ) (sorted_climbs R total xs)
 
--- a list that rises is in order already
+-- a strictly sorted list is in order already
 pub sorted_itself : {X : Type 0} (R : X → X → Ordering) → IsTotalOrder R → (xs : List X) → rises R xs ≡ true → sorted R xs ≡ xs
 sorted_itself R total xs up = sym (rising_sorted R total xs xs (IsPermutation-refl xs) up (Climbs-sorted R total xs (sorted-rises R total xs up)))
 

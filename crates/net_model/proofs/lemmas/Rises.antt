@@ -26,7 +26,7 @@ none_equal E R tie x (y ∷ ys) h =
     let later : list_any (E x) ys ≡ false = none_equal E R tie x ys (and_right (is_lt (R x y)) (list_all (λ z. is_lt (R x z)) ys) h) in
     rw (here, later) refl
 
--- the members of a list that rises differ
+-- the members of a strictly sorted list differ
 pub apart-rises : {X : Type 0} (E : X → X → Bool) (R : X → X → Ordering) → ((x y : X) → E x y ≡ is_eq (R x y)) → (xs : List X) → rises R xs ≡ true → apart E xs ≡ true
 apart-rises E R tie [] h = refl
 apart-rises E R tie (x ∷ xs) h =
@@ -95,7 +95,7 @@ sorted_at R S back (x ∷ xs) h (suc k) d lt =
 pub sorted_by-rises : {X : Type 0} (R S : X → X → Ordering) → ((x y : X) → is_lt (R x y) ≡ true → is_lt (S y x) ≡ false) → (xs : List X) → rises R xs ≡ true → IsSortedBy (λ x y. is_lt (S x y)) xs
 sorted_by-rises R S back xs h = λ k d low lt. sorted_at R S back xs h k d lt
 
--- a list that rises is sorted
+-- a strictly sorted list is sorted
 pub sorted-rises : {X : Type 0} (R : X → X → Ordering) → IsTotalOrder R → (xs : List X) → rises R xs ≡ true → IsSortedBy (λ x y. is_lt (R x y)) xs
 sorted-rises R total = sorted_by-rises R R (λ x y. lt_turned (R x y) (R y x) (total.antisymm x y))
 

@@ -160,7 +160,7 @@ module _ {X : Type 0} (R : X → X → Ordering) (total : IsTotalOrder R) where
   turned_eq r Equal e = ap is_eq e
   turned_eq r Greater e = ap is_eq e
 
-  -- the members of a list that rises, in any order, are put in order as that list
+  -- the members of a strictly sorted list, in any order, are put in order as that list
   pub rising_sorted : (xs ys : List X) → IsPermutation xs ys → rises R ys ≡ true → Climbs R ys → ys ≡ sorted R xs
   rising_sorted xs ys moved up climbs =
       let tie : X → X → Bool = λ x y. is_eq (R x y) in

@@ -1,7 +1,7 @@
 use Rattle.std.proofs.Common.{◌∙◌, ℕ, List, length, get_or, sym, ap, subst}
 use Rattle.net_model.specs.Dependence.{reaches}
 use Rattle.net_model.specs.declared.link.Link.{Link}
-use Rattle.net_model.proofs.lemmas.Arrows.{at_some}
+use Rattle.reach.proofs.lemmas.Positions.{at_some}
 use Rattle.net_model.specs.Positions.{IsAt}
 use Rattle.link_step.proofs.Cycles.{itself_cycles, reaching_cycles}
 use Rattle.link_step.proofs.cycle.makes_cycle.Goals as goal

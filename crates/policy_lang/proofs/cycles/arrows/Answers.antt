@@ -1,5 +1,5 @@
 use Rattle.std.proofs.Common.{◌∙◌}
-use Rattle.net_model.specs.Words.{positions}
+use Rattle.reach.specs.Positions.{positions}
 use Rattle.policy_model.specs.Policies.{names_capture}
 use Rattle.policy_lang.proofs.lemmas.Walks.{row_on}
 use Rattle.policy_lang.proofs.cycles.arrows.Goals as goal

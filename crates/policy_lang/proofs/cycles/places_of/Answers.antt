@@ -1,5 +1,5 @@
 use Rattle.std.proofs.Common.{◌∙◌, ◌+◌, ◌++◌, ◌∷◌, [], ℕ, List, cond, drop, sym, ap, append_assoc, Vec, Global}
-use Rattle.net_model.specs.Words.{positions}
+use Rattle.reach.specs.Positions.{positions}
 use Rattle.policy_model.specs.Policies.{have_name}
 use Rattle.policy_model.specs.declared.Capture.{Capture}
 use Rattle.policy_lang.proofs.lemmas.Walks.{passed}

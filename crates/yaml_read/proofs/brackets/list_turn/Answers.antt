@@ -1,6 +1,6 @@
 use Rattle.std.proofs.Common.{◌∙◌, List, ℕ, reverse, sym, ap, ap₂, arith}
 use Rattle.yaml_read.specs.declared.brackets.Bracket.{Bracket}
-use Rattle.yaml_read.specs.Bytes.{begins, tail}
+use Rattle.yaml_plain.specs.Bytes.{begins, tail}
 use Rattle.yaml_read.specs.Brackets.{behind, from_node}
 use Rattle.yaml_read.proofs.BracketLaws.{list_none, list_ends, list_goes}
 use Rattle.yaml_read.proofs.brackets.list_turn.Goals as goal

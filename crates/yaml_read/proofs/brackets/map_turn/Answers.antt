@@ -4,7 +4,7 @@ use Rattle.std.proofs.lemmas.List.{map_push}
 use Rattle.doc_tree.specs.declared.tree.Tree.{Tree}
 use Rattle.doc_tree.specs.declared.tree.Tree.TheVariants.{Null}
 use Rattle.yaml_read.specs.declared.brackets.Bracket.{Bracket}
-use Rattle.yaml_read.specs.Bytes.{begins, tail}
+use Rattle.yaml_plain.specs.Bytes.{begins, tail}
 use Rattle.yaml_read.specs.Flow.{next_key}
 use Rattle.yaml_read.specs.Brackets.{behind, from_value}
 use Rattle.yaml_read.proofs.Fronts.{Fails-same}

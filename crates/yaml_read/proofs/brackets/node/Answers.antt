@@ -4,7 +4,7 @@ use Rattle.doc_tree.specs.Shape.{Shape}
 use Rattle.doc_tree.specs.declared.tree.Tree.{Tree}
 use Rattle.yaml_read.specs.declared.brackets.Bracket.{Bracket}
 use Rattle.yaml_read.specs.declared.brackets.Bracket.TheVariants.{InMap}
-use Rattle.yaml_read.specs.Bytes.{tail}
+use Rattle.yaml_plain.specs.Bytes.{tail}
 use Rattle.yaml_read.specs.Keys.{Read, ◌>>=◌}
 use Rattle.yaml_read.specs.Brackets.{behind, inside}
 use Rattle.yaml_read.proofs.Fronts.{Fails-bind, Fails-same}

@@ -1,5 +1,5 @@
 use Rattle.std.proofs.Common.{◌∙◌, ◌||◌, List, ℕ, reverse, sym, ap, arith}
-use Rattle.yaml_read.specs.Bytes.{comma, right_brace, begins}
+use Rattle.yaml_plain.specs.Bytes.{comma, right_brace, begins}
 use Rattle.yaml_read.specs.Brackets.{behind, from_node}
 use Rattle.yaml_read.proofs.BracketLaws.{value_none, value_null, value_node}
 use Rattle.yaml_read.proofs.brackets.value.Goals as goal

@@ -3,7 +3,7 @@ use Rattle.std.proofs.lemmas.Result.{err_from_is_err_and}
 use Rattle.std.proofs.lemmas.List.{map_push}
 use Rattle.doc_tree.specs.Shape.{Shape, shape, pair_shape}
 use Rattle.doc_tree.specs.declared.tree.Tree.{Tree}
-use Rattle.yaml_read.specs.Bytes.{begins, tail}
+use Rattle.yaml_plain.specs.Bytes.{begins, tail}
 use Rattle.yaml_read.specs.Keys.{◌>>=◌}
 use Rattle.yaml_read.specs.Flow.{next_key, flow, flow_items, flow_pairs}
 use Rattle.yaml_read.proofs.Fronts.{behind_front, Fails-bind, Fails-same}

@@ -1,7 +1,7 @@
 use Rattle.std.proofs.Common.{◌≡◌, false, take, drop}
 use Rattle.std.specs.Prelude.{option_map}
 use Rattle.yaml_read.specs.Quoted.{double_quoted}
-use Rattle.yaml_read.proofs.Texts.{behind}
+use Rattle.yaml_plain.proofs.lemmas.Parts.{behind}
 use Rattle.yaml_read.proofs.quoted.double_quoted.Given as goal
 
 abbrev pub invariant-loop-i : goal.invariant-loop-i

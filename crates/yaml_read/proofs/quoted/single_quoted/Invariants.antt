@@ -1,7 +1,7 @@
 use Rattle.std.proofs.Common.{◌≡◌, false, length}
 use Rattle.std.specs.Prelude.{option_map}
 use Rattle.yaml_read.specs.Quoted.{single_quoted}
-use Rattle.yaml_read.proofs.Texts.{behind}
+use Rattle.yaml_plain.proofs.lemmas.Parts.{behind}
 use Rattle.yaml_read.proofs.quoted.single_quoted.Given as goal
 
 abbrev pub decreases-loop-rest : goal.decreases-loop-rest

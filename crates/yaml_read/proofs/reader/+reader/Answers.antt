@@ -3,7 +3,7 @@ use Rattle.std.proofs.lemmas.Result.{err_from_is_err_and}
 use Rattle.std.proofs.lemmas.List.{map_push}
 use Rattle.doc_tree.specs.Shape.{Shape, shape, pair_shape}
 use Rattle.doc_tree.specs.declared.tree.Tree.{Tree}
-use Rattle.yaml_read.specs.Bytes.{tail}
+use Rattle.yaml_plain.specs.Bytes.{tail}
 use Rattle.yaml_read.specs.Keys.{◌>>=◌}
 use Rattle.yaml_read.specs.Rows.{is_dash}
 use Rattle.yaml_read.specs.Reading.{value_of, items, pairs, node}

@@ -2,7 +2,7 @@ use Rattle.std.proofs.Common.{◌≡◌, List, sym, ap, subst, ◌∙◌}
 use Rattle.std.specs.List.{position}
 use Rattle.std.specs.Option.{option_to_list}
 use Rattle.net_model.specs.Name.{same_bytes}
-use Rattle.net_model.specs.Words.{positions}
+use Rattle.reach.specs.Positions.{positions}
 use Rattle.net_model.specs.Links.{is_named}
 use Rattle.net_model.specs.declared.Link.{Link}
 use Rattle.link_rules.proofs.Below.{indexed_place}

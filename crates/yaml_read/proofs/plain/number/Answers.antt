@@ -1,6 +1,0 @@
-use Rattle.std.proofs.Common.{◌∙◌}
-use Rattle.yaml_read.proofs.lemmas.Numbers.{number_is}
-use Rattle.yaml_read.proofs.plain.number.Goals as goal
-
-pub returns : goal.returns
-returns c = c.ok.ensures.value ∙ number_is c.args.text.now c.requires c.parse.result c.parse.ensures.value.0
