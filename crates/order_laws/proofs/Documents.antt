@@ -6,7 +6,8 @@ use Rattle.link_schema.specs.Links.{links}
 use Rattle.route_schema.specs.Routes.{routes}
 use Rattle.route_schema.specs.Rules.{rules}
 use Rattle.route_schema.specs.Dns.{dns}
-use Rattle.route_schema.specs.Document.{routes_under, rules_under, dns_under, parts, document}
+use Rattle.route_schema.specs.Under.{routes_under, rules_under, dns_under}
+use Rattle.document_schema.specs.Document.{parts, document}
 use Rattle.order_laws.proofs.Readings.{alike_value, alike_then}
 use Rattle.order_laws.proofs.Tables.{ReadsAlike, under_alike}
 use Rattle.order_laws.proofs.Links.{LinkOrders, links_alike}

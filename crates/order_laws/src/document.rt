@@ -4,7 +4,7 @@ ghost use Rattle.doc_tree.specs.Order.{in_order};
 ghost use Rattle.doc_tree.specs.Shape.{Shape, is_distinct};
 ghost use Rattle.link_schema.specs.Hardware.{hardware};
 ghost use Rattle.link_schema.specs.Links.{links};
-ghost use Rattle.route_schema.specs.Document.{document};
+ghost use Rattle.document_schema.specs.Document.{document};
 ghost use Rattle.order_laws.specs.Alike.{AreAlike};
 ghost use Rattle.order_laws.specs.Reordered.{IsReordered};
 

@@ -11,9 +11,9 @@ ghost use Rattle.order_reading.specs.Reading.{Answers, itself};
 
 use doc_tree::{JsonFault, Tree, tree_of_json};
 use document_model::Doc;
+use document_schema::doc_of;
 use link_schema::hardware_of;
 use net_model::{Items, Link};
-use route_schema::doc_of;
 use std::alloc::Global;
 use top_model::{Cause, DocFault};
 use tree_schema::SchemaFault;

@@ -4,10 +4,10 @@ ghost use Rattle.document_model.specs.Entries.{is_document};
 
 use doc_tree::Tree;
 use document_model::Doc;
+use document_schema::doc_of;
 use link_schema::hardware_of;
 use merge_core::merge;
 use net_model::{Dns, Items, Net};
-use route_schema::doc_of;
 use std::alloc::Global;
 use yaml_read::tree_of_yaml;
 

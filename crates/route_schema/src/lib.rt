@@ -1,11 +1,9 @@
-//! What a document says as a whole: its interfaces, routes, rules and DNS.
+//! What a document says of routes, rules and DNS.
 #![tactic(auto)]
 
 // `dns-resolver`.
 mod dns;
-// A whole document.
-mod document;
-// What isn't whole yet: a rule whose target isn't chosen, and a document without its notes.
+// What isn't whole yet: a rule whose target isn't chosen.
 mod draft;
 // The order of the keys in a map.
 mod order;
@@ -13,8 +11,10 @@ mod order;
 mod routes;
 // `route-rules`.
 mod rules;
+// What stands under the top keys of routes, rules and DNS.
+mod under;
 // What the values of routes, rules and DNS are looked at as.
 mod words;
 
-pub use document::doc_of;
 pub use order::order_laws;
+pub use under::{read_dns, read_routes, read_rules};

@@ -12,7 +12,7 @@ use Rattle.net_model.proofs.lemmas.FactsHold.{facts}
 use Rattle.net_search.specs.Ranges.{Ranges}
 use Rattle.tree_schema.specs.Reading.{Steps, Reading, given}
 use Rattle.tree_schema.specs.Faults.{told}
-use Rattle.route_schema.specs.Document.{document as read_document, doc}
+use Rattle.document_schema.specs.Document.{document as read_document, doc}
 use Rattle.order_laws.specs.Alike.{AreAlike}
 use Rattle.order_laws.specs.Reordered.{IsReordered}
 use Rattle.show_core.specs.Network.{whole_tree}

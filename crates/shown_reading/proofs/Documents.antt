@@ -19,7 +19,8 @@ use Rattle.tree_schema.specs.Reading.{given, with_value, and_then, read_list}
 use Rattle.link_schema.specs.Interface.{interfaces}
 use Rattle.link_schema.specs.Links.{links}
 use Rattle.route_schema.specs.Dns.{dns}
-use Rattle.route_schema.specs.Document.{routes_under, rules_under, dns_under, parts, doc}
+use Rattle.route_schema.specs.Under.{routes_under, rules_under, dns_under}
+use Rattle.document_schema.specs.Document.{parts, doc}
 use Rattle.route_schema.specs.Routes.{route, routes}
 use Rattle.route_schema.specs.Rules.{rule, rules}
 use Rattle.shown_model.specs.Shown.{shown_link, shown_route, shown_rule, shown_dns}

@@ -6,7 +6,7 @@ use Rattle.show_core.specs.Network.{whole_tree}
 use Rattle.tree_schema.specs.Faults.{told}
 use Rattle.tree_schema.specs.Reading.{given}
 use Rattle.link_schema.specs.Links.{links}
-use Rattle.route_schema.specs.Document.{parts, document, doc}
+use Rattle.document_schema.specs.Document.{parts, document, doc}
 use Rattle.shown_model.specs.Shown.{shown_link, shown_route, shown_rule, shown_dns, shown_doc}
 use Rattle.shown_model.specs.Printable.{IsPrintable}
 

@@ -78,6 +78,10 @@ pub from-with_value : {X Y : Type 0} (r : Reached) (f : X → Y) (reading : Read
 from-with_value r f (Ok (x, notes)) = refl
 from-with_value r f (Err (reason, place)) = refl
 
+-- where the one gives a value so does the other
+pub with_value_ok : {X Y : Type 0} (r new : Reached) (f : X → Y) (reading : Reading X) (x : X) → from r reading ≡ Ok (x, new) → from r (with_value f reading) ≡ Ok (f x, new)
+with_value_ok r new f reading x read = from-with_value r f reading ∙ ap (on_value f) read
+
 -- a reading ends where it begins
 abbrev pub ends_at : {X : Type 0} → Steps → Result (X × Reached) (Reason × Steps) → Type 0
 ends_at here (Ok (x, r)) = r.here ≡ here

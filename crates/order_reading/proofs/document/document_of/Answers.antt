@@ -1,6 +1,6 @@
 use Rattle.std.proofs.Common.{refl}
 use Rattle.doc_tree.specs.Shape.{shape}
-use Rattle.route_schema.specs.Document.{document as parts_of, doc as with_notes}
+use Rattle.document_schema.specs.Document.{document as parts_of, doc as with_notes}
 use Rattle.top_model.specs.Orders.{with_fault, document_of_tree}
 use Rattle.top_model.specs.declared.DocFault.TheVariants.{Schema}
 use Rattle.order_reading.proofs.Documents.{said, unsaid}

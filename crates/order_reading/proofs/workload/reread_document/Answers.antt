@@ -1,6 +1,6 @@
 use Rattle.std.proofs.lemmas.Result.{err_from_is_err_and}
 use Rattle.doc_tree.specs.Shape.{shape}
-use Rattle.route_schema.specs.Document.{document as parts_of, doc as with_notes}
+use Rattle.document_schema.specs.Document.{document as parts_of, doc as with_notes}
 use Rattle.top_model.specs.Orders.{reread, document_of_tree}
 use Rattle.order_reading.proofs.Documents.{said, unsaid}
 use Rattle.order_reading.proofs.Workloads.{again, unread}

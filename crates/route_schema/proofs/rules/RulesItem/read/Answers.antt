@@ -4,7 +4,7 @@ use Rattle.tree_schema.specs.Reading.{and_then}
 use Rattle.tree_schema.specs.Tables.{read_map}
 use Rattle.tree_schema.proofs.lemmas.Reaching.{next_ok}
 use Rattle.route_schema.specs.Rules.{rule_table, no_rule, checked_rule}
-use Rattle.route_schema.proofs.Following.{with_value_ok}
+use Rattle.tree_schema.proofs.lemmas.Reaching.{with_value_ok}
 use Rattle.route_schema.proofs.rules.RulesItem.read.Goals as goal
 
 pub returns-clause-read : goal.returns-clause-read

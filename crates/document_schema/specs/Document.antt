@@ -1,5 +1,5 @@
 -- A whole document: the top keys and the interfaces, then the routes, the rules and DNS.
-use Rattle.std.specs.Prelude.{List, [], Option, None}
+use Rattle.std.specs.Prelude.{List, Option}
 use Rattle.base_model.specs.declared.Path.{Path}
 use Rattle.document_model.specs.declared.LinkEntry.{LinkEntry}
 use Rattle.document_model.specs.declared.RouteEntry.{RouteEntry}
@@ -8,23 +8,9 @@ use Rattle.document_model.specs.declared.DnsEntry.{DnsEntry}
 use Rattle.document_model.specs.declared.Doc.{Doc}
 use Rattle.doc_tree.specs.Shape.{Shape}
 use Rattle.tree_schema.specs.Reading.{Reading, with_value, and_then}
-use Rattle.tree_schema.specs.Tables.{read_under}
 use Rattle.link_schema.specs.Links.{links}
-use Rattle.route_schema.specs.Routes.{routes}
-use Rattle.route_schema.specs.Rules.{rules}
-use Rattle.route_schema.specs.Dns.{dns}
-use Rattle.route_schema.specs.declared.draft.Parts.{Parts}
-
--- ---- the sections after the interfaces
-
-abbrev pub routes_under : Shape → Reading (List RouteEntry)
-routes_under s = read_under "routes" routes [] s
-
-abbrev pub rules_under : Shape → Reading (List RuleEntry)
-rules_under s = read_under "route-rules" rules [] s
-
-abbrev pub dns_under : Shape → Reading (Option DnsEntry)
-dns_under s = read_under "dns-resolver" dns None s
+use Rattle.route_schema.specs.Under.{routes_under, rules_under, dns_under}
+use Rattle.document_schema.specs.declared.draft.Parts.{Parts}
 
 -- ---- the document but for its notes
 

@@ -5,10 +5,7 @@ use Rattle.base_model.specs.declared.Path.{Path}
 use Rattle.tree_schema.specs.Reading.{Reading, with_value, and_then}
 use Rattle.tree_schema.specs.Faults.{told}
 use Rattle.tree_schema.specs.Reached.{Reached, reached, from}
-use Rattle.tree_schema.proofs.lemmas.Reaching.{next_ok, from-with_value, on_value, told-from, told_from}
-
-pub with_value_ok : {X Y : Type 0} (r new : Reached) (f : X → Y) (reading : Reading X) (x : X) → from r reading ≡ Ok (x, new) → from r (with_value f reading) ≡ Ok (f x, new)
-with_value_ok r new f reading x read = from-with_value r f reading ∙ ap (on_value f) read
+use Rattle.tree_schema.proofs.lemmas.Reaching.{next_ok, with_value_ok, told-from, told_from}
 
 pub four_ok : {A B C D X : Type 0} (make : A → B → C → D → X) (r r₁ r₂ r₃ r₄ : Reached) (ra : Reading A) (rb : Reading B) (rc : Reading C) (rd : Reading D) (a : A) (b : B) (c : C) (d : D)
     → from r ra ≡ Ok (a, r₁) → from r₁ rb ≡ Ok (b, r₂) → from r₂ rc ≡ Ok (c, r₃) → from r₃ rd ≡ Ok (d, r₄)

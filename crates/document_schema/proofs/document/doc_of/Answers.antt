@@ -7,9 +7,9 @@ use Rattle.base_model.specs.Lists.{is_short}
 use Rattle.document_model.specs.Entries.{is_route_entry, is_rule_entry, has_short_link}
 use Rattle.document_model.proofs.lemmas.Read.{read_links_hold, read_links_are_short}
 use Rattle.doc_tree.specs.Shape.{shape}
-use Rattle.route_schema.specs.Document.{document, doc}
-use Rattle.route_schema.proofs.Following.{told_ok}
-use Rattle.route_schema.proofs.document.doc_of.Goals as goal
+use Rattle.document_schema.specs.Document.{document, doc}
+use Rattle.document_schema.proofs.Following.{told_ok}
+use Rattle.document_schema.proofs.document.doc_of.Goals as goal
 
 pub returns-in-Ok-clause-read : goal.returns-in-Ok-clause-read
 returns-in-Ok-clause-read c =

@@ -6,41 +6,15 @@ ghost use Rattle.base_model.specs.Lists.{is_short};
 ghost use Rattle.document_model.specs.Entries.{is_document, is_route_entry, is_rule_entry, passes, has_short_dns, has_short_doc, are_read_links};
 ghost use Rattle.tree_schema.specs.Reached.{Answers};
 ghost use Rattle.tree_schema.specs.Faults.{Tells};
-ghost use Rattle.route_schema.specs.Document.{routes_under, rules_under, dns_under, document, doc};
+ghost use Rattle.document_schema.specs.Document.{document, doc};
 
-use crate::dns::DnsSection;
 use crate::draft::Parts;
-use crate::routes::RouteSection;
-use crate::rules::RuleSection;
 use doc_tree::Tree;
-use document_model::{DnsEntry, Doc, LinkEntry, RouteEntry, RuleEntry};
+use document_model::Doc;
 use link_schema::read_links;
-use net_model::Items;
+use route_schema::{read_dns, read_routes, read_rules};
 use std::alloc::Global;
-use tree_schema::{Reader, SchemaFault, Stop, fault_of, read_under};
-
-fn read_routes(reader: &mut Reader, tree: &Tree) -> Result<Items<RouteEntry>, Stop>
-    ensures read { Answers (routes_under (shape tree.now)) reader.old reader.new result }
-    ensures right { IfOk result (λ routes. is_short routes && list_all is_route_entry routes ≡ true) }
-{
-    let none = Items::of(Vec::new(reader.alloc()));
-    read_under(&RouteSection, "routes", none, reader, tree)
-}
-
-fn read_rules(reader: &mut Reader, tree: &Tree) -> Result<Items<RuleEntry>, Stop>
-    ensures read { Answers (rules_under (shape tree.now)) reader.old reader.new result }
-    ensures right { IfOk result (λ rules. is_short rules && list_all is_rule_entry rules ≡ true) }
-{
-    let none = Items::of(Vec::new(reader.alloc()));
-    read_under(&RuleSection, "route-rules", none, reader, tree)
-}
-
-fn read_dns(reader: &mut Reader, tree: &Tree) -> Result<Option<DnsEntry>, Stop>
-    ensures read { Answers (dns_under (shape tree.now)) reader.old reader.new result }
-    ensures right { IfOk result (λ dns. passes has_short_dns dns ≡ true) }
-{
-    read_under(&DnsSection, "dns-resolver", None, reader, tree)
-}
+use tree_schema::{Reader, SchemaFault, Stop, fault_of};
 
 fn read_parts(reader: &mut Reader, tree: &Tree) -> Result<Parts, Stop>
     ensures read { Answers (document (shape tree.now)) reader.old reader.new result }
