@@ -19,7 +19,7 @@ use engine_core::{apply, recover};
 use engine_model::{ApplyFault, ApplyOpts, BackFault, Left, Recovered};
 use host_core::{Area, DumpFault, Host, Sink, Source};
 use net_model::Net;
-use plain_commands::document_on;
+use policy_document::document_on;
 use policy_lang::Policy;
 use std::alloc::Global;
 use top_model::{Cause, Report};

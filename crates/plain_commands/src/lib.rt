@@ -16,6 +16,6 @@ mod init;
 
 pub use init::init_run;
 pub use plan::plan_run;
-pub use policy::{document_on, plan_policy_run, policy_run};
+pub use policy::{plan_policy_run, policy_run};
 pub use show::show_run;
 pub use simulate::simulate_run;

@@ -1,11 +1,8 @@
 //! The commands that evaluate a policy on the network as it is: its value is printed, or a plan for the document that it is.
-ghost use Rattle.std.specs.Prelude.{◌≡◌, ◌≤◌, ◌&&◌, ℕ, true, IfOk};
-ghost use Rattle.doc_tree.specs.Shape.{shape, is_distinct, has_short_lists, levels};
-ghost use Rattle.doc_tree.specs.declared.limits.TheConstants.{MAX_LEVELS};
-ghost use Rattle.document_model.specs.Entries.{is_document, has_short_doc};
+ghost use Rattle.std.specs.Prelude.{◌≡◌, ◌≤◌, ℕ, true};
+ghost use Rattle.document_model.specs.Entries.{is_document};
 ghost use Rattle.merge_model.specs.MergedNet.{merge};
 ghost use Rattle.policy_lang.specs.Held.{data_of};
-ghost use Rattle.order_reading.specs.Reading.{Answers, itself};
 ghost use Rattle.top_model.specs.Machine.{say_value, plan_to, plan_read};
 ghost use Rattle.top_model.specs.Orders.{value_on, document_on, evaluating, planning_policy};
 ghost use Rattle.top_model.specs.Told.{PlanErr};
@@ -18,41 +15,14 @@ use crate::look::look;
 use crate::plan::planned_of;
 use answer_text::{note_text, tell_done, tell_refused};
 use base_model::OutOfMemory;
-use doc_tree::Tree;
 use document_model::Doc;
 use host_core::{Host, Sink, Source};
 use net_model::Net;
-use order_reading::{document_of, policy_cause};
+use policy_document::{document_on, value_on};
 use policy_lang::Policy;
-use policy_values::value_of;
-use show_core::tree_of_net;
 use std::alloc::Global;
 use top_model::{Cause, Report};
 use yaml_text::yaml_of_tree;
-
-// The value of a policy on a network, which is seen as `show` prints it.
-fn value_on(alloc: Global, policy: &Policy, net: &Net) -> Result<Tree, Cause>
-    ensures value { Answers shape (value_on (data_of policy.now) net.now) result }
-    ensures distinct { IfOk result (λ tree. is_distinct (shape tree) ≡ true) }
-    ensures depth { IfOk result (λ tree. levels (shape tree) ≤ MAX_LEVELS) }
-{
-    let running = tree_of_net(alloc, net, None)?;
-    match value_of(alloc, &running, policy) {
-        Ok(tree) => Ok(tree),
-        Err(fault) => Err(policy_cause(fault)),
-    }
-}
-
-/// The document that a policy is on a network, which it sees as `show` prints it: the document that its value is read as.
-///
-/// It answers `DocRefused` where the policy has no value on that network or its value is no document, and `OutOfMemory`.
-pub fn document_on(alloc: Global, policy: &Policy, net: &Net) -> Result<Doc, Cause>
-    ensures read { Answers itself (document_on (data_of policy.now) net.now) result }
-    ensures right { IfOk result (λ doc. is_document doc && has_short_doc doc ≡ true) }
-{
-    let tree = value_on(alloc, policy, net)?;
-    document_of(alloc, &tree)
-}
 
 // The text of a policy's value on a network.
 fn value_text(alloc: Global, policy: &Policy, net: &Net) -> Result<Vec<u8>, Cause>

@@ -5,7 +5,6 @@ use Rattle.std.specs.declared.alloc.Global.{Global}
 use Rattle.base_model.specs.declared.path.PathStep.TheVariants.{Key}
 use Rattle.doc_tree.specs.Shape.{Shape, shape, nothing, levels}
 use Rattle.doc_tree.specs.declared.limits.TheConstants.{MAX_LEVELS}
-use Rattle.doc_tree.specs.declared.Tree.{Tree}
 use Rattle.tree_schema.specs.declared.SchemaFault.{SchemaFault}
 use Rattle.net_model.specs.NetData.{NetData}
 use Rattle.document_model.specs.declared.Doc.{Doc}
@@ -17,13 +16,11 @@ use Rattle.policy_model.specs.Places.{Steps as Way, below, places, filled}
 use Rattle.policy_model.specs.Values.{PolicyData, first_empty, first_nowhere, place_value, nodes, unless, within_limits, filled_or, policy_value}
 use Rattle.policy_model.specs.declared.PolicyFault.{PolicyFault}
 use Rattle.policy_model.specs.declared.PolicyFault.TheVariants as policy_fault
-use Rattle.policy_lang.specs.Answers.{GivesTree}
 use Rattle.host_core.specs.HostView.{HostView, IsLawfulHost}
 use Rattle.host_core.specs.Streams.{SinkView}
 use Rattle.merge_model.specs.MergedNet.{merge}
 use Rattle.engine_model.specs.declared.Left.TheVariants as left
 use Rattle.engine_model.proofs.lemmas.Leading.{kept_stays}
-use Rattle.order_reading.specs.Faults.{policy_cause}
 use Rattle.order_reading.specs.Reading.{Answers, itself}
 use Rattle.top_model.specs.Said.{Said, Says, evaluated}
 use Rattle.top_model.specs.Orders.{Text, Order, evaluating, planning_policy, committing, rolling_back, recovering, and_then, with_fault, document_of_tree, value_on, document_on}
@@ -494,42 +491,7 @@ module _ (r : Run) (p : PolicyData) (in_batch : Bool) where
       → Spoken r.sinks_tell cause [] (error_line cause) r.out r.out_after r.err r.err_after r.report → Told r (Ok order) (Err cause)
   told_none cause f spoken = told_refused r (Ok order) cause [] (none_line cause f) spoken
 
--- ---- the value and the document on a network
-
-pub value_read : (p : PolicyData) (net : NetData) (running : Shape) (tree : Tree) → running ≡ network_tree net None → GivesTree (policy_value running p) (Ok tree) → value_on p net ≡ Ok (shape tree)
-unfolding value_on
-value_read p net running tree same is = rw (← same, is) refl
-
-pub value_not : (p : PolicyData) (net : NetData) (running : Shape) (e : PolicyFault) → running ≡ network_tree net None → GivesTree (policy_value running p) (Err e) → Answers shape (value_on p net) (Err (policy_cause e))
-unfolding value_on
-value_not p net running e same is = subst (λ (s : Shape). Answers shape (with_fault Policy (policy_value s p)) (Err (policy_cause e))) same (go (policy_value running p) e is)
-  where
-    refused : (r : Result Shape PolicyFault) (e : PolicyFault) → r ≡ Err e → with_fault Policy r ≡ Err (DocRefused (Policy e))
-    refused r e is = rw is refl
-
-    go : (r : Result Shape PolicyFault) (e : PolicyFault) → GivesTree r (Err e) → Answers shape (with_fault Policy r) (Err (policy_cause e))
-    go r policy_fault.OutOfMemory is = tt
-    go r (policy_fault.WrongShape path) is = refused r (policy_fault.WrongShape path) is
-    go r (policy_fault.BadExpression path) is = refused r (policy_fault.BadExpression path) is
-    go r (policy_fault.UnknownCapture path) is = refused r (policy_fault.UnknownCapture path) is
-    go r (policy_fault.CaptureCycle path) is = refused r (policy_fault.CaptureCycle path) is
-    go r (policy_fault.NoValue path) is = refused r (policy_fault.NoValue path) is
-    go r policy_fault.TooDeep is = refused r policy_fault.TooDeep is
-    go r policy_fault.TooLarge is = refused r policy_fault.TooLarge is
-
-pub document_read : (p : PolicyData) (net : NetData) (tree : Shape) (result : Result Doc Cause) → value_on p net ≡ Ok tree → Answers itself (with_fault Schema (document_of_tree tree)) result
-    → Answers itself (document_on p net) result
-unfolding document_on
-document_read p net tree result is h = rw is h
-
-pub document_not : (p : PolicyData) (net : NetData) (cause : Cause) → Answers shape (value_on p net) (Err cause) → Answers itself (document_on p net) (Err cause)
-unfolding document_on
-document_not p net (DocRefused fault) is = rw is refl
-document_not p net (BadLine n) is = rw is refl
-document_not p net (BatchLine n) is = rw is refl
-document_not p net BatchLarge is = rw is refl
-document_not p net OutOfMemory is = tt
-document_not p net cause is = absurd is
+-- ---- the text of a value
 
 -- the value is said, or why there is none
 pub value_text : (p : PolicyData) (net : NetData) (cause : Cause) → Answers shape (value_on p net) (Err cause) → TextOf (λ n. say_value (value_on p n)) net (Err cause)

@@ -1,8 +1,8 @@
 use Rattle.std.proofs.lemmas.Result.{err_from_is_err_and}
 use Rattle.doc_tree.specs.Shape.{shape}
 use Rattle.policy_lang.specs.Held.{data_of}
-use Rattle.command_laws.proofs.lemmas.Evaluates.{document_read, document_not}
-use Rattle.plain_commands.proofs.policy.document_on.Goals as goal
+use Rattle.policy_document.proofs.Readings.{document_read, document_not}
+use Rattle.policy_document.proofs.document_on.Goals as goal
 
 pub returns-in_err-tree-clause-read : goal.returns-in_err-tree-clause-read
 returns-in_err-tree-clause-read c =
