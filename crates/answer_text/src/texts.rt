@@ -12,7 +12,8 @@ ghost use Rattle.top_model.specs.Texts.{note, note_lines};
 
 use base_model::{OutOfMemory, Path, write_path};
 use doc_tree::{Tree, json_of_tree};
-use net_model::{Call, Net};
+use net_core::Net;
+use net_model::Call;
 use net_text::write_call_line;
 use show_core::tree_of_net;
 use std::alloc::Global;

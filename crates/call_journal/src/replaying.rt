@@ -5,7 +5,7 @@ ghost use Rattle.call_journal.specs.Replay.{replayed, LedTo};
 use crate::fault::ReplayFault;
 use crate::record::{is_open_at, record_at};
 use kernel_step::step;
-use net_model::Net;
+use net_core::Net;
 use std::alloc::Global;
 
 /// Carries out the records that begin the bytes, up to the first gate that isn't open, and answers the place of that

@@ -10,8 +10,8 @@ use crate::{Phase, Seen, peek};
 use byteorder::{BigEndian, ByteOrder};
 use host_core::{Failed, Host};
 use image_slot::LIMIT;
+use net_core::Net;
 use net_image::{ImageFault, decode};
-use net_model::Net;
 use std::alloc::Global;
 
 /// Why a checkpoint wasn't loaded.

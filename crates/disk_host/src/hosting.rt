@@ -13,7 +13,8 @@ use crate::host::DiskHost;
 use crate::making::establish;
 use crate::read::{SlotFault, read_synced};
 use host_core::{CallFault, Disk, DumpFault, Failed, Host, MakeFault, raised};
-use net_model::{Call, Net};
+use net_core::Net;
+use net_model::Call;
 use std::alloc::Global;
 
 impl<D: Disk> DiskHost<D> {

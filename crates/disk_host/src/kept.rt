@@ -2,7 +2,7 @@
 ghost use Rattle.std.specs.Prelude.{◌≡◌, ◌⊎◌, None, Some};
 
 use base_model::OutOfMemory;
-use net_model::Net;
+use net_core::Net;
 
 /// The network on a disk, and where the next record goes, so that a kernel call needs no reading.
 pub struct Kept {

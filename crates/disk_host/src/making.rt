@@ -13,7 +13,7 @@ use crate::changing::image_and_slot;
 use crate::read::{SlotFault, read_synced, selected};
 use crate::slot::{SECOND, store, write_synced};
 use host_core::{Disk, Failed, MakeFault};
-use net_model::Net;
+use net_core::Net;
 use std::alloc::Global;
 
 // Whether the gate of the checkpoint area is open, or the area is empty.

@@ -2,7 +2,7 @@
 use Rattle.std.proofs.Common.{◌≡◌, ◌∙◌, ◌∷◌, ◌++◌, ℕ, suc, ◌<◌, List, [], Some, None, map, refl, sym, ap, ap₂, string_bytes, arith}
 use Rattle.serde_json.specs.View.{view, items_view, members_view}
 use Rattle.serde_json.proofs.Views.{Entry, view-Array, view-Object}
-use Rattle.doc_tree.proofs.Levels.{within-array, within-object}
+use Rattle.serde_json.specs.Data.{Data, Items, Members, array, object}
 use Rattle.std.specs.declared.alloc.Global.{Global}
 use Rattle.std.proofs.Common.{◌-◌, Vec, BTreeMap, String, subst}
 use Rattle.serde_json.specs.declared.value.Value as Value
@@ -147,22 +147,31 @@ module _ (n : ℕ) (entries it left : List Entry) (pairs : List (List ℕ × Tre
 
 -- ---- a value with items or members, from those
 
-pub stopped : (n : ℕ) (value same : Value) (r : Result Tree Stop) (s : Stop) → value ≡ same → r ≡ Err s → MakesTree n (view same) (Err s) → MakesTree n (view value) r
-stopped n value same r s is stop h = subst (λ v. MakesTree n (view v) r) (sym is) (subst (λ x. MakesTree n (view same) x) (sym stop) h)
+pub array_made : (n : ℕ) (ds : Items) (trees : Vec Tree Global) → MakesItems n ds (Ok trees) → MakesTree (suc n) (array ds) (Ok (Tree.List trees))
+array_made n ds trees made = (made.0, made.1, shape-List trees ∙ ap list made.2)
 
-pub array_tree : (n : ℕ) (items : Vec Value Global) (trees : Vec Tree Global) → 0 < n → MakesItems (n - 1) (items_view items.items) (Ok trees) → MakesTree n (view (Value.Array items)) (Ok (Tree.List trees))
-array_tree n items trees h made = rw (view-Array items, shape-List trees) (sym (within-array n (items_view items.items) h) ∙ made.0, made.1, ap list made.2)
+pub array_stop : (n : ℕ) (ds : Items) (s : Stop) → MakesItems n ds (Err s) → MakesTree (suc n) (array ds) (Err s)
+array_stop n ds (stop.NotWhole steps) found = found
+array_stop n ds stop.TooDeep found = found
+array_stop n ds stop.OutOfMemory found = tt
 
-pub array_stop : (n : ℕ) (items : Vec Value Global) (s : Stop) → 0 < n → MakesItems (n - 1) (items_view items.items) (Err s) → MakesTree n (view (Value.Array items)) (Err s)
-array_stop n items (stop.NotWhole steps) h found = rw (view-Array items) found
-array_stop n items stop.TooDeep h found = rw (view-Array items) (sym (within-array n (items_view items.items) h) ∙ found)
-array_stop n items stop.OutOfMemory h found = tt
+pub object_made : (n : ℕ) (ms : Members) (pairs : Vec (List ℕ × Tree) Global) → MakesPairs n ms (Ok pairs) → MakesTree (suc n) (object ms) (Ok (Tree.Map pairs))
+object_made n ms pairs made = (made.0, made.1, shape-Map pairs ∙ ap mapping made.2)
 
-pub object_tree : (n : ℕ) (members : BTreeMap (String Global) Value) (pairs : Vec (List ℕ × Tree) Global) → 0 < n → MakesPairs (n - 1) (members_view members.entries) (Ok pairs)
-    → MakesTree n (view (Value.Object members)) (Ok (Tree.Map pairs))
-object_tree n members pairs h made = rw (view-Object members, shape-Map pairs) (sym (within-object n (members_view members.entries) h) ∙ made.0, made.1, ap mapping made.2)
+pub object_stop : (n : ℕ) (ms : Members) (s : Stop) → MakesPairs n ms (Err s) → MakesTree (suc n) (object ms) (Err s)
+object_stop n ms (stop.NotWhole steps) found = found
+object_stop n ms stop.TooDeep found = found
+object_stop n ms stop.OutOfMemory found = tt
 
-pub object_stop : (n : ℕ) (members : BTreeMap (String Global) Value) (s : Stop) → 0 < n → MakesPairs (n - 1) (members_view members.entries) (Err s) → MakesTree n (view (Value.Object members)) (Err s)
-object_stop n members (stop.NotWhole steps) h found = rw (view-Object members) found
-object_stop n members stop.TooDeep h found = rw (view-Object members) (sym (within-object n (members_view members.entries) h) ∙ found)
-object_stop n members stop.OutOfMemory h found = tt
+-- what was made of a value's items or members was made of the value
+made_of : (n : ℕ) (value : Value) (d : Data) (r : Result Tree Stop) → 0 < n → view value ≡ d → MakesTree (suc (n - 1)) d r → MakesTree n (view value) r
+made_of n value d r h is made =
+    let count : suc (n - 1) ≡ n = omega (arith, h) in
+    subst (λ x. MakesTree n x r) (sym is) (subst (λ k. MakesTree k d r) count made)
+
+pub of_array : (n : ℕ) (value : Value) (items : Vec Value Global) (r : Result Tree Stop) → 0 < n → value ≡ Value.Array items → MakesTree (suc (n - 1)) (array (items_view items.items)) r → MakesTree n (view value) r
+of_array n value items r h is made = made_of n value (array (items_view items.items)) r h (ap view is ∙ view-Array items) made
+
+pub of_object : (n : ℕ) (value : Value) (members : BTreeMap (String Global) Value) (r : Result Tree Stop) → 0 < n → value ≡ Value.Object members
+    → MakesTree (suc (n - 1)) (object (members_view members.entries)) r → MakesTree n (view value) r
+of_object n value members r h is made = made_of n value (object (members_view members.entries)) r h (ap view is ∙ view-Object members) made

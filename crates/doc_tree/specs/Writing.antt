@@ -1,12 +1,10 @@
 -- What the parts of the writer answer; its whole answer is in JsonText.
-use Rattle.std.specs.Prelude.{◌≡◌, true, false, Result, Ok, Err, unwrap_or, Vec, String}
-use Rattle.std.specs.BTreeMap.{BTreeMap}
-use Rattle.std.specs.declared.alloc.Global.{Global}
+use Rattle.std.specs.Prelude.{◌≡◌, true, false, Result, Ok, Err, unwrap_or}
 use Rattle.serde_json.specs.Data.{Data, null, boolean, string, array, object, Items, no_items, item, Members, no_members, put}
-use Rattle.serde_json.specs.View.{view, items_view, members_view}
+use Rattle.serde_json.specs.View.{view}
 use Rattle.serde_json.specs.declared.value.Value.{Value}
 use Rattle.doc_tree.specs.Shape.{Shape, nothing, truth, whole, text, list, mapping, Shapes, no_shapes, more, Pairs, no_pairs, pair}
-use Rattle.doc_tree.specs.JsonText.{number_of, fits, shapes_fit, pairs_fit}
+use Rattle.doc_tree.specs.JsonText.{number_of, fits}
 use Rattle.doc_tree.specs.declared.write.TextFault.{TextFault}
 use Rattle.doc_tree.specs.declared.write.TextFault.TheVariants.{WideInt, OutOfMemory}
 
@@ -32,13 +30,3 @@ abbrev pub MakesValue : Shape → Result Value TextFault → Type 0
 MakesValue s (Ok v) = (fits s ≡ true) × (view v ≡ value_of s)
 MakesValue s (Err WideInt) = fits s ≡ false
 MakesValue s (Err OutOfMemory) = Unit {0}
-
-abbrev pub MakesList : Shapes → Result (Vec Value Global) TextFault → Type 0
-MakesList ss (Ok v) = (shapes_fit ss ≡ true) × (items_view v.items ≡ values_of ss)
-MakesList ss (Err WideInt) = shapes_fit ss ≡ false
-MakesList ss (Err OutOfMemory) = Unit {0}
-
-abbrev pub MakesMap : Pairs → Result (BTreeMap (String Global) Value) TextFault → Type 0
-MakesMap ps (Ok m) = (pairs_fit ps ≡ true) × (members_view m.entries ≡ members_put ps no_members)
-MakesMap ps (Err WideInt) = pairs_fit ps ≡ false
-MakesMap ps (Err OutOfMemory) = Unit {0}

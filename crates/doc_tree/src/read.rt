@@ -1,10 +1,11 @@
 //! Trees from JSON (RFC 8259).
-ghost use Rattle.std.specs.Prelude.{◌≡◌, ◌≤◌, IfOk, true, reverse};
+ghost use Rattle.std.specs.Prelude.{◌≡◌, ◌≤◌, suc, IfOk, true, reverse};
+ghost use Rattle.serde_json.specs.Data.{array, object};
 ghost use Rattle.serde_json.specs.View.{view, number_view, items_view, members_view};
 ghost use Rattle.doc_tree.specs.Shape.{shape, is_distinct, levels, has_short_lists};
 ghost use Rattle.doc_tree.specs.Order.{is_in_order};
 ghost use Rattle.doc_tree.specs.JsonTree.{json_tree, Gives};
-ghost use Rattle.doc_tree.specs.Reading.{within, items_within, members_within, integer_of, MakesTree, MakesItems, MakesPairs, ReadsValue, IsFaultAt};
+ghost use Rattle.doc_tree.specs.Reading.{within, items_within, members_within, integer_of, MakesTree, ReadsValue, IsFaultAt};
 ghost use Rattle.doc_tree.specs.declared.read.Stop.TheVariants.{OutOfMemory};
 
 use crate::limits::{MAX_BYTES, MAX_LEVELS};
@@ -147,14 +148,14 @@ fn tree_of(alloc: Global, value: Value, room: usize) -> Result<Tree, Stop>
             None => Err(Stop::NotWhole(Vec::new(alloc))),
         },
         Value::String(text) => Ok(Tree::Text(Str::of(text))),
-        Value::Array(items) => Ok(Tree::List(trees_of(alloc, items, room - 1)?)),
-        Value::Object(members) => Ok(Tree::Map(pairs_of(alloc, members, room - 1)?)),
+        Value::Array(items) => list_of(alloc, items, room - 1),
+        Value::Object(members) => map_of(alloc, members, room - 1),
     }
 }
 
 #[cycle(trees)]
-fn trees_of(alloc: Global, items: Vec<Value>, room: usize) -> Result<Vec<Tree>, Stop>
-    ensures { MakesItems room (items_view items.items) result }
+fn list_of(alloc: Global, items: Vec<Value>, room: usize) -> Result<Tree, Stop>
+    ensures { MakesTree (suc room) (array (items_view items.items)) result }
 {
     let mut trees = Vec::with_capacity(alloc, items.len())?;
     for item in items {
@@ -163,16 +164,12 @@ fn trees_of(alloc: Global, items: Vec<Value>, room: usize) -> Result<Vec<Tree>, 
             Err(stop) => return Err(stop.below_item(trees.len())),
         }
     }
-    Ok(trees)
+    Ok(Tree::List(trees))
 }
 
 #[cycle(trees)]
-fn pairs_of(
-    alloc: Global,
-    members: Map<String, Value>,
-    room: usize,
-) -> Result<Vec<(Str, Tree)>, Stop>
-    ensures { MakesPairs room (members_view members.entries) result }
+fn map_of(alloc: Global, members: Map<String, Value>, room: usize) -> Result<Tree, Stop>
+    ensures { MakesTree (suc room) (object (members_view members.entries)) result }
 {
     let mut pairs = Vec::with_capacity(alloc, members.len())?;
     for (key, member) in members {
@@ -182,7 +179,7 @@ fn pairs_of(
             Err(stop) => return Err(stop.below(PathStep::Key(name))),
         }
     }
-    Ok(pairs)
+    Ok(Tree::Map(pairs))
 }
 
 // The value of a JSON text.

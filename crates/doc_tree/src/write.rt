@@ -1,11 +1,12 @@
 //! JSON from trees.
-ghost use Rattle.std.specs.Prelude.{◌≡◌, ◌≤◌, map, option_map, length, true, IfOk, Ok};
-ghost use Rattle.serde_json.specs.View.{view};
-ghost use Rattle.doc_tree.specs.Shape.{shape, shapes_of, pair_shape, pairs_of, is_distinct, levels};
+ghost use Rattle.std.specs.Prelude.{◌≡◌, ◌≤◌, map, option_map, length, true, IfOk, OnOk, Ok};
+ghost use Rattle.serde_json.specs.Data.{put};
+ghost use Rattle.serde_json.specs.View.{view, members_view};
+ghost use Rattle.doc_tree.specs.Shape.{shape, shapes_of, pair_shape, pairs_of, list, mapping, text, is_distinct, levels};
 ghost use Rattle.doc_tree.specs.Order.{in_order};
 ghost use Rattle.doc_tree.specs.JsonTree.{json_tree};
 ghost use Rattle.doc_tree.specs.JsonText.{number_of, WritesText};
-ghost use Rattle.doc_tree.specs.Writing.{MakesValue, MakesList, MakesMap};
+ghost use Rattle.doc_tree.specs.Writing.{MakesValue};
 ghost use Rattle.doc_tree.specs.declared.write.TextFault.TheVariants.{OutOfMemory};
 
 use crate::limits::{MAX_BYTES, MAX_LEVELS};
@@ -52,6 +53,27 @@ fn number_of(n: i128) -> Option<Value>
     }
 }
 
+// The value of a string.
+fn string_of(alloc: Global, string: &Str) -> Result<Value, TextFault>
+    ensures { MakesValue (text string.now) result }
+{
+    Ok(Value::String(String::from_str(alloc, string.as_str())?))
+}
+
+// Puts a value under a key.
+fn put(
+    alloc: Global,
+    members: &mut Map<String, Value>,
+    key: &Str,
+    value: Value,
+) -> Result<(), TextFault>
+    ensures { OnOk result (members_view members.new.entries ≡ put key.now (view value) (members_view members.old.entries)) }
+{
+    let name = String::from_str(alloc, key.as_str())?;
+    drop(members.insert(name, value)?);
+    Ok(())
+}
+
 // The value of a tree.
 #[cycle(values)]
 fn value_of(alloc: Global, tree: &Tree) -> Result<Value, TextFault>
@@ -61,33 +83,41 @@ fn value_of(alloc: Global, tree: &Tree) -> Result<Value, TextFault>
         Tree::Null => Ok(Value::Null),
         Tree::Bool(b) => Ok(Value::Bool(*b)),
         Tree::Int(n) => number_of(*n).ok_or(TextFault::WideInt),
-        Tree::Text(text) => Ok(Value::String(String::from_str(alloc, text.as_str())?)),
-        Tree::List(trees) => Ok(Value::Array(values_of(alloc, trees)?)),
-        Tree::Map(pairs) => Ok(Value::Object(members_of(alloc, pairs)?)),
+        Tree::Text(text) => string_of(alloc, text),
+        Tree::List(trees) => array_of(alloc, trees),
+        Tree::Map(pairs) => object_of(alloc, pairs),
     }
 }
 
 #[cycle(values)]
-fn values_of(alloc: Global, trees: &Vec<Tree>) -> Result<Vec<Value>, TextFault>
-    ensures { MakesList (shapes_of (map shape trees.now.items)) result }
+fn array_of(alloc: Global, trees: &Vec<Tree>) -> Result<Value, TextFault>
+    ensures { MakesValue (list (shapes_of (map shape trees.now.items))) result }
 {
     let mut values = Vec::with_capacity(alloc, trees.len())?;
     for tree in trees {
-        values.push(value_of(alloc, tree)?)?;
+        match value_of(alloc, tree) {
+            Ok(value) => values.push(value)?,
+            Err(fault) => return Err(fault),
+        }
     }
-    Ok(values)
+    Ok(Value::Array(values))
 }
 
 #[cycle(values)]
-fn members_of(alloc: Global, pairs: &Vec<(Str, Tree)>) -> Result<Map<String, Value>, TextFault>
-    ensures { MakesMap (pairs_of (map pair_shape pairs.now.items)) result }
+fn object_of(alloc: Global, pairs: &Vec<(Str, Tree)>) -> Result<Value, TextFault>
+    ensures { MakesValue (mapping (pairs_of (map pair_shape pairs.now.items))) result }
 {
     let mut members = Map::new(alloc);
     for (key, tree) in pairs {
-        let name = String::from_str(alloc, key.as_str())?;
-        drop(members.insert(name, value_of(alloc, tree)?)?);
+        match value_of(alloc, tree) {
+            Ok(value) => match put(alloc, &mut members, key, value) {
+                Ok(()) => {}
+                Err(_) => return Err(TextFault::OutOfMemory),
+            },
+            Err(fault) => return Err(fault),
+        }
     }
-    Ok(members)
+    Ok(Value::Object(members))
 }
 
 /// The compact JSON text of a tree, with each map's pairs in the order of their keys' bytes.

@@ -18,7 +18,7 @@ use document_model::Doc;
 use engine_core::{apply, recover};
 use engine_model::{ApplyFault, ApplyOpts, BackFault, Left, Recovered};
 use host_core::{Area, DumpFault, Host, Sink, Source};
-use net_model::Net;
+use net_core::Net;
 use policy_document::document_on;
 use policy_lang::Policy;
 use std::alloc::Global;

@@ -34,7 +34,8 @@ use engine_restore::{go_back, take_back};
 use host_core::{DumpFault, Failed, Host};
 use merge_core::merge;
 use merge_model::MergeFault;
-use net_model::{Call, Net, OutOfMemory};
+use net_core::Net;
+use net_model::{Call, OutOfMemory};
 use plan_core::plan;
 use std::alloc::Global;
 

@@ -22,8 +22,9 @@ use checkpoint_cell::{PutFault, mark_waiting, put};
 use engine_model::ApplyOpts;
 use engine_restore::{RunFault, run};
 use host_core::{DumpFault, Failed, Host};
+use net_core::Net;
 use net_equal::same_net;
-use net_model::{Call, Net};
+use net_model::Call;
 use std::alloc::Global;
 
 // Stores the checkpoint, and makes the calls.

@@ -1,6 +1,6 @@
 //! Why a change that was begun didn't come to its end.
 
-use net_model::Net;
+use net_core::Net;
 
 /// Why a change that was begun didn't come to its end.
 #[derive(Drop)]

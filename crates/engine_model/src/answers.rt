@@ -3,7 +3,8 @@
 use base_model::Items;
 use checkpoint_cell::Seen;
 use document_model::Refused;
-use net_model::{Name, Net};
+use net_core::Net;
+use net_model::Name;
 
 /// What a command that met a fault leaves.
 #[derive(Clone, Copy)]

@@ -12,7 +12,8 @@ use base_model::{Items, OutOfMemory};
 use checkpoint_cell::{CellFault, Pending, Seen, barrier, load};
 use engine_model::{CheckFault, Checked};
 use host_core::{Area, DumpFault, Failed, Host};
-use net_model::{Name, Net};
+use net_core::Net;
+use net_model::Name;
 use std::alloc::Global;
 
 // How many links there are.

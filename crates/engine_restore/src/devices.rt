@@ -8,7 +8,8 @@ ghost use Rattle.net_model.specs.Words.{is_among, sorted};
 ghost use Rattle.engine_model.specs.Differing.{lacking, either, differing};
 
 use base_model::{Items, OutOfMemory};
-use net_model::{Kind, Link, Mac, Name, Net};
+use net_core::Net;
+use net_model::{Kind, Link, Mac, Name};
 use std::alloc::{AllocError, Global};
 
 type Device = (Name, Mac);

@@ -23,7 +23,8 @@ use crate::running::{RunFault, run};
 use checkpoint_cell::{CellFault, Pending, Phase, Seen, barrier, clear, due, load, mark_applying};
 use engine_model::{BackFault, Left, Recovered};
 use host_core::{DumpFault, Failed, Host};
-use net_model::{Call, Net, OutOfMemory};
+use net_core::Net;
+use net_model::{Call, OutOfMemory};
 use plan_core::plan;
 use std::alloc::Global;
 

@@ -6,7 +6,8 @@ ghost use Rattle.host_core.specs.HostView.{HostView, HasCell, Accepts, Refuses, 
 ghost use Rattle.host_core.specs.Stops.{Steps, Stays};
 
 use crate::Failed;
-use net_model::{Call, Net};
+use net_core::Net;
+use net_model::Call;
 use std::alloc::Global;
 
 /// Why a first network wasn't made.

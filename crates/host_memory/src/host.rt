@@ -16,7 +16,8 @@ use crate::touch::stopped;
 use base_model::OutOfMemory;
 use host_core::{CallFault, DumpFault, Failed, Host, MakeFault, raised};
 use kernel_step::StepFault;
-use net_model::{Call, Net};
+use net_core::Net;
+use net_model::Call;
 use std::alloc::{AllocError, Global};
 
 /// A host whose network and checkpoint area stand in memory. It keeps a record of what was done to it, and fails at the

@@ -4,7 +4,7 @@ use Rattle.net_model.specs.Name.{same_bytes}
 use Rattle.net_model.specs.Links.{named_passes}
 use Rattle.net_model.specs.Valid.{route_on_link}
 use Rattle.net_model.specs.Edits.{stays_on_link}
-use Rattle.net_model.specs.Indexed.{routes_of, key_of}
+use Rattle.net_model.specs.OfName.{routes_of, key_of}
 use Rattle.net_model.specs.declared.link.Link.{Link}
 use Rattle.net_model.specs.declared.route.Route.{Route}
 use Rattle.net_model.specs.declared.route_key.RouteKey.{RouteKey}

@@ -14,7 +14,7 @@ use Rattle.net_model.proofs.lemmas.Orders.{route_cmp_total}
 use Rattle.net_model.proofs.lemmas.Ties.{keys_tie, rules_tie}
 use Rattle.net_model.proofs.lemmas.Rises.{apart-rises}
 use Rattle.net_model.proofs.lemmas.Places.{any_at, none_at, stands}
-use Rattle.net_model.proofs.lemmas.RouteIndexes.{same_route_key}
+use Rattle.net_lists.proofs.lemmas.RouteLists.{same_route_key}
 use Rattle.reach.proofs.lemmas.Marks.{any_default}
 use Rattle.kernel_laws.proofs.lemmas.InPlace.{insert_is_put}
 use Rattle.kernel_laws.proofs.lemmas.Searched.{met, missed, tied_both}

@@ -7,7 +7,8 @@ ghost use Rattle.net_model.specs.Links.{named_passes};
 ghost use Rattle.net_model.specs.Edits.{stays_on_link};
 ghost use Rattle.kernel_model.specs.Addresses.{has_block, after_add_address, after_del_address};
 
-use net_model::{Name, OutOfMemory, Parts, Prefix};
+use net_core::Parts;
+use net_model::{Name, OutOfMemory, Prefix};
 
 // Gives the named link an address that it doesn't have.
 pub(crate) fn add_address(parts: &mut Parts, name: &Name, addr: &Prefix) -> Result<(), OutOfMemory>

@@ -15,4 +15,4 @@ mod routes;
 mod stepping;
 
 pub use kernel_model::StepFault;
-pub use stepping::step;
+pub use stepping::{Kernel, step};

@@ -7,7 +7,8 @@ ghost use Rattle.net_model.specs.Valid.{same_key, same_rule};
 ghost use Rattle.net_model.specs.Edits.{same_route};
 ghost use Rattle.kernel_step.specs.Searches.{Searches};
 
-use net_model::{Route, Rule, same_route};
+use net_edits::same_route;
+use net_model::{Route, Rule};
 
 fn search_routes(routes: &[Route], route: &Route) -> Result<usize, usize>
     requires { rises route_cmp routes.now ≡ true }

@@ -17,9 +17,11 @@ use kernel_model::refusal::{
     PORT_ADDRESS, ROUTE_EXISTS, RULE_EXISTS,
 };
 use link_step::has_link;
+use net_core::Net;
+use net_lists::{find_link, is_bond_or_bridge, route_on_link};
 use net_model::{
     Dns, Link, MAX_ADDRESSES, MAX_LINK_ADDRESSES, MAX_ROUTES, MAX_RULES, MAX_SEARCH, MAX_SERVERS,
-    Name, Net, Prefix, Route, Rule, find_link, is_bond_or_bridge, route_on_link,
+    Name, Prefix, Route, Rule,
 };
 
 #[tactic(auto, using(net_model::proofs::lemmas::Found::named_passes_found))]

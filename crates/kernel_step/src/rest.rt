@@ -7,7 +7,9 @@ ghost use Rattle.net_model.specs.Valid.{same_rule};
 ghost use Rattle.kernel_model.specs.Rest.{after_add_rule, after_del_rule, after_set_dns};
 
 use crate::places::rule_gap;
-use net_model::{Dns, OutOfMemory, Parts, Position, Rule, rule_position};
+use net_core::Parts;
+use net_lists::rule_position;
+use net_model::{Dns, OutOfMemory, Position, Rule};
 
 fn insert_rule(parts: &mut Parts, i: usize, rule: Rule) -> Result<(), OutOfMemory>
     requires { i ≤ length parts.old.rules }

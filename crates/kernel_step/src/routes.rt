@@ -6,7 +6,8 @@ ghost use Rattle.net_model.specs.Order.{route_cmp};
 ghost use Rattle.net_model.specs.Valid.{same_key};
 ghost use Rattle.kernel_model.specs.Routes.{after_add_route, after_del_route};
 
-use net_model::{OutOfMemory, Parts, Route};
+use net_core::Parts;
+use net_model::{OutOfMemory, Route};
 
 fn copy_route(route: &Route) -> Route
     ensures { result ≡ route.now }

@@ -10,7 +10,8 @@ use crate::options::controller_member;
 use document_model::IpEntry;
 use link_members::Members;
 use link_order::{Member, is_absent, is_off, is_stated_down};
-use net_model::{Items, Link, Prefix, is_bond_or_bridge};
+use net_lists::is_bond_or_bridge;
+use net_model::{Items, Link, Prefix};
 use std::alloc::{AllocError, Global};
 
 // Whether the link is a port of a bond or bridge.

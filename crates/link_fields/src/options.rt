@@ -11,7 +11,8 @@ ghost use Rattle.link_members.specs.Listers.{port_place};
 use document_model::{BondEntry, BridgeEntry, LinkEntry, PortEntry};
 use link_members::Members;
 use link_order::{Member, same_mode};
-use net_model::{BondOpts, BridgeOpts, Items, Kind, Link, Name, PortOpts, is_bridge, is_port_of};
+use net_lists::{is_bridge, is_port_of};
+use net_model::{BondOpts, BridgeOpts, Items, Kind, Link, Name, PortOpts};
 use option_rules::{merge_bond, merge_bridge, merge_port};
 use std::alloc::Global;
 

@@ -20,7 +20,8 @@ use link_order::{Entries, Member, members_by_rank};
 use link_rules::{Merged, entries_broken, merged_broken, ports_broken};
 use merge_laws::merge_laws;
 use merge_model::MergeFault;
-use net_model::{Link, Net};
+use net_core::Net;
+use net_model::Link;
 use std::alloc::{AllocError, Global};
 
 // The names of the links with their controllers differ, where the entries break no rule.

@@ -8,7 +8,9 @@ ghost use Rattle.link_order.specs.Implied.{HasNames, further};
 use crate::entries::Entries;
 use crate::member::Member;
 use document_model::Wish;
-use net_model::{Kind, Name, Net, peer_of};
+use net_core::Net;
+use net_lists::peer_of;
+use net_model::{Kind, Name};
 use std::alloc::{AllocError, Global};
 use std::collections::BTreeSet;
 

@@ -6,7 +6,8 @@ ghost use Rattle.net_model.specs.Links.{peer_of};
 ghost use Rattle.merge_model.specs.Kinds.{word_of, same_type, same_mode, permanent_of, mode_of, base_of, id_of, proto_of, table_of, vlan_of, kind_by, merged_kind};
 
 use document_model::{KindWord, LinkEntry};
-use net_model::{BondMode, Kind, Link, Mac, Name, Proto, TableId, VlanId, peer_of};
+use net_lists::peer_of;
+use net_model::{BondMode, Kind, Link, Mac, Name, Proto, TableId, VlanId};
 
 fn word_of(kind: &Kind) -> KindWord
     ensures { result ≡ word_of kind.now }

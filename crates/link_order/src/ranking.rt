@@ -18,7 +18,9 @@ use crate::member::Member;
 use crate::reached::{add_arrow, closure, no_arrows};
 use crate::stated::is_absent;
 use document_model::{LinkEntry, Wish};
-use net_model::{Items, Kind, Link, Name, Net, Position, has_peer, is_ethernet, peer_of};
+use net_core::Net;
+use net_lists::{has_peer, is_ethernet, peer_of};
+use net_model::{Items, Kind, Link, Name, Position};
 use std::alloc::{AllocError, Global};
 
 fn is_mentioned(entries: &Entries, link: &Link) -> bool

@@ -1,5 +1,5 @@
 -- Links and those that come to them, in order.
-use Rattle.std.proofs.Common.{◌≡◌, ◌==◌, ℕ, suc, Bool, true, false, not, ◌||◌, cond, List, [], ◌∷◌, ◌++◌, Option, Some, None, Ordering, Less, Equal, Greater, IsPermutation, IsSorted, refl, sym, ap, ◌∙◌, append-nil, length, arith, eqb-true}
+use Rattle.std.proofs.Common.{◌≡◌, ℕ, true, false, not, cond, List, [], ◌∷◌, ◌++◌, Option, Some, None, Ordering, Less, Equal, Greater, IsPermutation, IsSorted, refl, sym, ap, ◌∙◌, append-nil}
 use Rattle.std.specs.Prelude.{if◌then◌else◌}
 use Rattle.std.specs.List.{list_any}
 use Rattle.std.specs.Option.{option_map, option_map_or, option_or}
@@ -24,7 +24,7 @@ use Rattle.net_model.specs.declared.link.Kind.{Kind}
 use Rattle.net_model.specs.declared.link.Kind.TheVariants.{Ethernet, Bond, Bridge, Vlan, Vrf, Dummy, Veth}
 use Rattle.net_model.proofs.lemmas.Truth.{and_both, not_false}
 use Rattle.net_model.proofs.lemmas.Found.{one_name, names_tie, names_differ-rises}
-use Rattle.net_model.proofs.lemmas.LinkIndexes.{not_there}
+use Rattle.net_lists.proofs.lemmas.LinkLists.{not_there}
 use Rattle.net_model.proofs.lemmas.ListChanges.{either_way}
 use Rattle.net_model.proofs.lemmas.Orders.{link_cmp_total}
 use Rattle.net_model.proofs.lemmas.Ordered.{same_sorted, sorted_itself}

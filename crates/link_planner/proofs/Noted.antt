@@ -10,7 +10,7 @@ use Rattle.net_model.specs.Words.{is_among}
 use Rattle.net_model.specs.Order.{name_cmp}
 use Rattle.net_model.specs.Links.{find_link, is_ethernet, peer_of}
 use Rattle.net_model.specs.Dependence.{has_base}
-use Rattle.net_model.specs.Indexed.{over}
+use Rattle.net_model.specs.OfName.{over}
 use Rattle.net_model.specs.Edits.{freed, without}
 use Rattle.net_model.specs.NetData.{NetData, IsNet}
 use Rattle.net_model.specs.Facts.{PeerFacts}

@@ -4,7 +4,7 @@ use Rattle.net_model.specs.declared.link.Link.{Link}
 use Rattle.net_model.proofs.lemmas.ByName.{some_same}
 use Rattle.link_planner.specs.Drafts.{DraftData}
 use Rattle.link_planner.specs.Pairs.{AreUnpaired, ArePair}
-use Rattle.link_planner.specs.Growing.{IsOnWay, IsToward, SameController, Reaches}
+use Rattle.link_planner.specs.Growing.{IsToward, SameController, Reaches}
 use Rattle.link_planner.proofs.Editing.{way_of}
 
 -- nothing is left where one of the two links isn't there

@@ -7,7 +7,7 @@ use Rattle.net_model.specs.Name.{same_bytes}
 use Rattle.net_model.specs.Order.{name_cmp}
 use Rattle.net_model.specs.Links.{find_link}
 use Rattle.net_model.specs.Edits.{without}
-use Rattle.net_model.specs.Indexed.{over}
+use Rattle.net_model.specs.OfName.{over}
 use Rattle.net_model.specs.declared.Link.{Link}
 use Rattle.net_model.specs.declared.Kind.{Kind}
 use Rattle.net_model.specs.declared.Call.TheVariants.{DelLink}

@@ -7,7 +7,8 @@ ghost use Rattle.link_planner.specs.Shrinking.{MustGo, HasStayed};
 
 use crate::draft::Draft;
 use crate::phase::Phase;
-use net_model::{Call, Name, is_ethernet};
+use net_lists::is_ethernet;
+use net_model::{Call, Name};
 
 // Whether the link is virtual and isn't kept.
 fn must_go(draft: &Draft, name: &Name) -> bool

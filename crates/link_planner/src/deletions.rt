@@ -15,7 +15,9 @@ ghost use Rattle.link_planner.specs.Deletions.{AreNone, GoesAs, HasServed, MaySe
 
 use crate::draft::Draft;
 use crate::phase::{Phase, serve};
-use net_model::{Call, Kind, Name, OutOfMemory, is_ethernet, peer_of};
+use kernel_model::Steps;
+use net_lists::{is_ethernet, peer_of};
+use net_model::{Call, Kind, Name, OutOfMemory};
 use plan_model::plan_laws;
 use std::alloc::{AllocError, Global};
 use std::collections::BTreeSet;
@@ -162,7 +164,7 @@ fn settle(alloc: Global, draft: &mut Draft, deletions: &mut Deletions) -> Result
 
 // Deletes the link of a name, which is of this kind. Where a VLAN that stays stands over it or its peer, that one goes with
 // it: then what is noted is settled, and the call is made at once.
-fn delete(
+fn delete<S: Steps>(
     alloc: Global,
     draft: &mut Draft,
     deletions: &mut Deletions,
@@ -178,13 +180,13 @@ fn delete(
         return deletions.note(name, peer_of(kind));
     }
     settle(alloc, draft, deletions)?;
-    let served = serve(draft, Phase::DeleteLinks, name);
+    let served = serve::<S>(draft, Phase::DeleteLinks, name);
     draft.laws();
     served
 }
 
 // Deletes the link of a name, unless it may stay, or went with another.
-fn delete_next(
+fn delete_next<S: Steps>(
     alloc: Global,
     draft: &mut Draft,
     deletions: &mut Deletions,
@@ -194,14 +196,18 @@ fn delete_next(
     ensures { OnOk result (HasServed name.now (noted deletions.old draft.old) (noted deletions.new draft.new)) }
 {
     match kind_to_delete(draft, deletions, name) {
-        Some(kind) => delete(alloc, draft, deletions, name, &kind),
+        Some(kind) => delete::<S>(alloc, draft, deletions, name, &kind),
         None => Ok(()),
     }
 }
 
 /// Carries out the phase in which links are deleted, for the names, one after the other. The calls are those of `run`, but
 /// the links are taken out of the network together, so that none behind them has to move for each.
-pub fn delete_links(alloc: Global, draft: &mut Draft, names: &[Name]) -> Result<(), OutOfMemory>
+pub fn delete_links<S: Steps>(
+    alloc: Global,
+    draft: &mut Draft,
+    names: &[Name],
+) -> Result<(), OutOfMemory>
     requires stands { Stands (builds Phase.DeleteLinks) (rank Phase.DeleteLinks) draft.old }
     requires order { IsOrder Phase.DeleteLinks draft.old names.now }
     ensures { OnOk result (HasRun Phase.DeleteLinks names.now draft.old draft.new) }
@@ -209,7 +215,7 @@ pub fn delete_links(alloc: Global, draft: &mut Draft, names: &[Name]) -> Result<
     draft.laws();
     let mut deletions = Deletions::none(alloc);
     for name in names {
-        delete_next(alloc, draft, &mut deletions, name)?;
+        delete_next::<S>(alloc, draft, &mut deletions, name)?;
     }
     settle(alloc, draft, &mut deletions)
 }

@@ -7,7 +7,8 @@ ghost use Rattle.link_planner.specs.Shrinking.{KeepsPorts, IsLow, MustFall, Join
 
 use crate::draft::Draft;
 use crate::phase::Phase;
-use net_model::{Call, Link, Name, is_bond};
+use net_lists::is_bond;
+use net_model::{Call, Link, Name};
 
 // Whether the link has in the target a bond that isn't its controller at the start or isn't kept.
 fn joins_bond(draft: &Draft, link: &Link, there: &Link) -> bool

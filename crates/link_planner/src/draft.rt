@@ -12,8 +12,9 @@ ghost use Rattle.link_planner.specs.Kept.{is_kept};
 ghost use Rattle.link_planner.specs.Pairs.{AreUnpaired, ArePair};
 
 use crate::kept::is_kept;
-use kernel_step::{StepFault, step};
-use net_model::{Call, Link, Name, Net, OutOfMemory, Parts, Route, Rule};
+use kernel_model::{StepFault, Steps};
+use net_core::{Net, Parts};
+use net_model::{Call, Link, Name, OutOfMemory, Route, Rule};
 use plan_model::plan_laws;
 use std::alloc::{AllocError, Global};
 use std::marker::Model;
@@ -39,12 +40,12 @@ impl<'a> Model for Draft<'a> {
 }
 
 // Makes a call that is accepted.
-fn make_call(net: &mut Net, call: &Call) -> Result<(), OutOfMemory>
+fn make_call<S: Steps>(net: &mut Net, call: &Call) -> Result<(), OutOfMemory>
     requires { step call.now net.old ≡ Ok (after call.now net.old) }
     ensures made { OnOk result (step call.now net.old ≡ Ok net.new) }
     ensures unchanged { OnErr result (net.new ≡ net.old) }
 {
-    match step(net, call) {
+    match S::step(net, call) {
         Ok(()) => Ok(()),
         Err(StepFault::Refused(_)) => unreachable!(),
         Err(StepFault::OutOfMemory) => Err(OutOfMemory),
@@ -192,25 +193,25 @@ impl<'a> Draft<'a> {
     }
 
     /// Makes a call that is accepted, and notes it.
-    pub fn add(&mut self, call: Call) -> Result<(), OutOfMemory>
+    pub fn add<S: Steps>(&mut self, call: Call) -> Result<(), OutOfMemory>
         requires { IsSafe self.old.start self.old.target call self.old.net }
         ensures { OnOk result (self.new ≡ with_call call self.old) }
     {
         plan_laws();
         self.net.laws();
         self.calls.reserve(1)?;
-        make_call(&mut self.net, &call)?;
+        make_call::<S>(&mut self.net, &call)?;
         self.calls.push(call)?;
         Ok(())
     }
 
     /// Makes a call that is accepted, where there is one.
-    pub fn add_some(&mut self, call: Option<Call>) -> Result<(), OutOfMemory>
+    pub fn add_some<S: Steps>(&mut self, call: Option<Call>) -> Result<(), OutOfMemory>
         requires { IfSome call (λ c. IsSafe self.old.start self.old.target c self.old.net) }
         ensures { OnOk result (self.new ≡ with_some call self.old) }
     {
         match call {
-            Some(call) => self.add(call),
+            Some(call) => self.add::<S>(call),
             None => Ok(()),
         }
     }

@@ -3,7 +3,8 @@ ghost use Rattle.std.specs.Prelude.{◌≡◌};
 ghost use Rattle.plan_model.specs.Kinds.{same_kind};
 ghost use Rattle.link_planner.specs.Kept.{is_kept};
 
-use net_model::{Kind, Name, Net};
+use net_core::Net;
+use net_model::{Kind, Name};
 
 fn is_same_kind(a: &Kind, b: &Kind) -> bool
     ensures { result ≡ same_kind a.now b.now }

@@ -4,7 +4,8 @@ ghost use Rattle.std.specs.List.Sorted.{IsNonDecreasingBy};
 ghost use Rattle.net_model.specs.declared.Link.{Link};
 ghost use Rattle.link_planner.specs.Depths.{IsBasePlace, IsDepthAt, AreDepths, by_base, by_top, IsBaseFirst, NamesAll, AreOrders};
 
-use net_model::{Kind, Link, Name, Net, OutOfMemory, Position};
+use net_core::Net;
+use net_model::{Kind, Link, Name, OutOfMemory, Position};
 use std::alloc::{AllocError, Global};
 
 // The place of the base of a VLAN.

@@ -11,6 +11,7 @@ use crate::mtus::{lower_mtu, raise_mtu};
 use crate::ports::{attach_port, set_port, set_primary};
 use crate::settings::{set_bond, set_bridge, set_mac};
 use crate::up::take_up;
+use kernel_model::Steps;
 use net_model::{Call, Name, OutOfMemory};
 
 /// The phases, in their order.
@@ -65,22 +66,22 @@ fn call_for(draft: &Draft, phase: Phase, name: &Name) -> Option<Call>
 }
 
 /// Carries out a phase for a name.
-pub fn serve(draft: &mut Draft, phase: Phase, name: &Name) -> Result<(), OutOfMemory>
+pub fn serve<S: Steps>(draft: &mut Draft, phase: Phase, name: &Name) -> Result<(), OutOfMemory>
     requires { IsDue phase draft.old name.now }
     ensures { OnOk result (IsServed phase name.now draft.old draft.new) }
 {
     let call = call_for(draft, phase, name);
-    draft.add_some(call)
+    draft.add_some::<S>(call)
 }
 
 /// Carries out a phase for the names, one after the other.
-pub fn run(draft: &mut Draft, phase: Phase, names: &[Name]) -> Result<(), OutOfMemory>
+pub fn run<S: Steps>(draft: &mut Draft, phase: Phase, names: &[Name]) -> Result<(), OutOfMemory>
     requires stands { Stands (builds phase) (rank phase) draft.old }
     requires order { IsOrder phase draft.old names.now }
     ensures { OnOk result (HasRun phase names.now draft.old draft.new) }
 {
     for name in names {
-        serve(draft, phase, name)?;
+        serve::<S>(draft, phase, name)?;
     }
     Ok(())
 }

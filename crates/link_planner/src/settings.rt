@@ -6,7 +6,8 @@ ghost use Rattle.link_planner.specs.Phases.{IsDue, Serves};
 
 use crate::draft::Draft;
 use crate::phase::Phase;
-use net_model::{BondOpts, Call, Link, Name, Net};
+use net_core::Net;
+use net_model::{BondOpts, Call, Link, Name};
 
 fn has_other_mac(link: &Link, there: &Link) -> bool
     ensures yes { OnTrue result (link.now.mac ≢ there.now.mac) }

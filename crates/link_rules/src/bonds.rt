@@ -8,7 +8,9 @@ ghost use Rattle.merge_model.specs.BrokenLinks.{bond_options};
 
 use crate::merged::Merged;
 use document_model::Place;
-use net_model::{BondMode, Kind, Link, Name, bond_ok, is_port_of};
+use net_lists::is_port_of;
+use net_model::{BondMode, Kind, Link, Name};
+use net_valid::bond_ok;
 use std::alloc::{AllocError, Global};
 
 #[tactic(auto, using(net_model::proofs::lemmas::ByName::passes_where_found))]

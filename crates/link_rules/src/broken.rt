@@ -15,7 +15,7 @@ use crate::twins::vlan_twin;
 use document_model::{Place, Refused};
 use link_members::Members;
 use link_order::Entries;
-use net_model::Net;
+use net_core::Net;
 use std::alloc::{AllocError, Global};
 
 const DUPLICATE_NAME: u8 = 1;

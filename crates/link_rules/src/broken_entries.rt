@@ -10,7 +10,9 @@ ghost use Rattle.merge_model.specs.BrokenEntries.{duplicate_name, is_new, no_typ
 
 use document_model::{KindWord, LinkEntry, Place};
 use link_order::{Entries, is_absent, kind_of, merged_kind};
-use net_model::{Link, Net, is_ethernet};
+use net_core::Net;
+use net_lists::is_ethernet;
+use net_model::Link;
 
 fn at_entry(found: Option<&LinkEntry>) -> Option<Place>
     ensures { result ≡ at_entry (option_copied found.entry) }

@@ -11,7 +11,8 @@ use crate::merged::Merged;
 use document_model::{IpEntry, LinkEntry, Place};
 use link_members::Members;
 use link_order::is_off;
-use net_model::{Items, Kind, Link, Name, Prefix, can_be_base, is_bond_or_bridge, takes};
+use net_lists::{can_be_base, is_bond_or_bridge, takes};
+use net_model::{Items, Kind, Link, Name, Prefix};
 
 /// The place at a link.
 pub(crate) fn at_link(found: Option<&Link>) -> Option<Place>

@@ -3,7 +3,8 @@ ghost use Rattle.std.specs.Prelude.{◌≡◌, IfOk};
 ghost use Rattle.merge_model.specs.BrokenLinks.{vlan_twin};
 
 use document_model::Place;
-use net_model::{Link, is_first_vlan};
+use net_lists::is_first_vlan;
+use net_model::Link;
 use std::alloc::{AllocError, Global};
 use std::collections::BTreeSet;
 

@@ -7,6 +7,7 @@ ghost use Rattle.tree_schema.specs.Reached.{Answers};
 ghost use Rattle.link_schema.specs.Bridge.{stp_table, bridge_option_table, port_table, is_port_draft, port, port_of, bridge_table, bridge, no_bridge};
 
 use crate::draft::PortDraft;
+use crate::words::{noted, number_u8, number_u16};
 use doc_tree::Tree;
 use document_model::{BridgeEntry, PortEntry};
 use tree_schema::{
@@ -35,25 +36,22 @@ impl Section for Stp {
                 Ok(())
             }
             "priority" => {
-                entry.priority = Some(number(0, 65535, value)? as u16);
+                entry.priority = Some(number_u16(0, 65535, value)?);
                 Ok(())
             }
             "forward-delay" => {
-                entry.forward_delay = Some(number(2, 30, value)? as u8);
+                entry.forward_delay = Some(number_u8(2, 30, value)?);
                 Ok(())
             }
             "hello-time" => {
-                entry.hello_time = Some(number(1, 10, value)? as u8);
+                entry.hello_time = Some(number_u8(1, 10, value)?);
                 Ok(())
             }
             "max-age" => {
-                entry.max_age = Some(number(6, 40, value)? as u8);
+                entry.max_age = Some(number_u8(6, 40, value)?);
                 Ok(())
             }
-            _ => {
-                reader.note()?;
-                Ok(())
-            }
+            _ => noted(reader, entry),
         }
     }
 }
@@ -80,10 +78,7 @@ impl Section for BridgeOptions {
                 Ok(())
             }
             "stp" => read_map(&Stp, reader, value, entry),
-            _ => {
-                reader.note()?;
-                Ok(())
-            }
+            _ => noted(reader, entry),
         }
     }
 }
@@ -110,21 +105,18 @@ impl Section for PortKeys {
                 Ok(())
             }
             "stp-path-cost" => {
-                entry.cost = Some(number(1, 65535, value)? as u16);
+                entry.cost = Some(number_u16(1, 65535, value)?);
                 Ok(())
             }
             "stp-priority" => {
-                entry.priority = Some(number(0, 63, value)? as u8);
+                entry.priority = Some(number_u8(0, 63, value)?);
                 Ok(())
             }
             "stp-hairpin-mode" => {
                 entry.hairpin = Some(boolean(value)?);
                 Ok(())
             }
-            _ => {
-                reader.note()?;
-                Ok(())
-            }
+            _ => noted(reader, entry),
         }
     }
 }

@@ -1,20 +1,29 @@
 //! `ipv4` and `ipv6` of an interface.
-ghost use Rattle.std.specs.Prelude.{◌≡◌, ◌&&◌, true, false, IfOk};
+ghost use Rattle.std.specs.Prelude.{◌≡◌, ◌&&◌, true, false, nat_le, IfOk};
 ghost use Rattle.doc_tree.specs.Shape.{shape};
 ghost use Rattle.document_model.specs.Entries.{is_own, is_ip_entry, has_short_addrs};
 ghost use Rattle.std.specs.Option.{option_map_or};
 ghost use Rattle.net_model.specs.OnLink.{is_link_local};
+ghost use Rattle.net_model.specs.Address.{max_len};
 ghost use Rattle.tree_schema.specs.Reached.{Answers};
+ghost use Rattle.tree_schema.specs.Values.{number};
 ghost use Rattle.link_schema.specs.Ip.{address_table, is_address_draft, address_of, is_link_local_text, has_link_local, address, ip_table, ip};
 
 use crate::draft::AddressDraft;
-use crate::words::{addr_in, off, own_address};
+use crate::words::{addr_in, noted, off, own_address};
 use doc_tree::Tree;
 use document_model::IpEntry;
 use net_model::{Addr, Prefix, max_len};
 use tree_schema::{
     Item, Reader, Reason, Section, Stop, boolean, needed, number, read_list, read_map, value_under,
 };
+
+fn address_len(v6: bool, tree: &Tree) -> Result<u8, Reason>
+    ensures read { result ≡ number 0 (max_len v6) (shape tree.now) }
+    ensures right { IfOk result (λ n. nat_le n (max_len v6) ≡ true) }
+{
+    Ok(number(0, max_len(v6) as u32, tree)? as u8)
+}
 
 #[derive(Clone, Copy)]
 struct AddressKeys {
@@ -41,13 +50,10 @@ impl Section for AddressKeys {
                 Ok(())
             }
             "prefix-length" => {
-                entry.len = Some(number(0, max_len(self.v6) as u32, value)? as u8);
+                entry.len = Some(address_len(self.v6, value)?);
                 Ok(())
             }
-            "valid-life-time" | "preferred-life-time" => {
-                reader.note()?;
-                Ok(())
-            }
+            "valid-life-time" | "preferred-life-time" => noted(reader, entry),
             _ => Err(Stop::Refused(Reason::UnknownKey)),
         }
     }
@@ -158,10 +164,7 @@ impl Section for IpKeys {
             | "auto-route-table-id"
             | "addr-gen-mode"
             | "allow-extra-address"
-            | "forwarding" => {
-                reader.note()?;
-                Ok(())
-            }
+            | "forwarding" => noted(reader, entry),
             _ => Err(Stop::Refused(Reason::UnknownKey)),
         }
     }

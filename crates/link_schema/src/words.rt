@@ -4,10 +4,11 @@ ghost use Rattle.std.specs.Prelude.{option_and_then};
 ghost use Rattle.std.specs.List.{list_any};
 ghost use Rattle.base_model.specs.Lists.{is_short};
 ghost use Rattle.document_model.specs.Entries.{is_own, is_station};
+ghost use Rattle.net_model.specs.Options.{is_within};
 ghost use Rattle.net_text.specs.AddrText.{addr_of, hardware_of};
-ghost use Rattle.tree_schema.specs.Reached.{Answers};
-ghost use Rattle.tree_schema.specs.Reading.{item};
-ghost use Rattle.tree_schema.specs.Values.{passing, name};
+ghost use Rattle.tree_schema.specs.Reached.{Answers, Changes};
+ghost use Rattle.tree_schema.specs.Reading.{given_over, item};
+ghost use Rattle.tree_schema.specs.Values.{passing, name, number};
 ghost use Rattle.doc_tree.specs.Shape.{shape};
 ghost use Rattle.link_schema.specs.Words.{claim_from, claim, station_from, station, own_address_from, own_address, off, names};
 
@@ -15,7 +16,7 @@ use doc_tree::Tree;
 use document_model::Claim;
 use net_model::{Addr, Items, Mac, Name};
 use net_text::{read_addr, read_mac};
-use tree_schema::{Form, Item, Reader, Reason, Stop, boolean, formed, name, read_list};
+use tree_schema::{Form, Item, Reader, Reason, Stop, boolean, formed, name, number, read_list};
 
 /// The address of a string.
 pub(crate) fn addr_in(text: &str) -> Option<Addr>
@@ -142,6 +143,30 @@ pub(crate) fn station(tree: &Tree) -> Result<Mac, Reason>
     ensures right { IfOk result (λ m. is_station m ≡ true) }
 {
     formed(&Stations, tree)
+}
+
+/// A number in a range of bytes.
+pub(crate) fn number_u8(least: u8, most: u8, tree: &Tree) -> Result<u8, Reason>
+    ensures value { result ≡ number least most (shape tree.now) }
+    ensures within { IfOk result (λ n. is_within least most n ≡ true) }
+{
+    Ok(number(least as u32, most as u32, tree)? as u8)
+}
+
+/// A number in a range of 16 bits.
+pub(crate) fn number_u16(least: u16, most: u16, tree: &Tree) -> Result<u16, Reason>
+    ensures value { result ≡ number least most (shape tree.now) }
+    ensures within { IfOk result (λ n. is_within least most n ≡ true) }
+{
+    Ok(number(least as u32, most as u32, tree)? as u16)
+}
+
+/// Notes that the value of a key is read over.
+pub(crate) fn noted<E>(reader: &mut Reader, entry: &E) -> Result<(), Stop>
+    ensures { Changes (given_over entry.now) reader.old reader.new entry.now result }
+{
+    reader.note()?;
+    Ok(())
 }
 
 struct NameItems;

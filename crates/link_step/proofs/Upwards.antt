@@ -13,7 +13,7 @@ use Rattle.net_model.specs.Order.{name_cmp}
 use Rattle.net_model.specs.Links.{find_link, is_named, named_passes, is_port_of}
 use Rattle.net_model.specs.Dependence.{has_base, depends_on, reaches}
 use Rattle.net_model.specs.Valid.{names_differ}
-use Rattle.net_model.specs.Indexed.{over}
+use Rattle.net_model.specs.OfName.{over}
 use Rattle.net_model.specs.NetData.{NetData, IsNet}
 use Rattle.net_model.specs.declared.link.Link.{Link}
 use Rattle.net_model.specs.declared.link.Kind.{Kind}
@@ -30,7 +30,7 @@ use Rattle.net_model.proofs.lemmas.Parts.{le_of, is_le, apart_filter}
 use Rattle.net_model.proofs.lemmas.Places.{any_at}
 use Rattle.net_model.proofs.lemmas.Ports.{among_filtered}
 use Rattle.net_model.proofs.lemmas.Rises.{apart-rises}
-use Rattle.net_model.proofs.lemmas.LinkIndexes.{over_rise}
+use Rattle.net_lists.proofs.lemmas.LinkLists.{over_rise}
 use Rattle.kernel_model.specs.Words.{hangs_on}
 use Rattle.kernel_laws.proofs.lemmas.Hanging.{hangs}
 use Rattle.link_step.specs.declared.hanging.Affected.{Affected}

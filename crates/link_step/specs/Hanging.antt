@@ -3,7 +3,7 @@ use Rattle.std.specs.Prelude.{◌≡◌, ℕ, Bool, ◌&&◌, ◌||◌, true, na
 use Rattle.net_model.specs.Name.{same_bytes}
 use Rattle.net_model.specs.Words.{apart, is_among}
 use Rattle.net_model.specs.Links.{is_named, named_passes}
-use Rattle.net_model.specs.Indexed.{over}
+use Rattle.net_model.specs.OfName.{over}
 use Rattle.net_model.specs.declared.Link.{Link}
 use Rattle.kernel_model.specs.Words.{is_over}
 use Rattle.link_step.specs.declared.hanging.Affected.{Affected}

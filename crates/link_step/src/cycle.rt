@@ -9,9 +9,11 @@ ghost use Rattle.kernel_model.specs.Words.{has_link};
 ghost use Rattle.net_model.specs.Edits.{edit_link, attached};
 ghost use Rattle.link_step.specs.Leaf.{is_leaf};
 
-use net_model::{
-    Kind, Link, Name, Net, OutOfMemory, arrows, find_link, is_among, is_bond, place_of,
-};
+use net_core::Net;
+use net_edits::is_among;
+use net_lists::{find_link, is_bond, place_of};
+use net_model::{Kind, Link, Name, OutOfMemory};
+use net_valid::arrows;
 use reach::closure;
 use std::alloc::{AllocError, Global};
 

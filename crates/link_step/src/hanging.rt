@@ -6,7 +6,9 @@ ghost use Rattle.net_model.specs.Links.{named_passes};
 ghost use Rattle.net_model.specs.NetData.{IsNet};
 ghost use Rattle.link_step.specs.Hanging.{AreAffected, is_affected, affected_among, affected_over, affected_on, hanging};
 
-use net_model::{Link, Name, Parts, find_link};
+use net_core::Parts;
+use net_lists::find_link;
+use net_model::{Link, Name};
 use std::alloc::{AllocError, Global};
 
 // Which links a call changes, of what hangs on one. A VLAN is one of these only where its base is, so nothing over a link

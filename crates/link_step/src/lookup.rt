@@ -6,7 +6,8 @@ ghost use Rattle.net_model.specs.Order.{link_cmp};
 ghost use Rattle.net_model.specs.Links.{find_link};
 ghost use Rattle.kernel_model.specs.Words.{has_link};
 
-use net_model::{Link, Name, find_link};
+use net_lists::find_link;
+use net_model::{Link, Name};
 
 /// Whether a link has this name.
 pub fn has_link(links: &[Link], name: &Name) -> bool

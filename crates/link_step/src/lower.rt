@@ -6,7 +6,8 @@ ghost use Rattle.net_model.specs.NetData.{IsNet};
 ghost use Rattle.kernel_model.specs.UpDown.{lowered, fallen, after_down};
 
 use crate::hanging::{Affected, affected_on};
-use net_model::{Name, OutOfMemory, Parts};
+use net_core::Parts;
+use net_model::{Name, OutOfMemory};
 use std::alloc::Global;
 
 // Takes down the links of these names, each found by binary search.

@@ -8,7 +8,9 @@ ghost use Rattle.kernel_model.specs.Settings.{with_mtu, after_set_mtu};
 ghost use Rattle.link_step.specs.Clamped.{clamped};
 
 use crate::hanging::{Affected, affected_on};
-use net_model::{Link, Name, OutOfMemory, Parts, place_of};
+use net_core::Parts;
+use net_lists::place_of;
+use net_model::{Link, Name, OutOfMemory};
 use std::alloc::Global;
 
 fn lesser(a: u32, b: u32) -> u32

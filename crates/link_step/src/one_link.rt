@@ -5,7 +5,9 @@ ghost use Rattle.net_model.specs.Order.{link_cmp};
 ghost use Rattle.net_model.specs.Edits.{edit_link};
 ghost use Rattle.link_step.specs.OneLink.{written};
 
-use net_model::{Call, Link, Name, Parts, place_of};
+use net_core::Parts;
+use net_lists::place_of;
+use net_model::{Call, Link, Name};
 
 fn write(link: &mut Link, call: &Call)
     ensures { link.new ≡ written call.now link.old }

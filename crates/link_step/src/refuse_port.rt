@@ -16,9 +16,9 @@ use crate::refuse::is_named_bridge;
 use kernel_model::refusal::{
     BAD_OPTIONS, CYCLE, HAS_CONTROLLER, NO_CONTROLLER, NO_LINK, PORT_ADDRESS, PORT_KIND, PORT_UP,
 };
-use net_model::{
-    Kind, Link, Name, Net, OutOfMemory, PortOpts, find_link, is_bond, is_bond_or_bridge, takes,
-};
+use net_core::Net;
+use net_lists::{find_link, is_bond, is_bond_or_bridge, takes};
+use net_model::{Kind, Link, Name, OutOfMemory, PortOpts};
 
 #[tactic(auto, using(net_model::proofs::lemmas::Found::named_passes_found))]
 fn has_controller(links: &[Link], port: &Name) -> bool

@@ -7,7 +7,8 @@ ghost use Rattle.net_model.specs.Edits.{may_be_named};
 ghost use Rattle.link_step.specs.Releasing.{Releases};
 
 use crate::lookup::controller_of;
-use net_model::{Name, Parts};
+use net_core::Parts;
+use net_model::Name;
 
 // The last port of a link, in the order of the links. Taken out of the index, it moves no other.
 fn last_port(parts: &Parts, name: &Name) -> Option<Name>

@@ -18,7 +18,8 @@ use crate::mtu::set_mtu;
 use crate::one_link::write_on;
 use crate::{refuse, refuse_port};
 use kernel_model::StepFault;
-use net_model::{Call, Name, Net, OutOfMemory, Parts};
+use net_core::{Net, Parts};
+use net_model::{Call, Name, OutOfMemory};
 use std::alloc::Global;
 
 // The least number with which the call is refused.

@@ -3,7 +3,8 @@
 
 ghost use Rattle.std.specs.Prelude.{◌≡◌, ◌↔◌, IsTrue};
 
-use net_model::{Addr, BondOpts, Dns, Domain, Link, Net, Prefix, Route, Rule};
+use net_core::Net;
+use net_model::{Addr, BondOpts, Dns, Domain, Link, Prefix, Route, Rule};
 
 fn same_prefixes(a: &[Prefix], b: &[Prefix]) -> bool
     ensures { IsTrue result ↔ (a.now ≡ b.now) }

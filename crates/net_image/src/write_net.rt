@@ -11,7 +11,8 @@ ghost use Rattle.net_model.specs.declared.limits.TheConstants.{MAX_SERVERS, MAX_
 use crate::stored::{PushTo, push_all};
 use crate::write::{push_byte, push_family, push_u16, push_u32};
 use crate::write_link::push_links;
-use net_model::{Addr, Dns, Domain, Link, Net, OutOfMemory, Route, Rule, Target};
+use net_core::Net;
+use net_model::{Addr, Dns, Domain, Link, OutOfMemory, Route, Rule, Target};
 
 #[tactic(auto, unfolding(crate::specs::Image::route))]
 pub(crate) fn push_route(of: &Route, out: &mut Vec<u8>) -> Result<(), OutOfMemory>

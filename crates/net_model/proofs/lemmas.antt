@@ -32,9 +32,4 @@ pub mod Cycles
 pub mod Listing
 pub mod ListChanges
 pub mod Editing
-pub mod LinkIndexes
-pub mod Counting
-pub mod RouteIndexes
-pub mod NoRoutes
 pub mod Detaching
-pub mod Going

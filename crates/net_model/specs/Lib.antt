@@ -21,6 +21,6 @@ pub mod Positions
 pub mod SameLists
 pub mod Listed
 pub mod KeyOrder
-pub mod Indexed
+pub mod OfName
 pub mod Edits
 pub mod RoutePosition

@@ -6,8 +6,8 @@ use Rattle.net_model.specs.Order.{block_cmp, link_cmp, route_cmp, rule_cmp}
 pub use Rattle.net_model.specs.Lists.{NetData, net_of, no_dns}
 use Rattle.net_model.specs.Valid.{least_broken}
 use Rattle.net_model.specs.declared.link.Link.{Link}
-use Rattle.net_model.specs.declared.net.NetFault.{NetFault}
-use Rattle.net_model.specs.declared.net.NetFault.TheVariants.{Broken, OutOfMemory}
+use Rattle.net_model.specs.declared.fault.NetFault.{NetFault}
+use Rattle.net_model.specs.declared.fault.NetFault.TheVariants.{Broken, OutOfMemory}
 
 -- links by name, each link's addresses, routes by key and rules by all fields; the lists of DNS stay as given
 pub record IsInOrder (net : NetData) : Type 0 where

@@ -1,6 +1,6 @@
 //! The key of a route, by which routes are ordered.
 ghost use Rattle.std.specs.Prelude.{◌≡◌};
-ghost use Rattle.net_model.specs.Indexed.{key_of};
+ghost use Rattle.net_model.specs.OfName.{key_of};
 
 use crate::address::Subnet;
 use crate::id::TableId;

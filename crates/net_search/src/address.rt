@@ -5,7 +5,8 @@ ghost use Rattle.net_model.specs.Order.{address_cmp, block_cmp};
 ghost use Rattle.net_model.specs.Valid.{addresses_differ};
 ghost use Rattle.net_search.specs.Search.{find_in, find_address};
 
-use net_model::{Addr, Name, Net, Prefix};
+use net_core::Net;
+use net_model::{Addr, Name, Prefix};
 use std::cmp::Ordering;
 
 // How a prefix's address is ordered to another.

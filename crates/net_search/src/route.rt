@@ -5,7 +5,8 @@ ghost use Rattle.net_model.specs.Order.{route_cmp};
 ghost use Rattle.net_model.specs.Valid.{keys_differ};
 ghost use Rattle.net_search.specs.Search.{find_route, key_cmp};
 
-use net_model::{Net, Route, Subnet, TableId};
+use net_core::Net;
+use net_model::{Route, Subnet, TableId};
 use std::cmp::Ordering;
 
 // How a route is ordered to a key.

@@ -18,8 +18,8 @@ use crate::pairs::push_led;
 use crate::printing::is_printed;
 use crate::reading::number;
 use case_table::{Text, first_word, parted, push_numbered};
+use net_core::Net;
 use net_equal::same_net;
-use net_model::Net;
 use std::alloc::Global;
 
 /// A network under a name.

@@ -8,7 +8,8 @@ use document_schema::doc_of;
 use kernel_step::{StepFault, step};
 use link_schema::hardware_of;
 use merge_core::merge;
-use net_model::{Call, Dns, Items, Link, Net, Subnet};
+use net_core::Net;
+use net_model::{Call, Dns, Items, Link, Subnet};
 use std::alloc::Global;
 use yaml_read::tree_of_yaml;
 

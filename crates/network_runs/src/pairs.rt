@@ -5,9 +5,11 @@ use crate::draws::{Draws, name_at};
 use crate::networks::{of_links, try_call};
 use crate::seen::{count, kind_of_call, shapes};
 use case_table::Text;
+use kernel_step::Kernel;
 use link_planner::plan_links;
+use net_core::Net;
 use net_equal::same_net;
-use net_model::{BondOpts, BridgeOpts, Call, DEFAULT_MTU, Items, Kind, Link, Mac, Net, PortOpts};
+use net_model::{BondOpts, BridgeOpts, Call, DEFAULT_MTU, Items, Kind, Link, Mac, PortOpts};
 use plan_core::plan;
 use std::alloc::Global;
 
@@ -50,7 +52,7 @@ fn calls_between(alloc: Global, from: &Net, to: &Net) -> Option<Vec<Call>> {
 
 // Whether the plan for the links of a network to its own links has no call, and leads to the network.
 fn links_stay(alloc: Global, net: &Net) -> Option<bool> {
-    let plan = plan_links(alloc, net, net).ok()?;
+    let plan = plan_links::<Kernel>(alloc, net, net).ok()?;
     Some(plan.calls.is_empty() && same_net(&plan.after, net))
 }
 

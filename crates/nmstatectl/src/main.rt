@@ -5,26 +5,14 @@
 ghost use Rattle.std.specs.Prelude.{◌≡◌};
 ghost use Rattle.std.specs.Process.{exit_status};
 
-use disk_host::DiskHost;
-use file_disk::FileDisk;
+use folder_hosts::{host_in, nodes_in, words};
 use program_top::{Report, run_program};
-use std::alloc::AllocError;
-use std::env;
-use std::io::{self, Write};
+use std::io::Write;
 use std::process::ExitCode;
 use system_adapters::{
     FileFolder, FileSource, Stream, StreamSink, SystemClock, node_folders, service_folder,
     take_folder,
 };
-
-/// The words after the program's name. Words that aren't all UTF-8 are no command, as no words are.
-fn words(rt: &HostRuntime) -> io::Result<Vec<String>> {
-    match env::args(rt) {
-        Ok(args) => Ok(args.skip(1).collect(rt.alloc())?),
-        Err(error) if error.kind() == io::ErrorKind::InvalidData => Ok(Vec::new(rt.alloc())),
-        Err(error) => Err(error),
-    }
-}
 
 /// The status where memory is refused before a command is read.
 const OUT_OF_MEMORY: u8 = 8;
@@ -42,27 +30,6 @@ fn ending(report: &Report) -> ExitCode
     ensures { exit_status result ≡ report.now.status }
 {
     ExitCode::from(report.status)
-}
-
-/// The folder of the state, where the words name none.
-const HERE: &str = ".";
-
-/// The host whose state stands in the folder that was named.
-fn host_in(rt: &HostRuntime, named: &Option<String>) -> DiskHost<FileDisk> {
-    let folder = match named {
-        Some(folder) => folder.as_str(),
-        None => HERE,
-    };
-    DiskHost::new(FileDisk::open(rt, folder))
-}
-
-/// A node of a rollout for each of these folders, in their order.
-fn nodes_in(rt: &HostRuntime, folders: &[String]) -> Result<Vec<DiskHost<FileDisk>>, AllocError> {
-    let mut nodes = Vec::new(rt.alloc());
-    for folder in folders {
-        nodes.push(DiskHost::new(FileDisk::open(rt, folder.as_str())))?;
-    }
-    Ok(nodes)
 }
 
 fn main(rt: HostRuntime) -> ExitCode {

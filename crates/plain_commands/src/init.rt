@@ -9,7 +9,8 @@ use answer_text::{made_line, tell_done, tell_refused};
 use base_model::{Items, OutOfMemory};
 use engine_model::Left;
 use host_core::{Host, MakeFault, Sink, Source};
-use net_model::{Dns, Link, Net, NetFault};
+use net_core::Net;
+use net_model::{Dns, Link, NetFault};
 use std::alloc::Global;
 use top_model::{Cause, Report};
 

@@ -3,7 +3,7 @@ ghost use Rattle.command_laws.specs.Looked.{Finds, ChangesNothing};
 
 use engine_model::Left;
 use host_core::{Area, DumpFault, Host};
-use net_model::Net;
+use net_core::Net;
 use std::alloc::Global;
 use top_model::Cause;
 

@@ -18,7 +18,7 @@ use host_core::{Host, Sink, Source};
 use ip_batch::write_batch;
 use merge_core::merge;
 use merge_model::MergeFault;
-use net_model::Net;
+use net_core::Net;
 use plan_core::plan;
 use std::alloc::Global;
 use top_model::{Cause, Report};

@@ -17,7 +17,7 @@ use answer_text::{note_text, tell_done, tell_refused};
 use base_model::OutOfMemory;
 use document_model::Doc;
 use host_core::{Host, Sink, Source};
-use net_model::Net;
+use net_core::Net;
 use policy_document::{document_on, value_on};
 use policy_lang::Policy;
 use std::alloc::Global;

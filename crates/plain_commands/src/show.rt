@@ -9,7 +9,7 @@ use crate::look::look;
 use answer_text::{shown_text, tell_done, tell_refused};
 use base_model::{OutOfMemory, Str};
 use host_core::{Host, Sink, Source};
-use net_model::Net;
+use net_core::Net;
 use std::alloc::Global;
 use top_model::{Cause, Report};
 

@@ -10,7 +10,8 @@ use crate::show::printed_of;
 use answer_text::{tell_done, tell_refused};
 use host_core::{Host, Sink, Source};
 use kernel_step::{StepFault, step};
-use net_model::{Call, Net};
+use net_core::Net;
+use net_model::Call;
 use std::alloc::Global;
 use top_model::{Cause, Report};
 

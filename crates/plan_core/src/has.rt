@@ -9,7 +9,9 @@ ghost use Rattle.net_model.specs.Edits.{same_route};
 ghost use Rattle.plan_model.specs.Undisturbed.{has_route};
 ghost use Rattle.plan_model.specs.Wants.{has_address};
 
-use net_model::{Name, Net, Position, Prefix, Route, Rule, address_position};
+use net_core::Net;
+use net_lists::address_position;
+use net_model::{Name, Position, Prefix, Route, Rule};
 
 /// Whether the rule is there.
 pub fn has_rule(net: &Net, rule: &Rule) -> bool

@@ -5,9 +5,11 @@ ghost use Rattle.plan_model.specs.Plans.{IsPlan};
 
 use crate::put_on::put_on;
 use crate::take_off::take_off;
+use kernel_step::Kernel;
 use link_planner::{Draft, link_phases};
+use net_core::Net;
 use net_equal::same_net;
-use net_model::{Call, Net, OutOfMemory};
+use net_model::{Call, OutOfMemory};
 use plan_model::plan_laws;
 use std::alloc::Global;
 
@@ -29,7 +31,7 @@ fn phases(alloc: Global, now_net: &Net, to_net: &Net) -> Result<Vec<Call>, OutOf
 {
     let mut draft = Draft::new(alloc, now_net, to_net)?;
     take_off(&mut draft)?;
-    link_phases(alloc, &mut draft)?;
+    link_phases::<Kernel>(alloc, &mut draft)?;
     put_on(&mut draft)?;
     draft.laws();
     plan_laws();

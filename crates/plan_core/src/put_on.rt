@@ -7,6 +7,7 @@ ghost use Rattle.plan_core.specs.Parts.{IsPartOf, HasAddress, HasAddresses, HasR
 ghost use Rattle.plan_core.specs.Steps.{MayPutOn, PutsOn};
 
 use crate::has::{has_address, has_route, has_rule};
+use kernel_step::Kernel;
 use link_planner::Draft;
 use net_equal::same_dns;
 use net_model::{Call, Link, Name, OutOfMemory, Prefix, Route, Rule};
@@ -35,7 +36,7 @@ fn add_addresses_of(draft: &mut Draft, there: &Link) -> Result<(), OutOfMemory>
 {
     for addr in there.addrs.items() {
         let call = address_on(draft, &there.name, addr);
-        draft.add_some(call)?;
+        draft.add_some::<Kernel>(call)?;
     }
     Ok(())
 }
@@ -73,7 +74,7 @@ fn add_routes(draft: &mut Draft) -> Result<(), OutOfMemory>
 {
     for route in draft.target().routes() {
         let call = route_on(draft, route);
-        draft.add_some(call)?;
+        draft.add_some::<Kernel>(call)?;
     }
     Ok(())
 }
@@ -98,7 +99,7 @@ fn add_rules(draft: &mut Draft) -> Result<(), OutOfMemory>
 {
     for rule in draft.target().rules() {
         let call = rule_on(draft, rule);
-        draft.add_some(call)?;
+        draft.add_some::<Kernel>(call)?;
     }
     Ok(())
 }
@@ -114,7 +115,7 @@ fn set_dns(draft: &mut Draft) -> Result<(), OutOfMemory>
     if !same_dns(draft.net().dns(), draft.target().dns()) {
         draft.laws();
         let dns = draft.target().dns().copy()?;
-        draft.add(Call::SetDns { dns })?;
+        draft.add::<Kernel>(Call::SetDns { dns })?;
     }
     Ok(())
 }

@@ -8,6 +8,7 @@ ghost use Rattle.plan_core.specs.Parts.{AddressFits, RouteFits, RuleFits, EachAd
 ghost use Rattle.plan_core.specs.Steps.{TakesOff, MayTakeOff};
 
 use crate::has::{has_address, has_route, has_rule};
+use kernel_step::Kernel;
 use link_planner::Draft;
 use net_model::{Call, Link, Name, OutOfMemory, Prefix, Route, Rule};
 
@@ -30,7 +31,7 @@ fn drop_rules(draft: &mut Draft) -> Result<(), OutOfMemory>
     let rules = draft.start().rules();
     for at in (0..rules.len()).rev() {
         let call = rule_off(draft, &rules[at]);
-        draft.add_some(call)?;
+        draft.add_some::<Kernel>(call)?;
     }
     Ok(())
 }
@@ -54,7 +55,7 @@ fn drop_routes(draft: &mut Draft) -> Result<(), OutOfMemory>
     let routes = draft.start().routes();
     for at in (0..routes.len()).rev() {
         let call = route_off(draft, &routes[at]);
-        draft.add_some(call)?;
+        draft.add_some::<Kernel>(call)?;
     }
     Ok(())
 }
@@ -79,7 +80,7 @@ fn drop_addresses_of(draft: &mut Draft, link: &Link) -> Result<(), OutOfMemory>
 {
     for addr in link.addrs.items() {
         let call = address_off(draft, &link.name, addr);
-        draft.add_some(call)?;
+        draft.add_some::<Kernel>(call)?;
     }
     Ok(())
 }

@@ -11,7 +11,7 @@ ghost use Rattle.top_model.specs.Orders.{value_on, document_on};
 
 use doc_tree::Tree;
 use document_model::Doc;
-use net_model::Net;
+use net_core::Net;
 use order_reading::{document_of, policy_cause};
 use policy_lang::Policy;
 use policy_values::value_of;

@@ -6,3 +6,4 @@ pub mod Under
 pub mod Sited
 pub mod Reached
 pub mod Wanted
+pub mod Faults

@@ -1,6 +1,5 @@
 //! Captures that their own values would be made of.
 ghost use Rattle.std.specs.Prelude.{◌≡◌, ◌<◌, length, get_or, IfOk, map, find, option_copied};
-ghost use Rattle.std.specs.List.{list_any};
 ghost use Rattle.std.specs.Str.{bytes_eq};
 ghost use Rattle.reach.specs.Positions.{positions};
 ghost use Rattle.policy_model.specs.Policies.{have_name, names_capture, reaches_itself};
@@ -11,19 +10,11 @@ use policy_model::Capture;
 use reach::closure;
 use std::alloc::{AllocError, Global};
 
-fn is_among(names: &[Str], capture: &Capture) -> bool
-    ensures { result ≡ list_any (λ n. bytes_eq n capture.now.name) names.now }
-{
-    names
-        .iter()
-        .any(|name| name.as_str() == capture.name.as_str())
-}
-
 fn is_named(names: &Option<Items<Str>>, capture: &Capture) -> bool
     ensures { result ≡ have_name names.now capture.now }
 {
     match names {
-        Some(names) => is_among(names.items(), capture),
+        Some(names) => names.items().contains(&capture.name),
         None => false,
     }
 }
@@ -69,7 +60,8 @@ fn arrows(alloc: Global, captures: &[Capture]) -> Result<Vec<Items<usize>>, OutO
     Ok(arrows)
 }
 
-fn has_name(capture: &Capture, name: &Str) -> bool
+// Whether a capture has this name.
+pub(crate) fn has_name(capture: &Capture, name: &Str) -> bool
     ensures { result ≡ bytes_eq capture.now.name name.now }
 {
     capture.name.as_str() == name.as_str()

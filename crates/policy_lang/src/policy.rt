@@ -3,7 +3,7 @@ ghost use Rattle.std.specs.Prelude.{◌≡◌, true, IfOk, unwrap_or};
 ghost use Rattle.doc_tree.specs.Lookup.{get};
 ghost use Rattle.policy_model.specs.Keys.{desired_word};
 ghost use Rattle.doc_tree.specs.Shape.{shape, nothing, is_distinct, has_short_lists};
-ghost use Rattle.policy_model.specs.Policies.{IsPolicy, policy_of_tree};
+ghost use Rattle.policy_model.specs.Policies.{IsPolicy, policy_of_tree, sites_of};
 ghost use Rattle.policy_lang.specs.Answers.{GivesPolicy, Passes};
 ghost use Rattle.policy_lang.specs.Held.{data_of};
 
@@ -14,7 +14,7 @@ use crate::shape::{capture_at, captures_in, wrong_shape};
 use crate::sites::{first_unknown, first_unread, sites};
 use base_model::OutOfMemory;
 use doc_tree::Tree;
-use policy_model::{Capture, PolicyFault};
+use policy_model::{Capture, PolicyFault, Site};
 use std::alloc::Global;
 use std::marker::Model;
 
@@ -73,21 +73,46 @@ impl Policy {
     }
 }
 
+// The first fault of captures that have these sites, and its place.
+fn site_fault(
+    alloc: Global,
+    captures: &[Capture],
+    desired: &Tree,
+    sites: &[Site],
+) -> Result<(), PolicyFault>
+    requires { sites.now ≡ sites_of captures.now (shape desired.now) }
+    ensures { Passes captures.now (shape desired.now) result }
+{
+    if let Some(site) = first_unread(sites) {
+        return match copy_steps(alloc, &site.at) {
+            Ok(path) => Err(PolicyFault::BadExpression(path)),
+            Err(_) => Err(PolicyFault::OutOfMemory),
+        };
+    }
+    if let Some(site) = first_unknown(captures, sites) {
+        return match copy_steps(alloc, &site.at) {
+            Ok(path) => Err(PolicyFault::UnknownCapture(path)),
+            Err(_) => Err(PolicyFault::OutOfMemory),
+        };
+    }
+    match first_on_cycle(alloc, captures) {
+        Ok(None) => Ok(()),
+        Ok(Some(capture)) => match capture_at(alloc, &capture.name) {
+            Ok(path) => Err(PolicyFault::CaptureCycle(path)),
+            Err(_) => Err(PolicyFault::OutOfMemory),
+        },
+        Err(_) => Err(PolicyFault::OutOfMemory),
+    }
+}
+
 // The first fault of a policy of the right shape, and its place.
 fn first_fault(alloc: Global, captures: &[Capture], desired: &Tree) -> Result<(), PolicyFault>
     ensures { Passes captures.now (shape desired.now) result }
 {
-    let sites = sites(alloc, captures, desired)?;
-    if let Some(site) = first_unread(sites.as_slice()) {
-        return Err(PolicyFault::BadExpression(copy_steps(alloc, &site.at)?));
+    match sites(alloc, captures, desired) {
+        Ok(sites) => site_fault(alloc, captures, desired, sites.as_slice()),
+        Err(_) => Err(PolicyFault::OutOfMemory),
     }
-    if let Some(site) = first_unknown(captures, sites.as_slice()) {
-        return Err(PolicyFault::UnknownCapture(copy_steps(alloc, &site.at)?));
-    }
-    if let Some(capture) = first_on_cycle(alloc, captures)? {
-        return Err(PolicyFault::CaptureCycle(capture_at(alloc, &capture.name)?));
-    }
-    Ok(())
 }
 
 // The tree that is wanted, or null where none is.

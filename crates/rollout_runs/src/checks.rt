@@ -10,8 +10,8 @@ use crate::words::{event_of, number};
 use case_table::{Text, first_word};
 use document_model::Doc;
 use engine_core::recover;
+use net_core::Net;
 use net_equal::same_net;
-use net_model::Net;
 use rollout_core::{Core, Event, MAX_NODES, NodeState};
 use std::alloc::Global;
 

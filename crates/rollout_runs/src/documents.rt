@@ -7,7 +7,8 @@ use document_model::Doc;
 use document_schema::doc_of;
 use link_schema::hardware_of;
 use merge_core::merge;
-use net_model::{Dns, Items, Net};
+use net_core::Net;
+use net_model::{Dns, Items};
 use std::alloc::Global;
 use yaml_read::tree_of_yaml;
 

@@ -4,7 +4,8 @@ ghost use Rattle.std.specs.Prelude.{◌≡◌};
 use crate::documents::{BOTH, SECOND, first};
 use host_core::{CallFault, DumpFault, Failed, Host, MakeFault, raised};
 use host_memory::{Fuse, MemoryHost};
-use net_model::{Call, Net};
+use net_core::Net;
+use net_model::Call;
 use std::alloc::Global;
 
 /// A host in memory for whose dump of this number, from 1, there is no memory.

@@ -3,7 +3,8 @@ ghost use Rattle.std.specs.Prelude.{◌≡◌, true, option_copied, IfOk};
 ghost use Rattle.net_model.specs.Links.{find_link, named_passes};
 ghost use Rattle.net_model.specs.Valid.{names_differ, route_stands};
 
-use net_model::{Link, Name, Route, route_on_link};
+use net_lists::route_on_link;
+use net_model::{Link, Name, Route};
 use std::alloc::{AllocError, Global};
 use std::collections::BTreeMap;
 use std::marker::Model;

@@ -7,7 +7,8 @@ ghost use Rattle.scenario.specs.Stages.{NotMade};
 
 use base_model::{Items, OutOfMemory};
 use host_core::Host;
-use net_model::{Dns, Link, Net, NetFault};
+use net_core::Net;
+use net_model::{Dns, Link, NetFault};
 use scenario_model::WorkFault;
 use std::alloc::{AllocError, Global};
 

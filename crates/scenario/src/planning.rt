@@ -16,7 +16,7 @@ use base_model::OutOfMemory;
 use document_model::Doc;
 use host_core::Host;
 use merge_core::merge;
-use net_model::Net;
+use net_core::Net;
 use plan_core::plan;
 use scenario_model::WorkFault;
 use std::alloc::Global;

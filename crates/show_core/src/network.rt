@@ -12,7 +12,8 @@ use crate::links::link_tree;
 use crate::pairs::Pairs;
 use crate::values::{Shown, each, subnet_tree};
 use doc_tree::Tree;
-use net_model::{Dns, Link, Net, OutOfMemory, Route, Rule, Target};
+use net_core::Net;
+use net_model::{Dns, Link, OutOfMemory, Route, Rule, Target};
 use net_text::family_word;
 use std::alloc::Global;
 

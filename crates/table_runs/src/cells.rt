@@ -8,7 +8,7 @@ use engine_core::settle;
 use engine_model::BackFault;
 use host_core::Failed;
 use host_memory::MemoryHost;
-use net_model::Net;
+use net_core::Net;
 use std::alloc::Global;
 
 fn push_seen(seen: Result<Seen, Failed>, out: &mut Text) {

@@ -2,8 +2,8 @@
 
 use base_model::OutOfMemory;
 use case_table::{Text, bytes_of_hex, push_hex};
+use net_core::Net;
 use net_image::{ImageFault, decode, encode};
-use net_model::Net;
 use std::alloc::Global;
 
 /// Pushes the digits of the image of a network.

@@ -4,9 +4,8 @@
 use crate::links::link_of;
 use crate::reading::{addr, name, number, prefix};
 use case_table::{Text, first_word, parted, push_numbered};
-use net_model::{
-    Addr, Dns, Domain, Items, Link, Net, NetFault, Parts, Route, Rule, Subnet, TableId, Target,
-};
+use net_core::{Net, Parts};
+use net_model::{Addr, Dns, Domain, Items, Link, NetFault, Route, Rule, Subnet, TableId, Target};
 use std::alloc::Global;
 
 /// The lists of a network.

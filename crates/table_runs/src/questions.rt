@@ -4,12 +4,11 @@ use crate::addresses::{push_addr, push_mac, push_prefix};
 use crate::lists::rule;
 use crate::reading::{addr, name, number, prefix};
 use case_table::{Text, first_word};
-use net_model::{
-    Link, Mac, Name, Net, Position, RouteKey, Rule, Subnet, TableId, bridge_in_range, can_be_base,
-    is_bond, is_bridge, is_default_bond, is_default_bridge, is_default_port, is_ethernet,
-    is_on_link, mtu_in_range, port_in_range, takes,
-};
+use net_core::Net;
+use net_lists::{can_be_base, is_bond, is_bridge, is_ethernet, is_on_link, takes};
+use net_model::{Link, Mac, Name, Position, RouteKey, Rule, Subnet, TableId};
 use net_search::{find_address, find_route};
+use net_valid::{bridge_in_range, is_default_bond, is_default_bridge, is_default_port, mtu_in_range, port_in_range};
 
 const NONE: &str = "none";
 

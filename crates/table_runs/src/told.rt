@@ -5,7 +5,7 @@ use case_table::{Text, first_word};
 use document_model::{Place, Refused};
 use engine_model::Left;
 use host_memory::MemorySink;
-use net_model::Net;
+use net_core::Net;
 use rollout_model::Event;
 use scenario_model::Summary;
 use std::alloc::Global;

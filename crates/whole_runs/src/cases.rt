@@ -36,7 +36,7 @@ use crate::stored::{area_of, behind, cut, overwritten};
 use crate::sweeps::{Kept, find, swept};
 use crate::told::Told;
 use case_table::{Text, bytes_of_hex, first_word, push_hex};
-use net_model::Net;
+use net_core::Net;
 use std::alloc::Global;
 use std::mem;
 

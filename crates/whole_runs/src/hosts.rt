@@ -5,8 +5,8 @@ use crate::runs::{Faults, taken};
 use crate::stored::cut;
 use host_core::{Area, DumpFault, Host};
 use host_memory::{Fuse, LyingHost, MemoryDisk, MemoryHost, RefusingHost};
+use net_core::Net;
 use net_equal::same_net;
-use net_model::Net;
 use std::alloc::Global;
 use std::mem;
 

@@ -12,7 +12,7 @@ use case_table::Text;
 use disk_host::DiskHost;
 use host_core::Area;
 use host_memory::{MemoryDisk, MemoryHost};
-use net_model::Net;
+use net_core::Net;
 use nmstate_top::{Cause, Report, Step};
 use std::alloc::Global;
 

@@ -8,7 +8,7 @@ use crate::reading::number;
 use crate::runs::World;
 use boot_service::{FolderFile, FolderFuse};
 use case_table::{Text, first_word, parted};
-use net_model::Net;
+use net_core::Net;
 use std::alloc::Global;
 
 /// Two devices, down.

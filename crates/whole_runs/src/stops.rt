@@ -7,7 +7,7 @@ use crate::not_done::NotDone;
 use crate::services::{apply, first, fuse, serve};
 use boot_service::FolderFile;
 use case_table::Text;
-use net_model::Net;
+use net_core::Net;
 use std::alloc::Global;
 
 // What a service over documents comes to.

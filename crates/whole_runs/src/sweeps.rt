@@ -9,7 +9,7 @@ use crate::reading::number;
 use crate::runs::{Faults, Run, step, step_of};
 use case_table::{Text, parted};
 use host_memory::Fuse;
-use net_model::Net;
+use net_core::Net;
 use std::alloc::Global;
 use std::mem;
 

@@ -5,6 +5,7 @@ use Rattle.std.proofs.lemmas.Bool.{false≢true, ne_eqb}
 use Rattle.std.proofs.lemmas.List.{append-nil}
 use Rattle.yaml_plain.specs.Bytes.{is_empty, apostrophe}
 use Rattle.yaml_plain.specs.Plain.{with_front}
+use Rattle.yaml_plain.proofs.lemmas.Parts.{behind}
 use Rattle.yaml_read.specs.Quoted.{single_quoted, piece, behind_piece, unescaped_within}
 use Rattle.yaml_read.proofs.Fronts.{turn, no_turn}
 
@@ -32,6 +33,46 @@ pending_step false b bs is = absurd (false≢true (sym is))
 pub single_step : (pending : Bool) (b : ℕ) (bs : List ℕ) → false ≡ (pending && not (eqb b apostrophe)) → end_of (single_quoted pending (b ∷ bs)) ≡ end_of (single_quoted (not pending && eqb b apostrophe) bs)
 single_step false b bs is = outside_step (eqb b apostrophe) b bs
 single_step true b bs is = pending_step (eqb b apostrophe) b bs (sym is)
+
+-- ---- a scalar in apostrophes, behind what was read of it
+
+front_more : (front : List ℕ) (b : ℕ) (r : Option (List ℕ × List ℕ)) → option_map (behind (front ++ b ∷ [])) r ≡ option_map (behind front) (option_map (with_front b) r)
+front_more front b None = refl
+front_more front b (Some p) = ap (λ (xs : List ℕ). Some (xs, p.1)) (append_assoc front (b ∷ []) p.0)
+
+outside_more : (t : Bool) (front : List ℕ) (b : ℕ) (bs : List ℕ)
+    → option_map (behind (cond t front (front ++ b ∷ []))) (single_quoted t bs) ≡ option_map (behind front) (cond t (single_quoted true bs) (option_map (with_front b) (single_quoted false bs)))
+outside_more true front b bs = refl
+outside_more false front b bs = front_more front b (single_quoted false bs)
+
+pending_more : (t : Bool) (front : List ℕ) (b : ℕ) (bs : List ℕ) → not t ≡ false
+    → option_map (behind (front ++ b ∷ [])) (single_quoted false bs) ≡ option_map (behind front) (cond t (option_map (with_front b) (single_quoted false bs)) (Some ([], b ∷ bs)))
+pending_more true front b bs is = front_more front b (single_quoted false bs)
+pending_more false front b bs is = absurd (false≢true (sym is))
+
+-- the scalar goes on with a byte, or with nothing for the first of two apostrophes
+pub single_more : (pending : Bool) (front : List ℕ) (b : ℕ) (bs : List ℕ) → false ≡ (pending && not (eqb b apostrophe))
+    → option_map (behind (cond (not pending && eqb b apostrophe) front (front ++ b ∷ []))) (single_quoted (not pending && eqb b apostrophe) bs) ≡ option_map (behind front) (single_quoted pending (b ∷ bs))
+single_more false front b bs is = outside_more (eqb b apostrophe) front b bs
+single_more true front b bs is = pending_more (eqb b apostrophe) front b bs (sym is)
+
+closed : (t : Bool) (front : List ℕ) (b : ℕ) (bs : List ℕ) → not t ≡ true → option_map (behind front) (cond t (option_map (with_front b) (single_quoted false bs)) (Some ([], b ∷ bs))) ≡ Some (front, b ∷ bs)
+closed true front b bs is = absurd (false≢true is)
+closed false front b bs is = ap (λ (xs : List ℕ). Some (xs, b ∷ bs)) (append-nil front)
+
+-- it is closed before a byte that follows an apostrophe and is none
+pub single_closed : (pending : Bool) (front : List ℕ) (b : ℕ) (bs : List ℕ) → true ≡ (pending && not (eqb b apostrophe)) → option_map (behind front) (single_quoted pending (b ∷ bs)) ≡ Some (front, b ∷ bs)
+single_closed false front b bs is = absurd (false≢true (sym is))
+single_closed true front b bs is = closed (eqb b apostrophe) front b bs (sym is)
+
+-- or at the end of the text, behind an apostrophe
+pub single_last : (pending : Bool) (front : List ℕ) → pending ≡ true → Some (front, []) ≡ option_map (behind front) (single_quoted pending [])
+single_last true front is = ap (λ (xs : List ℕ). Some (xs, [])) (sym (append-nil front))
+single_last false front is = absurd (false≢true is)
+
+pub single_open : (pending : Bool) (front : List ℕ) → pending ≡ false → None ≡ option_map (behind front) (single_quoted pending [])
+single_open true front is = absurd (false≢true (sym is))
+single_open false front is = refl
 
 -- ---- what was read before, in front of what is still read
 abbrev pub behind_text : List ℕ → Option (List ℕ) → Option (List ℕ)

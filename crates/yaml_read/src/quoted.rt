@@ -35,28 +35,6 @@ fn double_quoted(text: &[u8]) -> Option<(&[u8], &[u8])>
     None
 }
 
-// The scalar up to the closing apostrophe, and the text behind that.
-fn single_quoted(alloc: Global, text: &[u8]) -> Result<Option<(Vec<u8>, &[u8])>, AllocError>
-    ensures { IfOk result (λ r. option_map (λ p. (p.0.items, p.1.now)) r ≡ single_quoted false text.now) }
-{
-    let mut scalar = Vec::new(alloc);
-    let mut rest = text;
-    loop {
-        match rest {
-            [] => return Ok(None),
-            [b'\'', b'\'', behind @ ..] => {
-                scalar.push(b'\'')?;
-                rest = behind;
-            }
-            [b'\'', behind @ ..] => return Ok(Some((scalar, behind))),
-            [b, behind @ ..] => {
-                scalar.push(*b)?;
-                rest = behind;
-            }
-        }
-    }
-}
-
 fn is_behind(pending: bool, byte: u8) -> bool
     ensures { result ≡ (pending && not (byte == apostrophe)) }
 {
@@ -67,6 +45,36 @@ fn is_pending(pending: bool, byte: u8) -> bool
     ensures { result ≡ (not pending && (byte == apostrophe)) }
 {
     !pending && byte == b'\''
+}
+
+// Appends a byte, unless it is the first of two apostrophes or the closing one.
+fn push_unless(pending: bool, byte: u8, scalar: &mut Vec<u8>) -> Result<(), AllocError>
+    ensures { OnOk result (scalar.new.items ≡ (if pending then scalar.old.items else scalar.old.items ++ byte ∷ [])) }
+{
+    if pending {
+        return Ok(());
+    }
+    scalar.push(byte)?;
+    Ok(())
+}
+
+// The scalar up to the closing apostrophe, and the text behind that.
+fn single_quoted(alloc: Global, text: &[u8]) -> Result<Option<(Vec<u8>, &[u8])>, AllocError>
+    ensures { IfOk result (λ r. option_map (λ p. (p.0.items, p.1.now)) r ≡ single_quoted false text.now) }
+{
+    let mut scalar = Vec::new(alloc);
+    let mut pending = false;
+    for (i, b) in text.iter().enumerate() {
+        if is_behind(pending, *b) {
+            return Ok(Some((scalar, &text[i..])));
+        }
+        pending = is_pending(pending, *b);
+        push_unless(pending, *b, &mut scalar)?;
+    }
+    if pending {
+        return Ok(Some((scalar, &[])));
+    }
+    Ok(None)
 }
 
 fn at_end<'a>(pending: bool) -> Option<&'a [u8]>
@@ -151,16 +159,19 @@ fn hex_escape(count: usize, text: &[u8]) -> Option<(char, &[u8])>
 fn escape(text: &[u8]) -> Option<(char, &[u8])>
     ensures { option_map (λ p. (p.0, p.1.now)) result ≡ escape text.now }
 {
-    match text {
-        [b'\\', behind @ ..] => Some(('\\', behind)),
-        [b'"', behind @ ..] => Some(('"', behind)),
-        [b'/', behind @ ..] => Some(('/', behind)),
-        [b'n', behind @ ..] => Some(('\n', behind)),
-        [b't', behind @ ..] => Some(('\t', behind)),
-        [b'r', behind @ ..] => Some(('\r', behind)),
-        [b'0', behind @ ..] => Some(('\0', behind)),
-        [b'x', behind @ ..] => hex_escape(2, behind),
-        [b'u', behind @ ..] => hex_escape(4, behind),
+    let [sign, behind @ ..] = text else {
+        return None;
+    };
+    match sign {
+        b'\\' => Some(('\\', behind)),
+        b'"' => Some(('"', behind)),
+        b'/' => Some(('/', behind)),
+        b'n' => Some(('\n', behind)),
+        b't' => Some(('\t', behind)),
+        b'r' => Some(('\r', behind)),
+        b'0' => Some(('\0', behind)),
+        b'x' => hex_escape(2, behind),
+        b'u' => hex_escape(4, behind),
         _ => None,
     }
 }

@@ -1,8 +1,8 @@
 use Rattle.doc_tree.proofs.TreeLemmas.{ItemsMade, MembersMade}
 use Rattle.doc_tree.proofs.read.+trees.Given as goal
 
-abbrev pub invariant-pairs_of-loop-key : goal.invariant-pairs_of-loop-key
-invariant-pairs_of-loop-key l = MembersMade l.room l.fn.members.entries l.key-iterator l.pairs.items
+abbrev pub invariant-map_of-loop-key : goal.invariant-map_of-loop-key
+invariant-map_of-loop-key l = MembersMade l.room l.fn.members.entries l.key-iterator l.pairs.items
 
-abbrev pub invariant-trees_of-loop-item : goal.invariant-trees_of-loop-item
-invariant-trees_of-loop-item l = ItemsMade l.room l.fn.items.items l.item-iterator.rest.items l.trees.items
+abbrev pub invariant-list_of-loop-item : goal.invariant-list_of-loop-item
+invariant-list_of-loop-item l = ItemsMade l.room l.fn.items.items l.item-iterator.rest.items l.trees.items

@@ -1,6 +1,6 @@
 use Rattle.std.proofs.Common.{◌∙◌, sym, ap}
 use Rattle.net_model.specs.Edits.{same_route}
-use Rattle.net_model.proofs.lemmas.RouteIndexes.{no_same_route}
+use Rattle.net_lists.proofs.lemmas.RouteLists.{no_same_route}
 use Rattle.net_model.specs.Order.{route_cmp}
 use Rattle.net_model.specs.Valid.{same_key}
 use Rattle.kernel_step.proofs.Searching.{one_route, missed_any, key_tie}

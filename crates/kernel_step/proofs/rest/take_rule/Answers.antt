@@ -1,7 +1,7 @@
 use Rattle.std.proofs.Common.{◌≡◌, ◌∙◌, List, not, filter, remove, subst}
 use Rattle.net_model.specs.Rule.{RuleParts}
 use Rattle.net_model.specs.Valid.{same_rule}
-use Rattle.net_model.proofs.lemmas.RouteIndexes.{none_removed}
+use Rattle.net_lists.proofs.lemmas.RouteLists.{none_removed}
 use Rattle.kernel_step.proofs.rest.take_rule.Goals as goal
 
 pub returns-in-At : goal.returns-in-At

@@ -2,4 +2,4 @@ use Rattle.link_planner.specs.Phases.{IsAlong}
 use Rattle.link_planner.proofs.phase.run.Given as goal
 
 abbrev pub invariant-loop-name : goal.invariant-loop-name
-invariant-loop-name l = IsAlong l.phase l.names l.name-index l.initial.draft l.draft
+invariant-loop-name g l = IsAlong l.phase l.names l.name-index l.initial.draft l.draft

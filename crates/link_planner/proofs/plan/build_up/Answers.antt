@@ -8,7 +8,7 @@ use Rattle.link_planner.proofs.Phasing.{few}
 use Rattle.link_planner.proofs.plan.build_up.Goals as goal
 
 pub returns-clause-reached : goal.returns-clause-reached
-returns-clause-reached c =
+returns-clause-reached g c =
     let w1 : Way c.args.draft.now c.create_links.new.draft = way_begun c.args.draft.now c.create_links.new.draft c.in_ok-create_links.ensures.moves in
     let w2 : Way c.args.draft.now c.run.new.draft = way_more c.args.draft.now c.create_links.new.draft c.run.new.draft w1 c.in_ok-run.ensures.advances.target c.in_ok-run.ensures.moves in
     let w3 : Way c.args.draft.now c.run-2.new.draft = way_more c.args.draft.now c.run.new.draft c.run-2.new.draft w2 c.in_ok-run-2.ensures.advances.target c.in_ok-run-2.ensures.moves in
@@ -22,7 +22,7 @@ returns-clause-reached c =
     links_reached c.run-9.new.draft c.laws.ensures c.in_ok-run-9.ensures.stands c.args.draft.now.net w10
 
 pub returns-clause-advances : goal.returns-clause-advances
-returns-clause-advances c =
+returns-clause-advances g c =
     let o : AreOrders c.args.draft.now.target.links c.in_ok-orders.orders.names.items c.in_ok-orders.orders.upward.items c.in_ok-orders.orders.downward.items = subst (λ (n : NetData). AreOrders n.links c.in_ok-orders.orders.names.items c.in_ok-orders.orders.upward.items c.in_ok-orders.orders.downward.items) c.target.ensures c.in_ok-orders.ensures in
     let target : c.run-3.new.draft.target ≡ c.run-9.new.draft.target = sym (c.in_ok-run-9.ensures.advances.target ∙ c.in_ok-run-8.ensures.advances.target ∙ c.in_ok-run-7.ensures.advances.target ∙ c.in_ok-run-6.ensures.advances.target ∙ c.in_ok-run-5.ensures.advances.target ∙ c.in_ok-run-4.ensures.advances.target) in
     let both = both_counted c.run-3.new.draft.target c.run-4.new.draft.target (subst IsNet (sym target) c.laws.ensures.target) c.in_ok-run-4.ensures.advances.target c.deref-5.result.now c.deref-6.result.now c.in_ok-orders.orders.names.items c.deref-5.ensures.value c.deref-6.ensures.value in

@@ -6,10 +6,10 @@ use Rattle.link_planner.proofs.Starting.{start_ready, link_planned}
 use Rattle.link_planner.proofs.plan.plan_links.Goals as goal
 
 pub link_phases-requires : goal.link_phases-requires
-link_phases-requires c = rw c.in_ok-draft.ensures (start_ready c.args.now_net.now c.args.to_net.now c.requires)
+link_phases-requires g c = rw c.in_ok-draft.ensures (start_ready c.args.now_net.now c.args.to_net.now c.requires)
 
 pub returns : goal.returns
-returns c =
+returns g c =
     let advances : Advances (12 * name_count c.args.now_net.now c.args.to_net.now) (draft_of c.args.now_net.now c.args.to_net.now c.args.now_net.now []) c.link_phases.new.draft =
     subst (λ d. Advances (12 * name_count d.start d.target) d c.link_phases.new.draft) c.in_ok-draft.ensures c.in_ok-link_phases.ensures.advances in
     let reached : ReachesLinks c.args.now_net.now c.link_phases.new.draft.target c.link_phases.new.draft.net = subst (λ d. ReachesLinks d.net c.link_phases.new.draft.target c.link_phases.new.draft.net) c.in_ok-draft.ensures c.in_ok-link_phases.ensures.reached in

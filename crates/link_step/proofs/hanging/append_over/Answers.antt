@@ -1,6 +1,6 @@
 use Rattle.std.proofs.Common.{◌≡◌, ◌∙◌, ◌++◌, ℕ, List, Result, Ok, Err, sym, ap}
 use Rattle.std.specs.Prelude.{if◌then◌else◌, is_ok, OnOk}
-use Rattle.net_model.specs.Indexed.{over}
+use Rattle.net_model.specs.OfName.{over}
 use Rattle.net_model.specs.declared.link.Link.{Link}
 use Rattle.net_model.proofs.lemmas.Found.{names_differ-rises}
 use Rattle.link_step.specs.declared.hanging.Affected.{Affected}

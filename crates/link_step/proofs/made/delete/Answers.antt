@@ -7,8 +7,8 @@ use Rattle.net_model.specs.Edits.{has_primary_port, may_be_named, without}
 use Rattle.net_model.specs.NetData.{NetData, IsNet}
 use Rattle.net_model.proofs.lemmas.AllParts.{all_parts}
 use Rattle.net_model.proofs.lemmas.ByName.{or_left}
-use Rattle.net_model.proofs.lemmas.Going.{primaries_left}
-use Rattle.net_model.proofs.lemmas.LinkIndexes.{rises_left, twins_left}
+use Rattle.net_lists.proofs.lemmas.Going.{primaries_left}
+use Rattle.net_lists.proofs.lemmas.LinkLists.{rises_left, twins_left}
 use Rattle.net_model.proofs.lemmas.Truth.{and_right, or_right}
 use Rattle.link_step.proofs.Leaving.{without_twice}
 use Rattle.link_step.proofs.Primaries.{primaries}

@@ -1,7 +1,7 @@
 use Rattle.std.proofs.Common.{ℕ, List, true, refl, sym, subst}
 use Rattle.net_model.specs.declared.Link.{Link}
-use Rattle.net_model.specs.Indexed.{IsIndexed}
-use Rattle.net_model.proofs.lemmas.Counting.{kept_all}
+use Rattle.net_index.specs.Indexed.{IsIndexed}
+use Rattle.net_index.proofs.lemmas.LinkIndexes.{kept_all}
 use Rattle.kernel_model.specs.Settings.{with_mtu}
 use Rattle.link_step.specs.Clamped.{clamped}
 use Rattle.link_step.proofs.Writing.{written_keeps}

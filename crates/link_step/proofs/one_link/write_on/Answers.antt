@@ -1,7 +1,7 @@
 use Rattle.std.proofs.Common.{List, sym, subst}
 use Rattle.net_model.specs.declared.Link.{Link}
-use Rattle.net_model.specs.Indexed.{IsIndexed}
-use Rattle.net_model.proofs.lemmas.Counting.{kept_one}
+use Rattle.net_index.specs.Indexed.{IsIndexed}
+use Rattle.net_index.proofs.lemmas.LinkIndexes.{kept_one}
 use Rattle.link_step.specs.OneLink.{written}
 use Rattle.link_step.proofs.Kept.{written_name, written_kind, written_controller, written_addrs}
 use Rattle.link_step.proofs.one_link.write_on.Goals as goal

@@ -1,8 +1,9 @@
-use Rattle.std.proofs.Common.{◌∙◌, ◌+◌, ◌++◌, ◌∷◌, [], ℕ, List, cond, drop, sym, ap, append_assoc, Vec, Global}
+use Rattle.std.proofs.Common.{◌∙◌, ◌+◌, ◌++◌, ◌∷◌, [], ℕ, List, cond, drop, refl, sym, ap, append_assoc, Vec, Global}
 use Rattle.reach.specs.Positions.{positions}
 use Rattle.policy_model.specs.Policies.{have_name}
 use Rattle.policy_model.specs.declared.Capture.{Capture}
 use Rattle.policy_lang.proofs.lemmas.Walks.{passed}
+use Rattle.policy_lang.proofs.Walks.{found_all}
 use Rattle.policy_lang.proofs.cycles.places_of.Goals as goal
 use Rattle.policy_lang.proofs.cycles.places_of.Goals.{then-is_named+in_ok-push, else-is_named}
 
@@ -26,3 +27,6 @@ loop-at-preserved c =
           ∙ passed (behind found at) captures at _ c.loop-at.invariant (behind found (at + 1)) capture c.loop-at-test.true c.index-captures-at.is
           (λ rest. ap (λ b. found ++ cond b (at ∷ positions named (at + 1) rest) (positions named (at + 1) rest)) (sym w.if-is_named.false ∙ c.is_named.ensures))
     ]
+
+pub returns : goal.returns
+returns c = found_all (positions (have_name c.args.names.now) c.loop-at.at) c.args.captures.now c.loop-at.at c.loop-at.places.items _ refl c.loop-at.invariant c.loop-at-test.false

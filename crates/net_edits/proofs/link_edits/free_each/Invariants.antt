@@ -1,0 +1,8 @@
+use Rattle.std.proofs.Common.{◌≡◌, ◌++◌, map, take, drop}
+use Rattle.net_model.specs.Words.{is_among}
+use Rattle.net_model.specs.Edits.{freed}
+use Rattle.net_edits.proofs.link_edits.free_each.Given as goal
+
+-- the links before the index are done, and the others as they were
+abbrev pub invariant-loop-link : goal.invariant-loop-link
+invariant-loop-link l = l.links ≡ map (freed (is_among l.goes)) (take l.link-index l.initial.links) ++ drop l.link-index l.initial.links

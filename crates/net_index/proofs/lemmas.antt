@@ -1,0 +1,2 @@
+pub mod LinkIndexes
+pub mod RouteIndexes

@@ -1,0 +1,2 @@
+pub mod InIndex
+pub mod Indexed

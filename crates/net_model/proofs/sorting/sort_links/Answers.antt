@@ -1,9 +1,0 @@
-use Rattle.std.proofs.Common.{rules}
-use Rattle.std.proofs.lemmas.Result.{on_ok_weaker}
-use Rattle.std.proofs.lemmas.List.Sorted.{answers_always}
-use Rattle.net_model.specs.declared.link.Link.{Link}
-use Rattle.net_model.proofs.sorting.sort_links.Goals as goal
-
-pub returns-clause-sorted : goal.returns-clause-sorted
-returns-clause-sorted c =
-    on_ok_weaker c.sort_by_key.result (λ s. s (λ (l : Link). l.name) (answers_always _ _ _ (λ f a r g k. search rules))) c.sort_by_key.ensures.sorted
