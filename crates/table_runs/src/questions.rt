@@ -8,7 +8,10 @@ use net_core::Net;
 use net_lists::{can_be_base, is_bond, is_bridge, is_ethernet, is_on_link, takes};
 use net_model::{Link, Mac, Name, Position, RouteKey, Rule, Subnet, TableId};
 use net_search::{find_address, find_route};
-use net_valid::{bridge_in_range, is_default_bond, is_default_bridge, is_default_port, mtu_in_range, port_in_range};
+use net_valid::{
+    bridge_in_range, is_default_bond, is_default_bridge, is_default_port, mtu_in_range,
+    port_in_range,
+};
 
 const NONE: &str = "none";
 
