@@ -229,7 +229,7 @@ impl Net {
     }
 
     /// Whether both have the same Ethernet links, by name, with the same permanent MACs.
-    #[tactic(auto, using(net_model::proofs::Devices::same_devices_exact))]
+    #[tactic(auto, using(net_model::proofs::lemmas::Devices::same_devices_exact))]
     pub fn same_hardware(&self, other: &Net) -> bool
         ensures { IsTrue result ↔ (hardware self.now.links ≡ hardware other.now.links) }
     {

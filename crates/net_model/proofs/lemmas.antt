@@ -33,3 +33,5 @@ pub mod Listing
 pub mod ListChanges
 pub mod Editing
 pub mod Detaching
+pub mod Made
+pub mod Devices

@@ -46,7 +46,7 @@ fn all_virtual(links: &[Link]) -> bool
     links.iter().all(|link| device_of(link).is_none())
 }
 
-#[tactic(auto, using(net_model::proofs::Devices::none_left))]
+#[tactic(auto, using(net_model::proofs::lemmas::Devices::none_left))]
 fn has_none(links: &[Link]) -> bool
     ensures { result ≡ same_devices [] (hardware links.now) }
 {

@@ -1,7 +1,7 @@
 use Rattle.std.proofs.Common.{sym, ◌∙◌}
 use Rattle.net_model.specs.NetData.{NetData, net_of}
 use Rattle.net_model.proofs.lemmas.ValidMoved.{least_broken-sorting}
-use Rattle.net_model.proofs.Made.{made}
+use Rattle.net_model.proofs.lemmas.Made.{made}
 use Rattle.net_core.proofs.net.Net.new.Goals as goal
 
 pub invariant_of-result : goal.invariant_of-result
