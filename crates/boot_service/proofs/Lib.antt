@@ -2,4 +2,3 @@ pub mod lemmas
 mod Merging
 mod Landing
 mod Serving
-mod Memories

@@ -13,7 +13,7 @@ use Rattle.host_memory.specs.HostRecord.{undone, Left, stops_of, reads, one_net,
 use Rattle.host_memory.specs.HostStopped.{touch_of}
 use Rattle.host_memory.specs.HostMakes.{Makes, IsUnmade}
 use Rattle.host_memory.specs.Touches.{IsTouched}
-use Rattle.host_memory.proofs.DiskPushes.{torn_same}
+use Rattle.host_memory.proofs.lemmas.Torn.{torn_same}
 use Rattle.host_memory.proofs.HostPushes.{push, newest, unchanged, write_pushed, sync_pushed, sync_sure}
 
 first_of : (byte default : ℕ) (bytes : List ℕ) → take 1 bytes ≡ byte ∷ [] → get_or bytes 0 default ≡ byte

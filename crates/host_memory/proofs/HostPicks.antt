@@ -7,7 +7,7 @@ use Rattle.host_memory.specs.declared.record.HostEvent.TheVariants.{Changed, Wro
 use Rattle.host_memory.specs.HostRecord.{Left, LeftSince}
 use Rattle.host_memory.specs.HostStopped.{touch_of, net_before}
 use Rattle.host_memory.specs.Touches.{IsTouched, undone, bytes_stopped}
-use Rattle.host_memory.proofs.Picks.{LeftOf, left_now, in_two, left_stopped}
+use Rattle.host_memory.proofs.lemmas.Picks.{LeftOf, left_now, in_two, left_stopped}
 
 -- what may be left of the checkpoint area may be left with the network
 with_net : (now : State) (events : List HostEvent) → IsTouched now.cell (map (touch_of 0) events) → (cell : List ℕ)

@@ -10,7 +10,7 @@ use Rattle.host_memory.specs.declared.record.HostEvent.{HostEvent}
 use Rattle.host_memory.specs.declared.record.HostEvent.TheVariants.{Changed, Wrote, Synced}
 use Rattle.host_memory.specs.HostRecord.{undone, Left, LeftSince, stops_of, reads, one_net, IsWritten, IsAsBefore, IsCalled, IsUncalled}
 use Rattle.host_core.proofs.lemmas.Moments.{stays, weaken}
-use Rattle.host_memory.proofs.DiskPushes.{torn_same}
+use Rattle.host_memory.proofs.lemmas.Torn.{torn_same}
 
 module _ (event : HostEvent) (events : List HostEvent) (old new : State) (was : undone event new ≡ old) where
   pub push : (step : State → State → Type 0) → ((s : State) → Left new (event ∷ events) s → After (stops_of old events) step s)

@@ -5,9 +5,10 @@
 ghost use Rattle.std.specs.Prelude.{◌<◌};
 
 use base_model::OutOfMemory;
+use case_outside::MemoryDisk;
 use case_table::{Text, first_word, parted};
 use host_core::{Disk, Failed};
-use host_memory::{Fuse, MemoryDisk};
+use host_memory::Fuse;
 use std::alloc::Global;
 
 // The last place of a read or a write, and the most bytes of a write.

@@ -2,8 +2,9 @@
 
 use crate::commands::words;
 use base_model::{OutOfMemory, Str};
+use case_outside::MemorySource;
 use case_table::{Text, parted};
-use host_memory::{Fuse, MemorySource};
+use host_memory::Fuse;
 use order_reading::{Order, read_order, read_script, script_file, steps_of};
 use std::alloc::Global;
 use top_model::{Cause, DocFault, Step};

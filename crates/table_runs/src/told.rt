@@ -1,10 +1,10 @@
 //! The lines of answers that no host in memory gives.
 
 use answer_text::{summary_lines, tell_refused, write_status};
+use case_outside::MemorySink;
 use case_table::{Text, first_word};
 use document_model::{Place, Refused};
 use engine_model::Left;
-use host_memory::MemorySink;
 use net_core::Net;
 use rollout_model::Event;
 use scenario_model::Summary;

@@ -2,10 +2,10 @@
 ghost use Rattle.std.specs.Prelude.{◌≡◌};
 ghost use Rattle.std.specs.List.{list_any};
 ghost use Rattle.net_model.specs.Name.{same_bytes};
-ghost use Rattle.boot_service.specs.Memory.{differ};
+ghost use Rattle.case_outside.specs.FolderRecord.{differ};
 
 use crate::not_done::NotDone;
-use boot_service::{FolderFile, FolderFuse, MemoryFolder};
+use case_outside::{FolderFile, FolderFuse, MemoryFolder};
 use net_model::Domain;
 use std::alloc::Global;
 

@@ -3,8 +3,9 @@
 use crate::not_done::NotDone;
 use crate::runs::{Faults, taken};
 use crate::stored::cut;
+use case_outside::{LyingHost, MemoryDisk, RefusingHost};
 use host_core::{Area, DumpFault, Host};
-use host_memory::{Fuse, LyingHost, MemoryDisk, MemoryHost, RefusingHost};
+use host_memory::{Fuse, MemoryHost};
 use net_core::Net;
 use net_equal::same_net;
 use std::alloc::Global;

@@ -7,11 +7,11 @@ use crate::hosts::{
 use crate::inputs::standard_input;
 use crate::not_done::NotDone;
 use crate::runs::{Faults, Run, World, program, run_on, step, taken};
-use boot_service::FolderFile;
+use case_outside::{FolderFile, MemoryDisk};
 use case_table::Text;
 use disk_host::DiskHost;
 use host_core::Area;
-use host_memory::{MemoryDisk, MemoryHost};
+use host_memory::MemoryHost;
 use net_core::Net;
 use nmstate_top::{Cause, Report, Step};
 use std::alloc::Global;

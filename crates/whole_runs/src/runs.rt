@@ -3,10 +3,10 @@
 use crate::files::no_files;
 use crate::not_done::NotDone;
 use crate::reading::{number, words};
-use boot_service::MemoryFolder;
+use case_outside::{FixedClock, MemoryFolder, MemorySink, MemorySource, Refusal};
 use case_table::first_word;
 use host_core::Host;
-use host_memory::{FixedClock, Fuse, MemorySink, MemorySource, Refusal};
+use host_memory::Fuse;
 use nmstate_top::{Report, Step, run_at, run_command, run_script};
 use program_top::run_program;
 use std::alloc::Global;

@@ -6,7 +6,7 @@ use crate::machine::{Kind, Machine, Ran};
 use crate::not_done::NotDone;
 use crate::reading::number;
 use crate::runs::World;
-use boot_service::{FolderFile, FolderFuse};
+use case_outside::{FolderFile, FolderFuse};
 use case_table::{Text, first_word, parted};
 use net_core::Net;
 use std::alloc::Global;

@@ -5,7 +5,7 @@ use crate::hosts::is_same;
 use crate::machine::{Kind, Machine, Ran};
 use crate::not_done::NotDone;
 use crate::services::{apply, first, fuse, serve};
-use boot_service::FolderFile;
+use case_outside::FolderFile;
 use case_table::Text;
 use net_core::Net;
 use std::alloc::Global;

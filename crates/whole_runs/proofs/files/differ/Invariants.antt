@@ -1,5 +1,5 @@
 use Rattle.std.proofs.Common.{◌≡◌, length}
-use Rattle.boot_service.specs.Memory.{differ}
+use Rattle.case_outside.specs.FolderRecord.{differ}
 use Rattle.whole_runs.proofs.files.differ.Given as goal
 
 -- what is left decides

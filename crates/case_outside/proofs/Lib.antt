@@ -1,0 +1,5 @@
+mod DiskPushes
+mod DiskPicks
+mod FolderMarks
+mod Kept
+mod Reading

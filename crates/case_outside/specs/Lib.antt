@@ -1,0 +1,11 @@
+pub mod DiskRecord
+pub mod DiskMemory
+pub mod DiskStopped
+pub mod DiskPicked
+pub mod FolderRecord
+pub mod FolderLawful
+pub mod FolderMemory
+pub mod Inputs
+pub mod SourceMemory
+pub mod Lying
+pub mod Refusing
