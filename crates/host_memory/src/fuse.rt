@@ -1,7 +1,8 @@
 //! Which calls of an instance in memory fail.
-ghost use Rattle.std.specs.Prelude.{◌≡◌, [], None, Ok, true, IsTrue, OnOk};
+ghost use Rattle.std.specs.Prelude.{◌≡◌, ◌==◌, [], None, Ok, true, IsTrue, OnOk, find};
+ghost use Rattle.std.specs.Option.{option_copied, option_map_or};
 ghost use Rattle.host_core.specs.Faults.{HasCause};
-ghost use Rattle.host_memory.specs.Fused.{HasNoFuse};
+ghost use Rattle.host_memory.specs.Fused.{HasNoFuse, IsFresh, IsCounted, next_fuse};
 
 use host_core::{Failed, raised};
 
@@ -26,21 +27,31 @@ impl Drop for Fuses {
     }
 }
 
+// The first fuse of this call, if it is to fail.
+fn fuse_of(fuses: &[Fuse], call: u64) -> Option<&Fuse>
+    ensures { option_copied result ≡ find (λ it. it.call == call) fuses.now }
+{
+    fuses.iter().find(|fuse| fuse.call == call)
+}
+
 impl Fuses {
+    /// These calls are to fail, and none was made.
     pub fn new(fuses: Vec<Fuse>) -> Fuses
-        ensures { fuses.items ≡ [] → HasNoFuse result }
+        ensures fresh { IsFresh fuses.items result }
+        ensures unfused { fuses.items ≡ [] → HasNoFuse result }
     {
         Fuses { fuses, made: 0 }
     }
 
     /// Counts a call, and gives its fuse if it is to fail.
     pub fn next(&mut self) -> Option<Fuse>
+        ensures next { result ≡ next_fuse self.old }
+        ensures counted { IsCounted self.old self.new }
         ensures unfused { HasNoFuse self.old → result ≡ None }
         ensures same { HasNoFuse self.old → HasNoFuse self.new }
     {
         self.made = self.made.saturating_add(1);
-        let made = self.made;
-        self.fuses.iter().find(|fuse| fuse.call == made).copied()
+        fuse_of(&self.fuses, self.made).copied()
     }
 }
 
@@ -59,7 +70,7 @@ pub fn counted(faults: &mut u64, is_done: bool) -> Result<(), Failed>
 
 /// Whether the call of this fuse is carried out: it has none, or one that lets it be done.
 pub fn is_carried_out(fuse: Option<Fuse>) -> bool
-    ensures { fuse ≡ None → result ≡ true }
+    ensures { result ≡ option_map_or (λ it. it.done) fuse true }
 {
     match fuse {
         None => true,
