@@ -7,5 +7,6 @@ pub mod FolderLawful
 pub mod FolderMemory
 pub mod Inputs
 pub mod SourceMemory
+pub mod SinkMemory
 pub mod Lying
 pub mod Refusing

@@ -1,5 +1,5 @@
 //! A disk in memory.
-ghost use Rattle.std.specs.Prelude.{◌≡◌, ◌⊎◌, ◌<◌, ◌≤◌, ◌^◌, ◌+◌, ◌++◌, ◌∷◌, [], length, reverse, IsTrue, IfOk, OnOk, OnErr};
+ghost use Rattle.std.specs.Prelude.{◌≡◌, ◌⊎◌, ◌<◌, ◌≤◌, ◌^◌, ◌+◌, ◌++◌, ◌∷◌, [], ◌↔◌, length, reverse, IsTrue, IsFalse, IsSome, IsErr, IfOk, OnOk, OnErr};
 ghost use Rattle.host_core.specs.Bytes.{Torn, Written, Filled};
 ghost use Rattle.host_core.specs.DiskView.{Areas, AreaTorn, HasArea, Untouched, area_of};
 ghost use Rattle.host_core.specs.Faults.{HasCause};
@@ -198,6 +198,7 @@ fn write(
     ensures torn { Torn at (length bytes.now) held.old.items held.new.items }
     ensures record { IsRecorded area at (length bytes.now) held.old.items events.old.items events.new.items
         ⊎ IsAsBefore held.old.items held.new.items events.old.items events.new.items }
+    ensures fused { IsSome fuse → IsFalse result }
 {
     let is_done = is_carried_out(fuse);
     let Ok(next) = rewritten(alloc, held, at, bytes, is_done) else {
@@ -210,6 +211,7 @@ fn write(
 }
 
 impl Disk for MemoryDisk {
+    ghost use Rattle.host_memory.specs.Fused.{IsCounted, IsFused};
     ghost use Rattle.case_outside.specs.DiskMemory.{IsUnfused, disk_told, lawful_disk};
 
     ghost tells = { Unit {0} };
@@ -225,6 +227,8 @@ impl Disk for MemoryDisk {
         ensures cause { HasCause (disk_told self.old).faults (disk_told self.new).faults result }
         ensures unfused { IsUnfused self.old → IsUnfused self.new }
         ensures quiet { IsUnfused self.old → (disk_told self.new).faults ≡ (disk_told self.old).faults }
+        ensures fused { IsFused self.old.fuses ↔ IsErr result }
+        ensures numbered { IsCounted self.old.fuses self.new.fuses }
     {
         let is_done = self.fuses.next().is_none();
         counted(&mut self.faults, is_done)?;
@@ -239,6 +243,8 @@ impl Disk for MemoryDisk {
         ensures cause { HasCause (disk_told self.old).faults (disk_told self.new).faults result }
         ensures unfused { IsUnfused self.old → IsUnfused self.new }
         ensures quiet { IsUnfused self.old → (disk_told self.new).faults ≡ (disk_told self.old).faults }
+        ensures fused { IsFused self.old.fuses ↔ IsErr result }
+        ensures numbered { IsCounted self.old.fuses self.new.fuses }
     {
         let is_done = self.fuses.next().is_none();
         counted(&mut self.faults, is_done)?;
@@ -254,6 +260,8 @@ impl Disk for MemoryDisk {
         ensures cause { HasCause (disk_told self.old).faults (disk_told self.new).faults result }
         ensures unfused { IsUnfused self.old → IsUnfused self.new }
         ensures quiet { IsUnfused self.old → OnOk result ((disk_told self.new).faults ≡ (disk_told self.old).faults) }
+        ensures fused { IsFused self.old.fuses → IsErr result }
+        ensures numbered { IsCounted self.old.fuses self.new.fuses }
     {
         let fuse = self.fuses.next();
         if area == Area::Kernel.number() {
@@ -288,6 +296,8 @@ impl Disk for MemoryDisk {
         ensures cause { HasCause (disk_told self.old).faults (disk_told self.new).faults result }
         ensures unfused { IsUnfused self.old → IsUnfused self.new }
         ensures quiet { IsUnfused self.old → OnOk result ((disk_told self.new).faults ≡ (disk_told self.old).faults) }
+        ensures fused { IsFused self.old.fuses → IsErr result }
+        ensures numbered { IsCounted self.old.fuses self.new.fuses }
     {
         let fuse = self.fuses.next();
         let is_done = sync(&mut self.events, area, fuse);
@@ -299,6 +309,7 @@ impl Disk for MemoryDisk {
 fn sync(events: &mut Vec<DiskEvent>, area: u8, fuse: Option<Fuse>) -> bool
     ensures record { IsTrue result → events.new.items ≡ events.old.items ++ DiskEvent.Synced area ∷ [] }
     ensures either { (events.new.items ≡ events.old.items) ⊎ (events.new.items ≡ events.old.items ++ DiskEvent.Synced area ∷ []) }
+    ensures fused { IsSome fuse → IsFalse result }
 {
     if let Some(fuse) = fuse {
         if fuse.done {

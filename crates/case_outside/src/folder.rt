@@ -1,5 +1,5 @@
 //! A folder in memory.
-ghost use Rattle.std.specs.Prelude.{◌≡◌, ◌≤◌, ◌++◌, ◌∷◌, [], true, false, IfOk, OnOk, IsTrue, codes, flat_map, length};
+ghost use Rattle.std.specs.Prelude.{◌≡◌, ◌≤◌, ◌++◌, ◌∷◌, [], true, false, IfOk, OnOk, IsTrue, IsFalse, IsSome, codes, flat_map, length};
 ghost use Rattle.std.specs.List.{position};
 ghost use Rattle.net_model.specs.Name.{same_bytes};
 ghost use Rattle.net_model.specs.Order.{name_cmp};
@@ -8,6 +8,7 @@ ghost use Rattle.host_core.specs.Folders.{HasFiles, ends_in_yml};
 ghost use Rattle.case_outside.specs.FolderRecord.{MarksFused, MarksNamed, differ, is_unmarked_named, listed_of, unmarked};
 
 use host_core::{Failed, Folder, NamesFault, StartFault, raised};
+use host_memory::{Fuse, Fuses};
 use net_model::Domain;
 use std::alloc::{AllocError, Global};
 
@@ -22,20 +23,12 @@ pub struct FolderFile {
     pub marked: bool,
 }
 
-/// A call that fails: its number, from 1, among all calls on the folder. `done` says of a mark that it is made all the same.
-#[derive(Clone, Copy)]
-pub struct FolderFuse {
-    pub call: u64,
-    pub done: bool,
-}
-
-/// Files in memory of different names, and the calls that are to fail. Memory that is refused in a call that has no answer for it
-/// is a fault of that call.
+/// Files in memory of different names. It fails at the calls that its fuses name, of which a mark may be made all the same; memory
+/// that is refused in a call that has no answer for it is a fault of that call.
 #[derive(Drop)]
 pub struct MemoryFolder {
     files: Vec<FolderFile>,
-    fuse: Vec<FolderFuse>,
-    calls: u64,
+    fuses: Fuses,
     faults: u64,
     // The names of the files that were marked, the first first.
     log: Vec<Domain>,
@@ -48,7 +41,7 @@ pub struct MemoryFolder {
 
 impl MemoryFolder {
     /// A folder of these files, of which none is begun, and at which nothing failed. Their names differ.
-    pub fn new(alloc: Global, files: Vec<FolderFile>, fuse: Vec<FolderFuse>) -> MemoryFolder
+    pub fn new(alloc: Global, files: Vec<FolderFile>, fuses: Vec<Fuse>) -> MemoryFolder
         requires { differ files.items ≡ true }
         ensures files { (⟦<MemoryFolder as Folder>⟧.told result).files ≡ unmarked files.items }
         // No mark is in doubt.
@@ -57,8 +50,7 @@ impl MemoryFolder {
     {
         MemoryFolder {
             files,
-            fuse,
-            calls: 0,
+            fuses: Fuses::new(fuses),
             faults: 0,
             log: Vec::new(alloc),
             begun: Vec::new(alloc),
@@ -72,13 +64,6 @@ impl MemoryFolder {
     {
         &self.files
     }
-}
-
-// Counts a call, and gives its fuse where it is to fail.
-fn next_fuse(calls: &mut u64, fuses: &[FolderFuse]) -> Option<FolderFuse> {
-    *calls = calls.saturating_add(1);
-    let made = *calls;
-    fuses.iter().find(|fuse| fuse.call == made).copied()
 }
 
 fn same_end(bytes: &[u8]) -> bool
@@ -178,10 +163,11 @@ fn mark_fused(
     files: &mut Vec<FolderFile>,
     log: &mut Vec<Domain>,
     name: &Domain,
-    fuse: Option<FolderFuse>,
+    fuse: Option<Fuse>,
 ) -> bool
     requires { differ files.old.items ≡ true }
-    ensures { MarksFused name.now files.old.items files.new.items log.old.items log.new.items result }
+    ensures marks { MarksFused name.now files.old.items files.new.items log.old.items log.new.items result }
+    ensures fused { IsSome fuse → IsFalse result }
 {
     match fuse {
         None => mark_named(files, log, name),
@@ -195,10 +181,11 @@ fn mark_fused(
 }
 
 impl Folder for MemoryFolder {
-    ghost use Rattle.std.specs.Prelude.{◌≡◌, ◌<◌, ◌≤◌, length, Some, None, IfOk, OnOk, IsErrOf};
+    ghost use Rattle.std.specs.Prelude.{◌≡◌, ◌↔◌, ◌<◌, ◌≤◌, length, Some, None, IfOk, OnOk, IsErr, IsErrOf};
     ghost use Rattle.host_core.specs.Faults.{HasCause, HasFault};
     ghost use Rattle.host_core.specs.Folders.{HasFiles, IsPending, MaybeMarked, ReadsOn, Unmoved, bytes_of, pending_names, without};
     ghost use Rattle.host_core.specs.Stops.{Steps};
+    ghost use Rattle.host_memory.specs.Fused.{IsCounted, IsFused};
     ghost use Rattle.case_outside.specs.FolderMemory.{folder_told, lawful_folder};
 
     ghost tells = { Unit {0} };
@@ -207,8 +194,14 @@ impl Folder for MemoryFolder {
 
     ghost lawful = { lawful_folder };
 
-    fn names(&mut self, alloc: Global) -> Result<Vec<Domain>, NamesFault> {
-        if next_fuse(&mut self.calls, &self.fuse).is_some() {
+    fn names(&mut self, alloc: Global) -> Result<Vec<Domain>, NamesFault>
+        ensures names { IfOk result (λ names. names.items ≡ pending_names (folder_told self.old).files) }
+        ensures unmoved { Unmoved (Unit {0}) (folder_told self.old) (folder_told self.new) }
+        ensures cause { HasFault (folder_told self.old).faults (folder_told self.new).faults NamesFault.Failed result }
+        ensures fused { IsFused self.old.fuses ↔ IsErrOf result NamesFault.Failed }
+        ensures numbered { IsCounted self.old.fuses self.new.fuses }
+    {
+        if self.fuses.next().is_some() {
             self.faults = raised(self.faults);
             return Err(NamesFault::Failed);
         }
@@ -218,8 +211,15 @@ impl Folder for MemoryFolder {
         }
     }
 
-    fn start(&mut self, name: &Domain) -> Result<(), StartFault> {
-        if next_fuse(&mut self.calls, &self.fuse).is_some() {
+    fn start(&mut self, name: &Domain) -> Result<(), StartFault>
+        ensures begins { OnOk result (bytes_of name.now (folder_told self.old).files ≡ Some (folder_told self.new).left) }
+        ensures no_such { IsErrOf result StartFault.NoSuchName → bytes_of name.now (folder_told self.old).files ≡ None }
+        ensures unmoved { Unmoved (Unit {0}) (folder_told self.old) (folder_told self.new) }
+        ensures cause { HasFault (folder_told self.old).faults (folder_told self.new).faults StartFault.Failed result }
+        ensures fused { IsFused self.old.fuses → IsErrOf result StartFault.Failed }
+        ensures numbered { IsCounted self.old.fuses self.new.fuses }
+    {
+        if self.fuses.next().is_some() {
             self.faults = raised(self.faults);
             return Err(StartFault::Failed);
         }
@@ -235,8 +235,16 @@ impl Folder for MemoryFolder {
         Ok(())
     }
 
-    fn read(&mut self, buf: &mut [u8]) -> Result<u64, Failed> {
-        if next_fuse(&mut self.calls, &self.fuse).is_some() {
+    fn read(&mut self, buf: &mut [u8]) -> Result<u64, Failed>
+        requires { 0 < length buf.old }
+        ensures bound { IfOk result (λ n. n ≤ length buf.old) }
+        ensures reads { IfOk result (ReadsOn (folder_told self.old).left (folder_told self.new).left buf.new) }
+        ensures unmoved { Unmoved (Unit {0}) (folder_told self.old) (folder_told self.new) }
+        ensures cause { HasCause (folder_told self.old).faults (folder_told self.new).faults result }
+        ensures fused { IsFused self.old.fuses ↔ IsErr result }
+        ensures numbered { IsCounted self.old.fuses self.new.fuses }
+    {
+        if self.fuses.next().is_some() {
             self.faults = raised(self.faults);
             return Err(Failed);
         }
@@ -246,8 +254,17 @@ impl Folder for MemoryFolder {
         Ok(count as u64)
     }
 
-    fn mark(&mut self, name: &Domain) -> Result<(), Failed> {
-        let fuse = next_fuse(&mut self.calls, &self.fuse);
+    fn mark(&mut self, name: &Domain) -> Result<(), Failed>
+        requires { IsPending name.now (folder_told self.old).files }
+        ensures marked { OnOk result ((folder_told self.new).files ≡ without name.now (folder_told self.old).files) }
+        ensures maybe { MaybeMarked name.now (folder_told self.old).files (folder_told self.new).files }
+        ensures stays { OnOk result (HasFiles (folder_told self.new).files (folder_told self.new)) }
+        ensures stops { Steps (MaybeMarked name.now) (folder_told self.old).stops (folder_told self.new).stops }
+        ensures cause { HasCause (folder_told self.old).faults (folder_told self.new).faults result }
+        ensures fused { IsFused self.old.fuses → IsErr result }
+        ensures numbered { IsCounted self.old.fuses self.new.fuses }
+    {
+        let fuse = self.fuses.next();
         if mark_fused(&mut self.files, &mut self.log, name, fuse) {
             return Ok(());
         }

@@ -18,7 +18,7 @@ mod source;
 
 pub use clock::FixedClock;
 pub use disk::{DiskEvent, MemoryDisk};
-pub use folder::{FolderFile, FolderFuse, MemoryFolder};
+pub use folder::{FolderFile, MemoryFolder};
 pub use liar::LyingHost;
 pub use refusing::{Refusal, RefusingHost};
 pub use sink::MemorySink;

@@ -1,5 +1,5 @@
 //! A sink in memory.
-ghost use Rattle.std.specs.Prelude.{◌≡◌, ◌++◌, [], IsTrue};
+ghost use Rattle.std.specs.Prelude.{◌≡◌, ◌++◌, [], IsTrue, IsFalse, IsSome};
 ghost use Rattle.host_core.specs.Streams.{KeepsSome};
 
 use host_core::{Failed, Sink, raised};
@@ -50,6 +50,7 @@ impl MemorySink {
 fn keep(kept: &mut Vec<u8>, bytes: &[u8], fuse: Option<Fuse>) -> bool
     ensures done { IsTrue result → kept.new.items ≡ kept.old.items ++ bytes.now }
     ensures some { KeepsSome kept.old.items bytes.now kept.new.items }
+    ensures fused { IsSome fuse → IsFalse result }
 {
     match fuse {
         None => kept.extend_from_slice(bytes).is_ok(),
@@ -63,11 +64,24 @@ fn keep(kept: &mut Vec<u8>, bytes: &[u8], fuse: Option<Fuse>) -> bool
 }
 
 impl Sink for MemorySink {
+    ghost use Rattle.std.specs.Prelude.{◌≡◌, OnOk, IsErr};
+    ghost use Rattle.host_core.specs.Faults.{HasCause};
+    ghost use Rattle.host_core.specs.Streams.{Appends, AppendsSome};
+    ghost use Rattle.host_memory.specs.Fused.{IsCounted, IsFused};
+    ghost use Rattle.case_outside.specs.SinkMemory.{sink_told};
+
     ghost tells = { Unit {0} };
 
-    ghost told = { λ s. record { written = s.bytes.items; faults = s.faults } };
+    ghost told = { sink_told };
 
-    fn write(&mut self, bytes: &[u8]) -> Result<(), Failed> {
+    fn write(&mut self, bytes: &[u8]) -> Result<(), Failed>
+        ensures all { OnOk result (Appends bytes.now (sink_told self.old) (sink_told self.new)) }
+        ensures some { AppendsSome bytes.now (sink_told self.old) (sink_told self.new) }
+        ensures steady { OnOk result ((sink_told self.new).faults ≡ (sink_told self.old).faults) }
+        ensures cause { HasCause (sink_told self.old).faults (sink_told self.new).faults result }
+        ensures fused { IsFused self.old.fuses → IsErr result }
+        ensures numbered { IsCounted self.old.fuses self.new.fuses }
+    {
         let fuse = self.fuses.next();
         let is_done = keep(&mut self.bytes, bytes, fuse);
         if !is_done {

@@ -57,9 +57,10 @@ impl MemorySource {
 }
 
 impl Source for MemorySource {
-    ghost use Rattle.std.specs.Prelude.{◌≡◌, ◌≢◌, ◌≤◌, ◌<◌, length, None, Some, Err, IfOk, OnOk, IsErrOf};
+    ghost use Rattle.std.specs.Prelude.{◌≡◌, ◌≢◌, ◌↔◌, ◌≤◌, ◌<◌, length, None, Some, Err, IfOk, OnOk, IsErr, IsErrOf};
     ghost use Rattle.host_core.specs.Faults.{HasCause, HasFault};
     ghost use Rattle.host_core.specs.Streams.{Reads};
+    ghost use Rattle.host_memory.specs.Fused.{IsCounted, IsFused};
     ghost use Rattle.case_outside.specs.SourceMemory.{IsUnfused, source_told};
 
     ghost tells = { Unit {0} };
@@ -73,6 +74,8 @@ impl Source for MemorySource {
         ensures cause { HasFault (source_told self.old).faults (source_told self.new).faults StartFault.Failed result }
         ensures unfused { IsUnfused self.old → IsUnfused self.new }
         ensures quiet { IsUnfused self.old → result ≢ Err StartFault.Failed → (source_told self.new).faults ≡ (source_told self.old).faults }
+        ensures fused { IsFused self.old.fuses → IsErrOf result StartFault.Failed }
+        ensures numbered { IsCounted self.old.fuses self.new.fuses }
     {
         if self.fuses.next().is_some() {
             self.faults = raised(self.faults);
@@ -98,6 +101,8 @@ impl Source for MemorySource {
         ensures cause { HasCause (source_told self.old).faults (source_told self.new).faults result }
         ensures unfused { IsUnfused self.old → IsUnfused self.new }
         ensures quiet { IsUnfused self.old → (source_told self.new).faults ≡ (source_told self.old).faults }
+        ensures fused { IsFused self.old.fuses ↔ IsErr result }
+        ensures numbered { IsCounted self.old.fuses self.new.fuses }
     {
         if self.fuses.next().is_some() {
             self.faults = raised(self.faults);

@@ -1,5 +1,5 @@
 //! A host in memory.
-ghost use Rattle.std.specs.Prelude.{◌≡◌, ◌≢◌, ◌⊎◌, ◌<◌, ◌≤◌, ◌+◌, ◌^◌, ℕ, [], ◌∷◌, length, get_or, map, reverse, None, Some, false, IfOk, OnOk, OnErr, IsErrOf, IsSome, option_map};
+ghost use Rattle.std.specs.Prelude.{◌≡◌, ◌≢◌, ◌⊎◌, ◌↔◌, ◌<◌, ◌≤◌, ◌+◌, ◌^◌, ℕ, [], ◌∷◌, length, get_or, map, reverse, None, Some, false, IfOk, OnOk, OnErr, IsErr, IsErrOf, IsSome, option_map};
 ghost use Rattle.host_core.specs.Bytes.{Torn, Written, Filled};
 ghost use Rattle.host_core.specs.Faults.{HasCause, HasFault, one_more};
 ghost use Rattle.host_core.specs.HostView.{State, HasCell, Accepts, Refuses, MaybeCalled, SameCell, SameKernel, Untouched, CellTorn, IsFirst, IsMade, MaybeMade, counted, refused, dumped};
@@ -261,6 +261,7 @@ fn made(
 
 impl Host for MemoryHost {
     ghost use Rattle.host_memory.specs.HostMemory.{IsUnfused, told_of, lawful_host};
+    ghost use Rattle.host_memory.specs.Fused.{IsCounted, IsFused};
 
     ghost tells = { Unit {0} };
 
@@ -291,6 +292,8 @@ impl Host for MemoryHost {
         ensures cause { HasFault (told_of self.old).faults (told_of self.new).faults MakeFault.Failed result }
         ensures unfused { IsUnfused self.old → IsUnfused self.new }
         ensures quiet { IsUnfused self.old → (told_of self.new).faults ≡ (told_of self.old).faults }
+        ensures fused { IsFused self.old.fuses ↔ IsErrOf result MakeFault.Failed }
+        ensures numbered { IsCounted self.old.fuses self.new.fuses }
     {
         self.fresh = false;
         let fuse = self.fuses.next();
@@ -327,6 +330,8 @@ impl Host for MemoryHost {
         ensures cause { HasFault (told_of self.old).faults (told_of self.new).faults DumpFault.Failed result }
         ensures unfused { IsUnfused self.old → IsUnfused self.new }
         ensures quiet { IsUnfused self.old → (told_of self.new).faults ≡ (told_of self.old).faults }
+        ensures fused { IsFused self.old.fuses ↔ IsErrOf result DumpFault.Failed }
+        ensures numbered { IsCounted self.old.fuses self.new.fuses }
     {
         if self.fuses.next().is_some() {
             self.faults = raised(self.faults);
@@ -363,6 +368,8 @@ impl Host for MemoryHost {
         ensures cause { HasFault (told_of self.old).faults (told_of self.new).faults CallFault.Failed result }
         ensures unfused { IsUnfused self.old → IsUnfused self.new }
         ensures quiet { IsUnfused self.old → (told_of self.new).faults ≡ (told_of self.old).faults }
+        ensures fused { IsFused self.old.fuses ↔ IsErrOf result CallFault.Failed }
+        ensures numbered { IsCounted self.old.fuses self.new.fuses }
     {
         self.calls = raised(self.calls);
         self.fresh = false;
@@ -397,6 +404,8 @@ impl Host for MemoryHost {
         ensures cause { HasCause (told_of self.old).faults (told_of self.new).faults result }
         ensures unfused { IsUnfused self.old → IsUnfused self.new }
         ensures quiet { IsUnfused self.old → (told_of self.new).faults ≡ (told_of self.old).faults }
+        ensures fused { IsFused self.old.fuses ↔ IsErr result }
+        ensures numbered { IsCounted self.old.fuses self.new.fuses }
     {
         let is_done = self.fuses.next().is_none();
         counted(&mut self.faults, is_done)?;
@@ -412,6 +421,8 @@ impl Host for MemoryHost {
         ensures cause { HasCause (told_of self.old).faults (told_of self.new).faults result }
         ensures unfused { IsUnfused self.old → IsUnfused self.new }
         ensures quiet { IsUnfused self.old → OnOk result ((told_of self.new).faults ≡ (told_of self.old).faults) }
+        ensures fused { IsFused self.old.fuses → IsErr result }
+        ensures numbered { IsCounted self.old.fuses self.new.fuses }
     {
         let fuse = self.fuses.next();
         let is_done = write(
@@ -431,6 +442,8 @@ impl Host for MemoryHost {
         ensures cause { HasCause (told_of self.old).faults (told_of self.new).faults result }
         ensures unfused { IsUnfused self.old → IsUnfused self.new }
         ensures quiet { IsUnfused self.old → OnOk result ((told_of self.new).faults ≡ (told_of self.old).faults) }
+        ensures fused { IsFused self.old.fuses → IsErr result }
+        ensures numbered { IsCounted self.old.fuses self.new.fuses }
     {
         let fuse = self.fuses.next();
         let is_done = sync(&mut self.events, fuse);

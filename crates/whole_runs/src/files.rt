@@ -5,7 +5,8 @@ ghost use Rattle.net_model.specs.Name.{same_bytes};
 ghost use Rattle.case_outside.specs.FolderRecord.{differ};
 
 use crate::not_done::NotDone;
-use case_outside::{FolderFile, FolderFuse, MemoryFolder};
+use case_outside::{FolderFile, MemoryFolder};
+use host_memory::Fuse;
 use net_model::Domain;
 use std::alloc::Global;
 
@@ -32,7 +33,7 @@ fn differ(files: &[FolderFile]) -> bool
 pub fn folder(
     alloc: Global,
     files: Vec<FolderFile>,
-    fuses: Vec<FolderFuse>,
+    fuses: Vec<Fuse>,
 ) -> Result<MemoryFolder, NotDone> {
     if !differ(files.as_slice()) {
         return Err(NotDone);

@@ -6,8 +6,9 @@ use crate::machine::{Kind, Machine, Ran};
 use crate::not_done::NotDone;
 use crate::reading::number;
 use crate::runs::World;
-use case_outside::{FolderFile, FolderFuse};
+use case_outside::FolderFile;
 use case_table::{Text, first_word, parted};
+use host_memory::Fuse;
 use net_core::Net;
 use std::alloc::Global;
 
@@ -26,7 +27,7 @@ pub fn serve(
     alloc: Global,
     machine: &Machine,
     files: Vec<FolderFile>,
-    fuses: Vec<FolderFuse>,
+    fuses: Vec<Fuse>,
 ) -> Result<Ran, NotDone> {
     let folder = folder(alloc, files, fuses)?;
     machine.ask_in(
@@ -46,12 +47,12 @@ pub fn apply(alloc: Global, machine: &Machine, document: &[u8]) -> Result<Machin
 }
 
 /// One call that fails, of this number, done or not.
-pub fn fuse(alloc: Global, call: u64, done: bool) -> Result<Vec<FolderFuse>, NotDone> {
-    Ok(Vec::from_slice(alloc, &[FolderFuse { call, done }])?)
+pub fn fuse(alloc: Global, call: u64, done: bool) -> Result<Vec<Fuse>, NotDone> {
+    Ok(Vec::from_slice(alloc, &[Fuse { call, done }])?)
 }
 
 // `ok`, `fail:N` or `done:N`.
-fn fuses_of(alloc: Global, word: &str) -> Result<Vec<FolderFuse>, NotDone> {
+fn fuses_of(alloc: Global, word: &str) -> Result<Vec<Fuse>, NotDone> {
     match word.split_once(':') {
         Some(("fail", call)) => fuse(alloc, number(call)?, false),
         Some(("done", call)) => fuse(alloc, number(call)?, true),

@@ -7,7 +7,7 @@ use Rattle.case_outside.proofs.FolderMarks.{listed_pending}
 use Rattle.case_outside.proofs.folder.MemoryFolderFolder.names.Goals as goal
 
 pub returns-in-Ok-clause-names : goal.returns-in-Ok-clause-names
-returns-in-Ok-clause-names c = λ tells.
+returns-in-Ok-clause-names c =
     let files = c.args.self.now.files.items in
     let are : c.in-Ok.names.items ≡ sorted name_cmp (flat_map listed_of files) = search rules in
     are ∙ ap (sorted name_cmp) (listed_pending files)

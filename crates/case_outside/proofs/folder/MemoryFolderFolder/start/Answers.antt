@@ -9,13 +9,13 @@ use Rattle.case_outside.proofs.FolderMarks.{found_at, found_nowhere, nowhere}
 use Rattle.case_outside.proofs.folder.MemoryFolderFolder.start.Goals as goal
 
 pub returns-in_default-clause-no_such : goal.returns-in_default-clause-no_such
-returns-in_default-clause-no_such c = λ tells is.
+returns-in_default-clause-no_such c = λ is.
     let files = c.args.self.now.files.items in
     let none : position (is_unmarked_named c.args.name.now) files ≡ None = search rules in
     ap (option_map (λ (f : File). f.bytes)) (found_nowhere c.args.name.now files (nowhere (is_unmarked_named c.args.name.now) files none))
 
 pub returns-clause-begins : goal.returns-clause-begins
-returns-clause-begins c = λ tells.
+returns-clause-begins c =
     let files = c.args.self.now.files.items in
     let place = c.in-Some.place in
     let file = c.index.result.now in
