@@ -4,6 +4,7 @@ ghost use Rattle.host_core.specs.Bytes.{Torn, Written, Filled};
 ghost use Rattle.host_core.specs.DiskView.{Areas, AreaTorn, HasArea, Untouched, area_of};
 ghost use Rattle.host_core.specs.Faults.{HasCause};
 ghost use Rattle.host_core.specs.Stops.{Steps};
+ghost use Rattle.host_memory.specs.Fused.{IsFresh};
 ghost use Rattle.case_outside.specs.DiskRecord.{IsConsistent, IsConsistent-prop, IsRecorded, IsAsBefore};
 
 use base_model::OutOfMemory;
@@ -109,6 +110,7 @@ impl MemoryDisk {
         ensures sure { (s : Areas) → (⟦<MemoryDisk as Disk>⟧.told result).stops.may_leave s → s ≡ (⟦<MemoryDisk as Disk>⟧.told result).areas }
         ensures faults { (⟦<MemoryDisk as Disk>⟧.told result).faults ≡ 0 }
         ensures unfused { fuses.items ≡ [] → IsUnfused result }
+        ensures fresh { IsFresh fuses.items result.fuses }
     {
         MemoryDisk {
             alloc,

@@ -5,6 +5,7 @@ ghost use Rattle.net_model.specs.Name.{same_bytes};
 ghost use Rattle.net_model.specs.Order.{name_cmp};
 ghost use Rattle.net_model.specs.Words.{sorted};
 ghost use Rattle.host_core.specs.Folders.{HasFiles, ends_in_yml};
+ghost use Rattle.host_memory.specs.Fused.{IsFresh};
 ghost use Rattle.case_outside.specs.FolderRecord.{MarksFused, MarksNamed, differ, is_unmarked_named, listed_of, unmarked};
 
 use host_core::{Failed, Folder, NamesFault, StartFault, raised};
@@ -47,6 +48,7 @@ impl MemoryFolder {
         // No mark is in doubt.
         ensures sure { HasFiles (unmarked files.items) (⟦<MemoryFolder as Folder>⟧.told result) }
         ensures faults { (⟦<MemoryFolder as Folder>⟧.told result).faults ≡ 0 }
+        ensures fresh { IsFresh fuses.items result.fuses }
     {
         MemoryFolder {
             files,

@@ -1,6 +1,7 @@
 //! A sink in memory.
 ghost use Rattle.std.specs.Prelude.{◌≡◌, ◌++◌, [], IsTrue, IsFalse, IsSome};
 ghost use Rattle.host_core.specs.Streams.{KeepsSome};
+ghost use Rattle.host_memory.specs.Fused.{IsFresh};
 
 use host_core::{Failed, Sink, raised};
 use host_memory::{Fuse, Fuses};
@@ -30,6 +31,7 @@ impl MemorySink {
     pub fn new(alloc: Global, fuses: Vec<Fuse>) -> MemorySink
         ensures written { (⟦<MemorySink as Sink>⟧.told result).written ≡ [] }
         ensures faults { (⟦<MemorySink as Sink>⟧.told result).faults ≡ 0 }
+        ensures fresh { IsFresh fuses.items result.fuses }
     {
         MemorySink {
             bytes: Vec::new(alloc),

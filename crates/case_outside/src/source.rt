@@ -1,5 +1,6 @@
 //! Inputs in memory.
 ghost use Rattle.std.specs.Prelude.{◌≡◌, ◌≤◌, [], length, option_map};
+ghost use Rattle.host_memory.specs.Fused.{IsFresh};
 ghost use Rattle.case_outside.specs.Inputs.{input_named};
 
 use host_core::{Failed, Source, StartFault, raised};
@@ -45,6 +46,7 @@ impl MemorySource {
         ensures inputs { (⟦<MemorySource as Source>⟧.told result).inputs ≡ input_named inputs.items }
         ensures left { (⟦<MemorySource as Source>⟧.told result).left ≡ [] }
         ensures faults { (⟦<MemorySource as Source>⟧.told result).faults ≡ 0 }
+        ensures fresh { IsFresh fuses.items result.fuses }
     {
         MemorySource {
             inputs,
