@@ -27,7 +27,8 @@ enum Lock {
 #[derive(Drop)]
 struct Opened {
     folder: File,
-    // It is tried once, at the first call, and ends with the disk or the process, whatever ends that.
+    // It is tried at the first call and once more after each release, and ends with the disk or the process, whatever ends
+    // that.
     lock: Lock,
     kernel: File,
     cell: File,
@@ -69,8 +70,8 @@ fn open_all(rt: &HostRuntime, folder: &str) -> Result<Opened, FileFault> {
 impl WholeDisk<Folder> {
     /// A disk over the files of this folder. Where the folder isn't there, or its files can't be opened or made, each
     /// call on the disk fails, and this counts as a first one that did. The first call on the disk locks the folder without
-    /// waiting, and the lock is held as long as the disk lives; where another holds it, or the file system has no locks,
-    /// that call and each later one fails.
+    /// waiting, and the lock is held until a release or as long as the disk lives; where another holds it, or the file
+    /// system has no locks, that call and each later one fails. After a release the next call locks it again.
     pub fn open(rt: &HostRuntime, folder: &str) -> FileDisk
         ensures { (⟦<WholeDisk<Folder> as Disk>⟧.told result).faults ≤ 1 }
     {
@@ -94,7 +95,7 @@ impl Opened {
         }
     }
 
-    // Locks the folder, at the first call alone: a lock that was refused once isn't tried again, so that no command begins
+    // Locks the folder, at the first call, or the first after a release, alone: a lock that was refused once isn't tried again, so that no command begins
     // on a state that another one is about to leave.
     fn lock(&mut self) -> Result<(), FileFault> {
         if let Lock::Untried = self.lock {
@@ -106,6 +107,15 @@ impl Opened {
         match self.lock {
             Lock::Held => Ok(()),
             _ => Err(FileFault::InUse),
+        }
+    }
+
+    // Lets go of the lock, where it is held. A system that doesn't let it go keeps it.
+    fn unlock(&mut self) {
+        if let Lock::Held = self.lock {
+            if self.folder.unlock().is_ok() {
+                self.lock = Lock::Untried;
+            }
         }
     }
 
@@ -157,5 +167,11 @@ impl RawDisk for Folder {
         let opened = self.opened()?;
         opened.file(area).sync_all()?;
         opened.sync_folder()
+    }
+
+    fn release(&mut self) {
+        if let Some(opened) = &mut self.opened {
+            opened.unlock();
+        }
     }
 }
