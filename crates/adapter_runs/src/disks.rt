@@ -1,5 +1,5 @@
 //! Disks over the files of folders, each under its number, from 0 on: `open FOLDER`, `close N`, `N size AREA`, `N read AREA AT`
-//! of 16 bytes, `N write AREA AT TEXT`, `N sync AREA`, `N faults`. Beside them `create FOLDER`, `link TARGET NAME`, and
+//! of 16 bytes, `N write AREA AT TEXT`, `N sync AREA`, `N release`, `N faults`. Beside them `create FOLDER`, `link TARGET NAME`, and
 //! `mode FILE`, whose permissions are printed in octal.
 ghost use Rattle.std.specs.Prelude.{◌<◌};
 
@@ -56,6 +56,11 @@ fn mode(rt: &HostRuntime, file: &str) -> Answer {
     }
 }
 
+fn release(alloc: Global, disk: &mut FileDisk<'_>) -> Answer {
+    disk.release();
+    answers::done(alloc, true)
+}
+
 // A call of an open disk.
 fn called(alloc: Global, disk: &mut FileDisk<'_>, call: &str) -> Answer {
     let (verb, rest) = first_word(call);
@@ -65,6 +70,7 @@ fn called(alloc: Global, disk: &mut FileDisk<'_>, call: &str) -> Answer {
         "read" => read(alloc, disk, area, rest),
         "write" => write(alloc, disk, area, rest),
         "sync" => answers::done(alloc, disk.sync(area_of(area)).is_ok()),
+        "release" => release(alloc, disk),
         "faults" => answers::number(alloc, disk.faults()),
         _ => answers::unknown(alloc),
     }

@@ -37,8 +37,8 @@ enum State {
     Refused,
 }
 
-/// Two files of a folder, `kernel` and `cell`. Its first call opens and locks the folder, and then opens the files; before it
-/// nothing is opened or made. It tells nothing of its content.
+/// Two files of a folder, `kernel` and `cell`. Its first call opens and locks the folder, and then opens the files, and so does
+/// the first after a release; before it nothing is opened or made. It tells nothing of its content.
 #[derive(Drop)]
 pub struct Folder<'a> {
     rt: &'a HostRuntime,
@@ -110,10 +110,11 @@ fn open_all(rt: &HostRuntime, folder: &str) -> Result<Opened, FileFault> {
 
 impl<'a> WholeDisk<Folder<'a>> {
     /// A disk over the files of this folder, at which nothing failed. It opens nothing, takes no memory, and makes no file:
-    /// the first call on the disk does. That one locks the folder without waiting, and the file `cell` too, and then opens
-    /// both files, made empty with the mode 0600 where they are missing; all stay open as long as the disk lives. Where the
-    /// folder isn't there, or its files can't be opened or made, or another program holds a lock, or the file system has
-    /// none, that call and each later one fails, and counts: what was refused once isn't tried again.
+    /// the first call on the disk does, and the first after a release. That one locks the folder without waiting, and the
+    /// file `cell` too, and then opens both files, made empty with the mode 0600 where they are missing; all stay open until
+    /// the disk is released or ends. Where the folder isn't there, or its files can't be opened or made, or another program
+    /// holds a lock, or the file system has none, that call and each later one fails, and counts: what was refused once isn't
+    /// tried again.
     pub fn open(rt: &'a HostRuntime, folder: &'a str) -> FileDisk<'a>
         ensures { (⟦<WholeDisk<Folder<'a>> as Disk>⟧.told result).faults ≡ 0 }
     {
@@ -153,8 +154,8 @@ impl Opened {
 }
 
 impl<'a> Folder<'a> {
-    // The open files. They are opened at the first call alone: what was refused once isn't tried again, so that no command
-    // begins on a state that another one is about to leave.
+    // The open files. They are opened at the first call, and at the first after a release: what was refused once isn't tried
+    // again, so that no command begins on a state that another one is about to leave.
     fn opened(&mut self) -> Result<&mut Opened, FileFault> {
         if let State::Untried = self.state {
             self.state = match open_all(self.rt, self.folder) {
@@ -195,5 +196,12 @@ impl<'a> RawDisk for Folder<'a> {
     /// It syncs the bytes and the length, which are all that a read gives.
     fn sync(&mut self, area: u8) -> Result<(), FileFault> {
         Ok(self.opened()?.file(area).sync_data()?)
+    }
+
+    /// It closes the files, and their locks go with them.
+    fn release(&mut self) {
+        if let State::Open(_) = self.state {
+            self.state = State::Untried;
+        }
     }
 }
