@@ -19,6 +19,19 @@ pub fn number(alloc: Global, number: u64) -> Answer {
     Ok(out)
 }
 
+fn push_octal(digit: u32, out: &mut Vec<u8>) -> Result<(), OutOfMemory> {
+    push_decimal(digit % 8, out)
+}
+
+/// The permissions of a file, three octal digits.
+pub fn permissions(alloc: Global, mode: u32) -> Answer {
+    let mut out = Vec::new(alloc);
+    push_octal(mode / 64, &mut out)?;
+    push_octal(mode / 8, &mut out)?;
+    push_octal(mode, &mut out)?;
+    Ok(out)
+}
+
 /// Whether a call was done.
 pub fn done(alloc: Global, is_done: bool) -> Answer {
     word(alloc, if is_done { "done" } else { "failed" })

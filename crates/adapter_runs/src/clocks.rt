@@ -32,8 +32,8 @@ impl<'a> Moments<'a> {
     }
 }
 
-impl Calls for Moments<'_> {
-    fn answer(&mut self, call: &str, _out: &mut StreamSink) -> Answer {
+impl<'a> Calls<'a> for Moments<'a> {
+    fn answer(&mut self, call: &'a str, _out: &mut StreamSink) -> Answer {
         match call {
             "goes on" => answers::done(self.alloc, goes_on(&mut self.clock)),
             "faults" => answers::number(self.alloc, self.clock.faults()),

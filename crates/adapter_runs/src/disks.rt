@@ -1,5 +1,6 @@
-//! Disks over the files of folders, each under its number, from 0 on: `create FOLDER`, `open FOLDER`, `close N`, `N size AREA`,
-//! `N read AREA AT` of 16 bytes, `N write AREA AT TEXT`, `N sync AREA`, `N faults`.
+//! Disks over the files of folders, each under its number, from 0 on: `open FOLDER`, `close N`, `N size AREA`, `N read AREA AT`
+//! of 16 bytes, `N write AREA AT TEXT`, `N sync AREA`, `N release`, `N faults`. Beside them `create FOLDER`, `link TARGET NAME`, and
+//! `mode FILE`, whose permissions are printed in octal.
 ghost use Rattle.std.specs.Prelude.{◌<◌};
 
 use crate::answers::{self, Answer};
@@ -9,6 +10,7 @@ use file_disk::FileDisk;
 use host_core::Disk;
 use std::alloc::Global;
 use std::fs;
+use std::os::unix::fs::{MetadataExt, symlink};
 use system_adapters::StreamSink;
 
 // The last place of a read or a write, and the most bytes of a write.
@@ -24,14 +26,14 @@ fn area_of(word: &str) -> u8
     if word == "0" { 0 } else { 1 }
 }
 
-fn read(alloc: Global, disk: &mut FileDisk, area: &str, at: &str) -> Answer {
+fn read(alloc: Global, disk: &mut FileDisk<'_>, area: &str, at: &str) -> Answer {
     let mut buffer = [b'.'; 16];
     let at = number(at).min(MOST);
     let given = disk.read_at(area_of(area), at, &mut buffer);
     answers::read(alloc, given, &buffer)
 }
 
-fn write(alloc: Global, disk: &mut FileDisk, area: &str, rest: &str) -> Answer {
+fn write(alloc: Global, disk: &mut FileDisk<'_>, area: &str, rest: &str) -> Answer {
     let (at, text) = first_word(rest);
     let at = number(at).min(MOST);
     let bytes = text.as_bytes();
@@ -42,8 +44,25 @@ fn write(alloc: Global, disk: &mut FileDisk, area: &str, rest: &str) -> Answer {
     answers::done(alloc, is_done)
 }
 
+fn link(rt: &HostRuntime, words: &str) -> Answer {
+    let (target, name) = first_word(words);
+    answers::done(rt.alloc(), symlink(rt, target, name).is_ok())
+}
+
+fn mode(rt: &HostRuntime, file: &str) -> Answer {
+    match fs::metadata(rt, file) {
+        Ok(metadata) => answers::permissions(rt.alloc(), metadata.mode()),
+        Err(_) => answers::done(rt.alloc(), false),
+    }
+}
+
+fn release(alloc: Global, disk: &mut FileDisk<'_>) -> Answer {
+    disk.release();
+    answers::done(alloc, true)
+}
+
 // A call of an open disk.
-fn called(alloc: Global, disk: &mut FileDisk, call: &str) -> Answer {
+fn called(alloc: Global, disk: &mut FileDisk<'_>, call: &str) -> Answer {
     let (verb, rest) = first_word(call);
     let (area, rest) = first_word(rest);
     match verb {
@@ -51,6 +70,7 @@ fn called(alloc: Global, disk: &mut FileDisk, call: &str) -> Answer {
         "read" => read(alloc, disk, area, rest),
         "write" => write(alloc, disk, area, rest),
         "sync" => answers::done(alloc, disk.sync(area_of(area)).is_ok()),
+        "release" => release(alloc, disk),
         "faults" => answers::number(alloc, disk.faults()),
         _ => answers::unknown(alloc),
     }
@@ -60,7 +80,7 @@ fn called(alloc: Global, disk: &mut FileDisk, call: &str) -> Answer {
 #[derive(Drop)]
 pub struct Disks<'a> {
     rt: &'a HostRuntime,
-    disks: Vec<Option<FileDisk>>,
+    disks: Vec<Option<FileDisk<'a>>>,
 }
 
 impl<'a> Disks<'a> {
@@ -70,7 +90,7 @@ impl<'a> Disks<'a> {
         Disks { rt, disks }
     }
 
-    fn open(&mut self, folder: &str) -> Answer {
+    fn open(&mut self, folder: &'a str) -> Answer {
         self.disks.push(Some(FileDisk::open(self.rt, folder)))?;
         answers::done(self.rt.alloc(), true)
     }
@@ -97,11 +117,13 @@ fn place(word: &str) -> usize {
     word.parse::<usize>().unwrap_or(usize::MAX)
 }
 
-impl Calls for Disks<'_> {
-    fn answer(&mut self, call: &str, _out: &mut StreamSink) -> Answer {
+impl<'a> Calls<'a> for Disks<'a> {
+    fn answer(&mut self, call: &'a str, _out: &mut StreamSink) -> Answer {
         let (word, rest) = first_word(call);
         match word {
             "create" => answers::done(self.rt.alloc(), fs::create_dir(self.rt, rest).is_ok()),
+            "link" => link(self.rt, rest),
+            "mode" => mode(self.rt, rest),
             "open" => self.open(rest),
             "close" => self.close(place(rest)),
             _ => self.called(place(word), rest),

@@ -75,8 +75,8 @@ impl<'a> Documents<'a> {
     }
 }
 
-impl Calls for Documents<'_> {
-    fn answer(&mut self, call: &str, _out: &mut StreamSink) -> Answer {
+impl<'a> Calls<'a> for Documents<'a> {
+    fn answer(&mut self, call: &'a str, _out: &mut StreamSink) -> Answer {
         called(self.alloc, &mut self.folder, call)
     }
 }

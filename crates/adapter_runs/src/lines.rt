@@ -5,10 +5,10 @@ use base_model::OutOfMemory;
 use host_core::Sink;
 use system_adapters::StreamSink;
 
-/// What makes calls of one kind.
-pub trait Calls {
+/// What makes calls of one kind. What a call names may stay in use for as long as the input is there.
+pub trait Calls<'a> {
     /// What a call answers. It may write to the output itself.
-    fn answer(&mut self, call: &str, out: &mut StreamSink) -> Answer;
+    fn answer(&mut self, call: &'a str, out: &mut StreamSink) -> Answer;
 }
 
 fn write(bytes: &[u8], out: &mut StreamSink) {
@@ -33,7 +33,7 @@ fn print_answer(call: &str, answer: &Answer, out: &mut StreamSink) {
 }
 
 /// Makes these calls, and prints each with its answer.
-pub fn make<C: Calls>(calls: &mut C, lines: &str, out: &mut StreamSink) {
+pub fn make<'a, C: Calls<'a>>(calls: &mut C, lines: &'a str, out: &mut StreamSink) {
     for line in lines.lines() {
         if !line.is_empty() && !line.starts_with("# ") {
             let answer = calls.answer(line, out);

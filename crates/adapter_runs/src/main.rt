@@ -28,7 +28,13 @@ use std::io::{self, Read};
 use system_adapters::{Stream, StreamSink};
 
 // Makes the calls of a part.
-fn run_part(rt: &HostRuntime, kind: &str, folder: Option<&str>, calls: &str, out: &mut StreamSink) {
+fn run_part<'a>(
+    rt: &'a HostRuntime,
+    kind: &str,
+    folder: Option<&'a str>,
+    calls: &'a str,
+    out: &mut StreamSink,
+) {
     match kind {
         "disks" => make(&mut Disks::new(rt), calls, out),
         "folder" => make(&mut Documents::new(rt, folder), calls, out),

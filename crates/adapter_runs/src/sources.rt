@@ -39,8 +39,8 @@ impl<'a> Inputs<'a> {
     }
 }
 
-impl Calls for Inputs<'_> {
-    fn answer(&mut self, call: &str, _out: &mut StreamSink) -> Answer {
+impl<'a> Calls<'a> for Inputs<'a> {
+    fn answer(&mut self, call: &'a str, _out: &mut StreamSink) -> Answer {
         let (verb, rest) = first_word(call);
         match verb {
             "start" => start(self.alloc, &mut self.source, rest),

@@ -30,8 +30,8 @@ impl Errors {
     }
 }
 
-impl Calls for Errors {
-    fn answer(&mut self, call: &str, out: &mut StreamSink) -> Answer {
+impl<'a> Calls<'a> for Errors {
+    fn answer(&mut self, call: &'a str, out: &mut StreamSink) -> Answer {
         let (verb, rest) = first_word(call);
         match (verb, rest) {
             ("output", text) => write(self.alloc, text, out),

@@ -13,10 +13,10 @@ pub enum FileFault {
     /// The path of a file took memory that was refused.
     #[error("out of memory")]
     OutOfMemory(#[from] AllocError),
-    /// The files couldn't be opened or made when the disk was.
+    /// The files couldn't be opened, made or locked at the first call.
     #[error("the files of the folder aren't open")]
     NotOpen,
-    /// The folder couldn't be locked at the first call: another program works on it, or its file system has no locks.
+    /// The folder couldn't be locked: another program works on it, or its file system has no locks.
     #[error("the folder is in use")]
     InUse,
     /// A write took none of its bytes.

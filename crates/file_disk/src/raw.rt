@@ -1,7 +1,7 @@
 //! Disks by the single calls of a system.
-ghost use Rattle.std.specs.Prelude.{◌≡◌, ◌≤◌, ◌<◌, ◌+◌, ◌^◌, length, IfOk, OnOk};
+ghost use Rattle.std.specs.Prelude.{◌≡◌, ◌≤◌, ◌<◌, ◌+◌, ◌^◌, length, IfOk, OnOk, OnErr};
 ghost use Rattle.host_core.specs.DiskView.{AreaTorn, area_of};
-ghost use Rattle.host_core.specs.Stops.{Steps, Stays};
+ghost use Rattle.host_core.specs.Stops.{Steps, Stays, Keeps};
 ghost use Rattle.file_disk.specs.Raw.{RawView, ReadsPart, WritesPart, Has, IsLawfulRaw};
 
 use crate::fault::FileFault;
@@ -39,10 +39,17 @@ pub trait RawDisk {
         ensures torn { tells → AreaTorn area at (length bytes.now) (told self.old).areas (told self.new).areas }
         ensures stops { Steps (AreaTorn area at (length bytes.now)) (told self.old).stops (told self.new).stops };
 
-    /// After it a stop leaves in this area what a read gives. One that fails changes nothing.
+    /// After it a stop leaves in this area what a read gives. One that fails changes no byte that a read gives, and what a
+    /// stop may leave stays as it was before.
     fn sync(&mut self, area: u8) -> Result<(), FileFault>
         requires { area < 2 }
         ensures durable { OnOk result (tells → Has area (area_of area (told self.old).areas) (told self.new)) }
+        ensures areas { tells → (told self.new).areas ≡ (told self.old).areas }
+        ensures stops { Steps Stays (told self.old).stops (told self.new).stops }
+        ensures kept { tells → OnErr result (Keeps (told self.old).stops (told self.new).stops) };
+
+    /// Lets go of what keeps others off the areas, until the next call. It changes nothing and can't fail.
+    fn release(&mut self)
         ensures areas { tells → (told self.new).areas ≡ (told self.old).areas }
         ensures stops { Steps Stays (told self.old).stops (told self.new).stops };
 

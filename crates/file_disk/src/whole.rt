@@ -83,4 +83,8 @@ impl<R: RawDisk> Disk for WholeDisk<R> {
             Err(_) => Err(fault(&mut self.faults)),
         }
     }
+
+    fn release(&mut self) {
+        self.raw.release();
+    }
 }

@@ -18,8 +18,9 @@ pub fn words(rt: &HostRuntime) -> io::Result<Vec<String>> {
 // The folder of the state, where the words name none.
 const HERE: &str = ".";
 
-/// The host whose state stands in the folder that was named, or in the one where the program runs.
-pub fn host_in(rt: &HostRuntime, named: &Option<String>) -> DiskHost<FileDisk> {
+/// The host whose state stands in the folder that was named, or in the one where the program runs. It opens nothing: its
+/// first call does.
+pub fn host_in<'a>(rt: &'a HostRuntime, named: &'a Option<String>) -> DiskHost<FileDisk<'a>> {
     let folder = match named {
         Some(folder) => folder.as_str(),
         None => HERE,
@@ -27,11 +28,11 @@ pub fn host_in(rt: &HostRuntime, named: &Option<String>) -> DiskHost<FileDisk> {
     DiskHost::new(FileDisk::open(rt, folder))
 }
 
-/// A node of a rollout for each of these folders, in their order.
-pub fn nodes_in(
-    rt: &HostRuntime,
-    folders: &[String],
-) -> Result<Vec<DiskHost<FileDisk>>, AllocError> {
+/// A node of a rollout for each of these folders, in their order. They open nothing: the first call of each does.
+pub fn nodes_in<'a>(
+    rt: &'a HostRuntime,
+    folders: &'a [String],
+) -> Result<Vec<DiskHost<FileDisk<'a>>>, AllocError> {
     let mut nodes = Vec::new(rt.alloc());
     for folder in folders {
         nodes.push(DiskHost::new(FileDisk::open(rt, folder.as_str())))?;

@@ -8,7 +8,7 @@ use std::rt::Clock as Ticks;
 use std::time::{SystemTime, UNIX_EPOCH};
 
 /// The system's clock, in seconds since the beginning of 1970. It tells nothing of the moments to come, and counts the
-/// times at which it couldn't be read, or stood before 1970.
+/// times at which it couldn't be read, or stood before 1970. It opens nothing.
 #[derive(Drop)]
 pub struct SystemClock<R> {
     rt: R,

@@ -16,7 +16,8 @@ const PENDING: &str = ".yml";
 /// What stands in its place once the file is marked.
 const MARKED: &str = ".applied";
 
-/// The files of a folder, or of none, whose every call fails.
+/// The files of a folder, or of none, whose every call fails. It opens the folder to list it and to sync a mark, and a file where
+/// that is begun; nothing before. What is no regular file, nor a link to one, is no document.
 pub struct FileFolder<'a> {
     rt: &'a HostRuntime,
     folder: Option<&'a str>,
@@ -83,6 +84,9 @@ impl<'a> FileFolder<'a> {
     // The file of a name, at its first byte.
     fn opened(&self, name: &Domain) -> io::Result<File> {
         let path = self.path(text(name)?)?;
+        if is_other(self.rt, path.as_path()) {
+            return Err(io::Error::from(ErrorKind::NotFound));
+        }
         File::open(self.rt, path)
     }
 
@@ -108,7 +112,7 @@ impl<'a> FileFolder<'a> {
     fn listed(&self, alloc: Global) -> io::Result<Vec<Domain>> {
         let entries = fs::read_dir(self.rt, self.folder()?)?;
         let mut names = Vec::new(alloc);
-        push_all(alloc, entries, &mut names)?;
+        push_all(self.rt, alloc, entries, &mut names)?;
         names.sort()?;
         Ok(names)
     }
@@ -140,21 +144,36 @@ fn marked_name(alloc: Global, name: &str) -> Result<String, AllocError> {
     Ok(marked)
 }
 
+// Whether a FIFO, a socket, a device or a folder stands there, or a link to such. A link that leads nowhere is a document
+// that can't be begun: to pass over it would leave out what it stands for.
+fn is_other(rt: &HostRuntime, path: Path<'_>) -> bool {
+    match fs::metadata(rt, path) {
+        Ok(metadata) => !metadata.is_file(),
+        Err(_) => false,
+    }
+}
+
 // Appends the names of the pending files that are domains.
-fn push_all(alloc: Global, entries: ReadDir, names: &mut Vec<Domain>) -> io::Result<()> {
+fn push_all(
+    rt: &HostRuntime,
+    alloc: Global,
+    entries: ReadDir,
+    names: &mut Vec<Domain>,
+) -> io::Result<()> {
     for entry in entries {
-        push_entry(alloc, entry, names)?;
+        push_entry(rt, alloc, entry, names)?;
     }
     Ok(())
 }
 
 fn push_entry(
+    rt: &HostRuntime,
     alloc: Global,
     entry: io::Result<DirEntry>,
     names: &mut Vec<Domain>,
 ) -> io::Result<()> {
     match entry {
-        Ok(entry) => Ok(push_pending(alloc, entry.file_name(), names)?),
+        Ok(entry) => Ok(push_pending(rt, alloc, &entry, names)?),
         // A name that isn't UTF-8 is no domain.
         Err(error) if error.kind() == ErrorKind::InvalidFilename => Ok(()),
         Err(error) => Err(error),
@@ -162,8 +181,14 @@ fn push_entry(
 }
 
 // Appends the name of a pending file, where it is a domain.
-fn push_pending(alloc: Global, name: &str, names: &mut Vec<Domain>) -> Result<(), AllocError> {
-    if !name.ends_with(PENDING) {
+fn push_pending(
+    rt: &HostRuntime,
+    alloc: Global,
+    entry: &DirEntry,
+    names: &mut Vec<Domain>,
+) -> Result<(), AllocError> {
+    let name = entry.file_name();
+    if !name.ends_with(PENDING) || is_other(rt, entry.path()) {
         return Ok(());
     }
     let bytes = Vec::from_slice(alloc, name.as_bytes())?;

@@ -21,7 +21,7 @@ impl Stream {
     }
 }
 
-/// A sink over a standard stream.
+/// A sink over a standard stream. It opens nothing: it writes to what the program was started with.
 pub struct StreamSink {
     stream: Stream,
     faults: u64,

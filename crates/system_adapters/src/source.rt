@@ -3,13 +3,21 @@ ghost use Rattle.std.specs.Prelude.{◌≡◌, ◌≤◌};
 ghost use Rattle.host_core.specs.Faults.{Rose};
 
 use host_core::{Failed, Source, StartFault, raised};
-use std::fs::File;
+use std::fs::{self, File};
 use std::io::{ErrorKind, Read, Stdin};
+use std::os::unix::fs::FileTypeExt;
 
 /// The name of standard input.
 const STANDARD_INPUT: &str = "-";
 
-/// Files under their names, and standard input under `-`.
+/// Its name as a file, which is read by the open stream too: opened anew, a FIFO there would wait for somebody who writes to it.
+const ITS_FILE: &str = "/dev/stdin";
+
+/// The folders of the files that the program was started with: what a shell writes for a process whose output is FILE.
+const DESCRIPTORS: [&str; 2] = ["/dev/fd/", "/proc/self/fd/"];
+
+/// Files under their names, and standard input under `-` and `/dev/stdin`. A file is opened where it is begun; nothing before. A
+/// FIFO has no name here, so that nothing waits for somebody who writes to it, but for one that the program was started with.
 pub struct FileSource<'a> {
     rt: &'a HostRuntime,
     stdin: Stdin,
@@ -70,10 +78,24 @@ fn is_missing(kind: ErrorKind) -> bool {
     )
 }
 
+// Whether it is the name of a FIFO that the program wasn't started with.
+fn is_fifo(rt: &HostRuntime, name: &str) -> bool {
+    if name.starts_with(DESCRIPTORS[0]) || name.starts_with(DESCRIPTORS[1]) {
+        return false;
+    }
+    match fs::metadata(rt, name) {
+        Ok(metadata) => metadata.file_type().is_fifo(),
+        Err(_) => false,
+    }
+}
+
 // The file of a name, or none for standard input.
 fn opened(rt: &HostRuntime, name: &str) -> Result<Option<File>, StartFault> {
-    if name == STANDARD_INPUT {
+    if name == STANDARD_INPUT || name == ITS_FILE {
         return Ok(None);
+    }
+    if is_fifo(rt, name) {
+        return Err(StartFault::NoSuchName);
     }
     match File::open(rt, name) {
         Ok(file) => Ok(Some(file)),
