@@ -1,5 +1,5 @@
 //! Disks over the files of folders, each under its number, from 0 on: `create FOLDER`, `open FOLDER`, `close N`, `N size AREA`,
-//! `N read AREA AT` of 16 bytes, `N write AREA AT TEXT`, `N sync AREA`, `N faults`.
+//! `N read AREA AT` of 16 bytes, `N write AREA AT TEXT`, `N sync AREA`, `N release`, `N faults`.
 ghost use Rattle.std.specs.Prelude.{◌<◌};
 
 use crate::answers::{self, Answer};
@@ -42,6 +42,11 @@ fn write(alloc: Global, disk: &mut FileDisk, area: &str, rest: &str) -> Answer {
     answers::done(alloc, is_done)
 }
 
+fn released(alloc: Global, disk: &mut FileDisk) -> Answer {
+    disk.release();
+    answers::done(alloc, true)
+}
+
 // A call of an open disk.
 fn called(alloc: Global, disk: &mut FileDisk, call: &str) -> Answer {
     let (verb, rest) = first_word(call);
@@ -51,6 +56,7 @@ fn called(alloc: Global, disk: &mut FileDisk, call: &str) -> Answer {
         "read" => read(alloc, disk, area, rest),
         "write" => write(alloc, disk, area, rest),
         "sync" => answers::done(alloc, disk.sync(area_of(area)).is_ok()),
+        "release" => released(alloc, disk),
         "faults" => answers::number(alloc, disk.faults()),
         _ => answers::unknown(alloc),
     }
