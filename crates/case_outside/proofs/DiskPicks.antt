@@ -3,7 +3,7 @@ use Rattle.std.proofs.Common.{◌≡◌, ◌≤◌, ◌++◌, ◌∙◌, inl, in
 use Rattle.std.proofs.lemmas.List.{length-append, length-reverse, length-take-le}
 use Rattle.host_core.specs.DiskView.{Areas}
 use Rattle.case_outside.specs.declared.disk.DiskEvent.{DiskEvent}
-use Rattle.case_outside.specs.declared.disk.DiskEvent.TheVariants.{Wrote, Synced}
+use Rattle.case_outside.specs.declared.disk.DiskEvent.TheVariants.{Wrote, Synced, FailedSync}
 use Rattle.case_outside.specs.DiskRecord.{put_area, Left, LeftSince, IsConsistent}
 use Rattle.case_outside.specs.DiskStopped.{touch_of}
 use Rattle.host_memory.specs.Touches.{IsTouched, undone, bytes_stopped}
@@ -18,6 +18,7 @@ kernel_touched now (Wrote (suc (suc n)) at len before ∷ events) is = absurd (o
 kernel_touched now (Synced zero ∷ events) is = kernel_touched now events is.1
 kernel_touched now (Synced (suc zero) ∷ events) is = kernel_touched now events is.1
 kernel_touched now (Synced (suc (suc n)) ∷ events) is = absurd (omega (arith, is.0))
+kernel_touched now (FailedSync ∷ events) is = kernel_touched now events is
 
 cell_touched : (now : Areas) (events : List DiskEvent) → IsConsistent now events → IsTouched now.cell (map (touch_of 1) events)
 cell_touched now [] is = tt
@@ -27,6 +28,7 @@ cell_touched now (Wrote (suc (suc n)) at len before ∷ events) is = absurd (ome
 cell_touched now (Synced zero ∷ events) is = cell_touched now events is.1
 cell_touched now (Synced (suc zero) ∷ events) is = cell_touched now events is.1
 cell_touched now (Synced (suc (suc n)) ∷ events) is = absurd (omega (arith, is.0))
+cell_touched now (FailedSync ∷ events) is = cell_touched now events is
 
 -- what may be left of each area may be left of both together
 both_left : (now : Areas) (events : List DiskEvent) → IsConsistent now events → (kernel cell : List ℕ)
@@ -44,6 +46,7 @@ both_left now (Synced (suc zero) ∷ events) is kernel cell k c =
     let stays = subst (λ (l : List ℕ). LeftOf now.cell (map (touch_of 1) events) l) (sym c) (left_now now.cell (map (touch_of 1) events) (cell_touched now events is.1)) in
     (both_left now events is.1 kernel cell k stays, c)
 both_left now (Synced (suc (suc n)) ∷ events) is kernel cell k c = absurd (omega (arith, is.0))
+both_left now (FailedSync ∷ events) is kernel cell k c = both_left now events is kernel cell k c
 
 -- the areas before these events
 abbrev areas_before : Areas → List DiskEvent → Areas
@@ -57,6 +60,7 @@ consistent_before now (Wrote (suc (suc n)) at len before ∷ later) earlier is =
 consistent_before now (Synced zero ∷ later) earlier is = consistent_before now later earlier is.1
 consistent_before now (Synced (suc zero) ∷ later) earlier is = consistent_before now later earlier is.1
 consistent_before now (Synced (suc (suc n)) ∷ later) earlier is = absurd (omega (arith, is.0))
+consistent_before now (FailedSync ∷ later) earlier is = consistent_before now later earlier is
 
 among : (now : Areas) (events : List DiskEvent) (s : Areas) → Left now events s → LeftSince (length events) now events s
 among now [] s left = left
@@ -75,6 +79,7 @@ left_before now (Wrote (suc (suc n)) at len before ∷ later) earlier is s left 
 left_before now (Synced zero ∷ later) earlier is s left = inr (more later earlier, left_before now later earlier is.1 s left)
 left_before now (Synced (suc zero) ∷ later) earlier is s left = inr (more later earlier, left_before now later earlier is.1 s left)
 left_before now (Synced (suc (suc n)) ∷ later) earlier is s left = absurd (omega (arith, is.0))
+left_before now (FailedSync ∷ later) earlier is s left = inr (more later earlier, left_before now later earlier is s left)
 
 module _ (after pick : ℕ) (now : Areas) (events : List DiskEvent) (is : IsConsistent now (reverse events)) where
   abbrev picked : Areas

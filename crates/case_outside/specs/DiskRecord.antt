@@ -1,5 +1,5 @@
 -- What a disk in memory may leave, by the record of what was done to it.
-use Rattle.std.specs.Prelude.{◌≡◌, ◌⊎◌, ◌≤◌, ◌<◌, ℕ, zero, suc, List, [], ◌∷◌, ◌++◌, length, refl, Vec, ⊤}
+use Rattle.std.specs.Prelude.{◌≡◌, ◌⊎◌, ◌≤◌, ◌<◌, ℕ, Bool, true, false, zero, suc, List, [], ◌∷◌, ◌++◌, length, refl, Vec, ⊤}
 use Rattle.std.specs.Coded.{×_prop, Unit-prop, le_prop}
 use Rattle.std.specs.declared.alloc.Global.{Global}
 use Rattle.std.proofs.Common.{inl, inr, arith}
@@ -8,7 +8,7 @@ use Rattle.host_core.specs.DiskView.{Areas, AreaTorn, area_of}
 use Rattle.host_core.specs.Stops.{Stops, IsLawful}
 use Rattle.host_memory.specs.Touches.{Torn-prop}
 use Rattle.case_outside.specs.declared.disk.DiskEvent.{DiskEvent}
-use Rattle.case_outside.specs.declared.disk.DiskEvent.TheVariants.{Wrote, Synced}
+use Rattle.case_outside.specs.declared.disk.DiskEvent.TheVariants.{Wrote, Synced, FailedSync}
 
 -- the areas, of which one has other bytes
 abbrev pub put_area : ℕ → List ℕ → Areas → Areas
@@ -19,12 +19,14 @@ put_area (suc n) bytes areas = record areas { cell = bytes }
 abbrev pub undone : DiskEvent → Areas → Areas
 undone (Wrote area at len before) now = put_area area before.items now
 undone (Synced area) now = now
+undone FailedSync now = now
 
--- Each event is of area 0 or 1, and each write led from what was there before it to what was there after it, torn at most.
+-- Each write and each sync that succeeded is of area 0 or 1, and each write led from what was there before it to what was there after it, torn at most.
 abbrev pub IsConsistent : Areas → List DiskEvent → Type 0
 IsConsistent now [] = ⊤
 IsConsistent now (Wrote area at len before ∷ events) = (area < 2) × (Torn at len before.items (area_of area now) × IsConsistent (undone (Wrote area at len before) now) events)
 IsConsistent now (Synced area ∷ events) = (area < 2) × IsConsistent now events
+IsConsistent now (FailedSync ∷ events) = IsConsistent now events
 
 -- it has one proof at most, as a type asks of what it keeps
 pub IsConsistent-prop : (now : Areas) (events : List DiskEvent) → IsProp (IsConsistent now events)
@@ -32,13 +34,15 @@ IsConsistent-prop now [] = Unit-prop
 IsConsistent-prop now (Wrote area at len before ∷ events) =
     ×_prop le_prop (×_prop (Torn-prop at len before.items (area_of area now)) (IsConsistent-prop (undone (Wrote area at len before) now) events))
 IsConsistent-prop now (Synced area ∷ events) = ×_prop le_prop (IsConsistent-prop now events)
+IsConsistent-prop now (FailedSync ∷ events) = IsConsistent-prop now events
 
 -- What a stop may leave after these events, the newest of them first: as it reads, or what was left before, torn by the
--- write; after a sync what was left before and has the area as it reads.
+-- write; after a sync what was left before and has the area as it reads, and after one that failed what was left before.
 abbrev pub Left : Areas → List DiskEvent → Areas → Type 0
 Left now [] s = s ≡ now
 Left now (Wrote area at len before ∷ events) s = (s ≡ now) ⊎ ((r : Areas) × Left (undone (Wrote area at len before) now) events r × AreaTorn area at len r s)
 Left now (Synced area ∷ events) s = Left now events s × (area_of area s ≡ area_of area now)
+Left now (FailedSync ∷ events) s = Left now events s
 
 -- what a stop after so many events or more might have left
 abbrev pub LeftSince : ℕ → Areas → List DiskEvent → Areas → Type 0
@@ -53,6 +57,7 @@ pub reads : (now : Areas) (events : List DiskEvent) → Left now events now
 reads now [] = refl
 reads now (Wrote area at len before ∷ events) = inl refl
 reads now (Synced area ∷ events) = (reads now events, refl)
+reads now (FailedSync ∷ events) = reads now events
 
 counts : (now : Areas) (events : List DiskEvent) (t : ℕ) (s : Areas) → t ≤ length events → Left now events s → LeftSince t now events s
 counts now [] t s le left = left
@@ -66,7 +71,7 @@ only now (event ∷ events) s (inr (le, left)) = absurd (omega arith)
 pub lawful : (now : Areas) (events : List DiskEvent) → IsLawful (stops_of now events)
 lawful now events = record { counts_now = counts now events; only_now = only now events }
 
--- ---- what a write does to the record
+-- ---- what calls do to the record
 
 -- a write is put behind the events, with what was there before it
 pub record IsRecorded (area at len : ℕ) (was : List ℕ) (old new : List DiskEvent) : Type 0 where
@@ -78,3 +83,8 @@ pub record IsRecorded (area at len : ℕ) (was : List ℕ) (old new : List DiskE
 pub record IsAsBefore (was now : List ℕ) (old new : List DiskEvent) : Type 0 where
   pub bytes : now ≡ was
   pub events : new ≡ old
+
+-- a sync is put behind the events, as one that succeeded or as one that failed; of one that failed nothing may be recorded
+abbrev pub IsSyncTried : ℕ → Bool → List DiskEvent → List DiskEvent → Type 0
+IsSyncTried area true old new = new ≡ old ++ Synced area ∷ []
+IsSyncTried area false old new = (new ≡ old) ⊎ (new ≡ old ++ FailedSync ∷ [])

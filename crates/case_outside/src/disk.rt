@@ -3,9 +3,9 @@ ghost use Rattle.std.specs.Prelude.{◌≡◌, ◌⊎◌, ◌<◌, ◌≤◌, �
 ghost use Rattle.host_core.specs.Bytes.{Torn, Written, Filled};
 ghost use Rattle.host_core.specs.DiskView.{Areas, AreaTorn, HasArea, Untouched, area_of};
 ghost use Rattle.host_core.specs.Faults.{HasCause};
-ghost use Rattle.host_core.specs.Stops.{Steps};
+ghost use Rattle.host_core.specs.Stops.{Steps, Keeps};
 ghost use Rattle.host_memory.specs.Fused.{IsFresh};
-ghost use Rattle.case_outside.specs.DiskRecord.{IsConsistent, IsConsistent-prop, IsRecorded, IsAsBefore};
+ghost use Rattle.case_outside.specs.DiskRecord.{IsConsistent, IsConsistent-prop, IsRecorded, IsAsBefore, IsSyncTried};
 
 use base_model::OutOfMemory;
 use host_core::{Area, Disk, Failed};
@@ -21,6 +21,7 @@ pub enum DiskEvent {
         before: Vec<u8>,
     },
     Synced(u8),
+    FailedSync,
 }
 
 // By hand, so that a proof sees one call where one is dropped, and not a step for each part.
@@ -33,7 +34,8 @@ impl Drop for DiskEvent {
                 len: _,
                 before: _,
             }
-            | DiskEvent::Synced(_) => {}
+            | DiskEvent::Synced(_)
+            | DiskEvent::FailedSync => {}
         }
     }
 }
@@ -69,7 +71,7 @@ impl Touches for DiskEvent {
     fn syncs(&self, area: u8) -> bool {
         match self {
             DiskEvent::Synced(synced) => *synced == area,
-            DiskEvent::Wrote { .. } => false,
+            DiskEvent::Wrote { .. } | DiskEvent::FailedSync => false,
         }
     }
 }
@@ -104,11 +106,13 @@ impl MemoryDisk {
     ghost use Rattle.case_outside.specs.DiskMemory.{IsUnfused};
     ghost use Rattle.case_outside.specs.DiskPicked.{areas_stopped, stops_then};
 
-    /// A disk with these bytes in its areas, of which none is in doubt, at which nothing was called.
+    /// A disk with these bytes in its areas, of which none is in doubt, at which nothing was called; the calls that its fuses
+    /// name are to fail.
     pub fn new(alloc: Global, kernel: Vec<u8>, cell: Vec<u8>, fuses: Vec<Fuse>) -> MemoryDisk
         ensures areas { (⟦<MemoryDisk as Disk>⟧.told result).areas ≡ record { kernel = kernel.items; cell = cell.items } }
         ensures sure { (s : Areas) → (⟦<MemoryDisk as Disk>⟧.told result).stops.may_leave s → s ≡ (⟦<MemoryDisk as Disk>⟧.told result).areas }
         ensures faults { (⟦<MemoryDisk as Disk>⟧.told result).faults ≡ 0 }
+        ensures moment { (⟦<MemoryDisk as Disk>⟧.told result).stops.moment ≡ 0 }
         ensures unfused { fuses.items ≡ [] → IsUnfused result }
         ensures fresh { IsFresh fuses.items result.fuses }
     {
@@ -134,7 +138,8 @@ impl MemoryDisk {
         }
     }
 
-    /// How many writes and syncs it has recorded, which is the moment.
+    /// How many writes and syncs it has recorded, which is the moment. Each is one, also where it answers `Failed`, unless
+    /// memory is refused; a read is none.
     pub fn calls(&self) -> u64
         ensures { result ≡ (⟦<MemoryDisk as Disk>⟧.told self.now).stops.moment }
     {
@@ -198,6 +203,7 @@ fn write(
     requires { at + length bytes.now < 2 ^ 63 }
     ensures written { IsTrue result → Written at bytes.now held.old.items held.new.items }
     ensures torn { Torn at (length bytes.now) held.old.items held.new.items }
+    ensures recorded { IsTrue result → IsRecorded area at (length bytes.now) held.old.items events.old.items events.new.items }
     ensures record { IsRecorded area at (length bytes.now) held.old.items events.old.items events.new.items
         ⊎ IsAsBefore held.old.items held.new.items events.old.items events.new.items }
     ensures fused { IsSome fuse → IsFalse result }
@@ -213,7 +219,7 @@ fn write(
 }
 
 impl Disk for MemoryDisk {
-    ghost use Rattle.host_memory.specs.Fused.{IsCounted, IsFused};
+    ghost use Rattle.host_memory.specs.Fused.{IsCounted, IsEvent, IsFused};
     ghost use Rattle.case_outside.specs.DiskMemory.{IsUnfused, disk_told, lawful_disk};
 
     ghost tells = { Unit {0} };
@@ -226,6 +232,7 @@ impl Disk for MemoryDisk {
         requires { area < 2 }
         ensures size { IfOk result (λ n. n ≡ length (area_of area (disk_told self.old).areas)) }
         ensures untouched { Untouched (Unit {0}) (disk_told self.old) (disk_told self.new) }
+        ensures no_event { (disk_told self.new).stops.moment ≡ (disk_told self.old).stops.moment }
         ensures cause { HasCause (disk_told self.old).faults (disk_told self.new).faults result }
         ensures unfused { IsUnfused self.old → IsUnfused self.new }
         ensures quiet { IsUnfused self.old → (disk_told self.new).faults ≡ (disk_told self.old).faults }
@@ -242,6 +249,7 @@ impl Disk for MemoryDisk {
         requires end { at + length buf.old < 2 ^ 63 }
         ensures filled { IfOk result (λ n. Filled at (area_of area (disk_told self.old).areas) buf.old buf.new n) }
         ensures untouched { Untouched (Unit {0}) (disk_told self.old) (disk_told self.new) }
+        ensures no_event { (disk_told self.new).stops.moment ≡ (disk_told self.old).stops.moment }
         ensures cause { HasCause (disk_told self.old).faults (disk_told self.new).faults result }
         ensures unfused { IsUnfused self.old → IsUnfused self.new }
         ensures quiet { IsUnfused self.old → (disk_told self.new).faults ≡ (disk_told self.old).faults }
@@ -259,6 +267,7 @@ impl Disk for MemoryDisk {
         ensures written { OnOk result (Written at bytes.now (area_of area (disk_told self.old).areas) (area_of area (disk_told self.new).areas)) }
         ensures torn { AreaTorn area at (length bytes.now) (disk_told self.old).areas (disk_told self.new).areas }
         ensures stops { Steps (AreaTorn area at (length bytes.now)) (disk_told self.old).stops (disk_told self.new).stops }
+        ensures event { IsEvent result (disk_told self.old).stops (disk_told self.new).stops }
         ensures cause { HasCause (disk_told self.old).faults (disk_told self.new).faults result }
         ensures unfused { IsUnfused self.old → IsUnfused self.new }
         ensures quiet { IsUnfused self.old → OnOk result ((disk_told self.new).faults ≡ (disk_told self.old).faults) }
@@ -295,6 +304,8 @@ impl Disk for MemoryDisk {
         requires { area < 2 }
         ensures durable { OnOk result (HasArea area (area_of area (disk_told self.old).areas) (disk_told self.new)) }
         ensures untouched { Untouched (Unit {0}) (disk_told self.old) (disk_told self.new) }
+        ensures kept { OnErr result (Keeps (disk_told self.old).stops (disk_told self.new).stops) }
+        ensures event { IsEvent result (disk_told self.old).stops (disk_told self.new).stops }
         ensures cause { HasCause (disk_told self.old).faults (disk_told self.new).faults result }
         ensures unfused { IsUnfused self.old → IsUnfused self.new }
         ensures quiet { IsUnfused self.old → OnOk result ((disk_told self.new).faults ≡ (disk_told self.old).faults) }
@@ -305,18 +316,22 @@ impl Disk for MemoryDisk {
         let is_done = sync(&mut self.events, area, fuse);
         counted(&mut self.faults, is_done)
     }
+
+    fn release(&mut self)
+        ensures untouched { Untouched (Unit {0}) (disk_told self.old) (disk_told self.new) }
+        ensures faults { (disk_told self.new).faults ≡ (disk_told self.old).faults }
+        ensures same { self.new ≡ self.old }
+    {}
 }
 
-// Records a sync that is done, and answers whether the call succeeds.
+// Records a sync, and answers whether it succeeds. One that fails leaves what a stop may leave as it was, also where its
+// fuse lets it be done.
 fn sync(events: &mut Vec<DiskEvent>, area: u8, fuse: Option<Fuse>) -> bool
-    ensures record { IsTrue result → events.new.items ≡ events.old.items ++ DiskEvent.Synced area ∷ [] }
-    ensures either { (events.new.items ≡ events.old.items) ⊎ (events.new.items ≡ events.old.items ++ DiskEvent.Synced area ∷ []) }
+    ensures record { IsSyncTried area result events.old.items events.new.items }
     ensures fused { IsSome fuse → IsFalse result }
 {
-    if let Some(fuse) = fuse {
-        if fuse.done {
-            let _ = events.push(DiskEvent::Synced(area));
-        }
+    if fuse.is_some() {
+        let _ = events.push(DiskEvent::FailedSync);
         return false;
     }
     events.push(DiskEvent::Synced(area)).is_ok()

@@ -73,4 +73,8 @@ impl Host for LyingHost {
     fn cell_sync(&mut self) -> Result<(), Failed> {
         self.host.cell_sync()
     }
+
+    fn release(&mut self) {
+        self.host.release();
+    }
 }

@@ -109,4 +109,8 @@ impl Host for RefusingHost {
     fn cell_sync(&mut self) -> Result<(), Failed> {
         self.host.cell_sync()
     }
+
+    fn release(&mut self) {
+        self.host.release();
+    }
 }

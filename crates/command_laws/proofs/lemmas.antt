@@ -18,5 +18,6 @@ pub mod Simulates
 pub mod Hardware
 pub mod Makes
 pub mod Generates
+pub mod Releases
 pub mod Checks
 pub mod Takes

@@ -41,7 +41,8 @@ impl<D: Disk> DiskHost<D> {
         }
     }
 
-    /// The disk. It takes no memory.
+    /// The disk, of which a stop leaves, then and since each earlier moment, what the host told through it. It takes no
+    /// memory.
     pub fn into_disk(self) -> D
         ensures over { IsOver (D.told result) (⟦<DiskHost<D> as Host>⟧.told self) }
         ensures area { (D.told result).areas.kernel ≡ kernel_area D.Disk self }
@@ -167,5 +168,11 @@ impl<D: Disk> Host for DiskHost<D> {
 
     fn cell_sync(&mut self) -> Result<(), Failed> {
         self.disk.sync(1)
+    }
+
+    // What was kept goes, since others may change the disk from then on.
+    fn release(&mut self) {
+        self.kept = None;
+        self.disk.release();
     }
 }

@@ -82,7 +82,7 @@ module _ (before : List HostEvent) (gate : Vec ℕ Global) (old mid : State) whe
   opening none is held net torn =
       follow Began Stays Began (stops_of old (reverse before)) (stops_of mid (reverse wrote)) (stops_of mid (reverse (wrote ++ Synced ∷ [])))
       (follow Stays (CellTorn 0 1) Began (stops_of old (reverse before)) (stops_of old (reverse synced)) (stops_of mid (reverse wrote))
-      (sync_pushed before synced old (inr refl))
+      (sync_pushed true before synced old refl)
       (write_pushed synced wrote old mid 0 1 (inl (record { before = gate; items = held; pushed = refl })) net torn)
       (λ q r left same. inl same)
       (λ q r s begin left same step. inr (subst (λ (x : State). Closing x s) same (record {
@@ -90,13 +90,13 @@ module _ (before : List HostEvent) (gate : Vec ℕ Global) (old mid : State) whe
         was_open = ap (λ (l : List ℕ). get_or l 0 1) (sync_sure before synced old refl r left) ∙ is;
         gate = step.cell;
       }))))
-      (sync_pushed wrote (wrote ++ Synced ∷ []) mid (inr refl))
+      (sync_pushed true wrote (wrote ++ Synced ∷ []) mid refl)
       (λ q r left step. step)
       (λ q r s begin left step same. subst (λ (x : State). Began q x) (sym same) step)
 
 -- a gate that is closed is synced
 shut_already : (before : List HostEvent) (old : State) → Steps Began (stops_of old (reverse before)) (stops_of old (reverse (before ++ Synced ∷ [])))
-shut_already before old = weaken Stays Began (stops_of old (reverse before)) (stops_of old (reverse (before ++ Synced ∷ []))) (sync_pushed before (before ++ Synced ∷ []) old (inr refl)) (λ r s left same. inl same)
+shut_already before old = weaken Stays Began (stops_of old (reverse before)) (stops_of old (reverse (before ++ Synced ∷ []))) (sync_pushed true before (before ++ Synced ∷ []) old refl) (λ r s left same. inl same)
 
 module _ (first : NetData) (before after closing : List HostEvent) (old new : State) (none : old.net ≡ None) (stored : new.net ≡ Some first) (is : after ≡ before ++ (closing ++ Changed None ∷ [])) where
   -- the last events of a making are a sync and the storing

@@ -3,7 +3,7 @@ use Rattle.std.proofs.Common.{◌≡◌, ◌≤◌, ◌++◌, ◌∙◌, inl, in
 use Rattle.std.proofs.lemmas.List.{length-append, length-reverse, length-take-le}
 use Rattle.host_core.specs.HostView.{State}
 use Rattle.host_memory.specs.declared.record.HostEvent.{HostEvent}
-use Rattle.host_memory.specs.declared.record.HostEvent.TheVariants.{Changed, Wrote, Synced}
+use Rattle.host_memory.specs.declared.record.HostEvent.TheVariants.{Changed, Wrote, Synced, FailedSync}
 use Rattle.host_memory.specs.HostRecord.{Left, LeftSince}
 use Rattle.host_memory.specs.HostStopped.{touch_of, net_before}
 use Rattle.host_memory.specs.Touches.{IsTouched, undone, bytes_stopped}
@@ -19,6 +19,7 @@ with_net now (Wrote at len before ∷ events) is cell c =
     inr (record { net = now.net; cell = c.0 }, with_net (record now { cell = before.items }) events is.1 c.0 c.1, record { net = refl; cell = c.2 })
 with_net now (Synced ∷ events) is cell c =
     (with_net now events is cell (subst (λ (l : List ℕ). LeftOf now.cell (map (touch_of 0) events) l) (sym c) (left_now now.cell (map (touch_of 0) events) is)), c)
+with_net now (FailedSync ∷ events) is cell c = with_net now events is cell c
 
 -- the state before these events
 abbrev state_before : State → List HostEvent → State
@@ -30,6 +31,7 @@ touched_before now [] earlier is = is
 touched_before now (Changed before ∷ later) earlier is = touched_before (record now { net = before }) later earlier is
 touched_before now (Wrote at len before ∷ later) earlier is = touched_before (record now { cell = before.items }) later earlier is.1
 touched_before now (Synced ∷ later) earlier is = touched_before now later earlier is
+touched_before now (FailedSync ∷ later) earlier is = touched_before now later earlier is
 
 among : (now : State) (events : List HostEvent) (s : State) → Left now events s → LeftSince (length events) now events s
 among now [] s left = left
@@ -44,6 +46,7 @@ left_before now [] earlier s left = among now earlier s left
 left_before now (Changed before ∷ later) earlier s left = inr (more later earlier, left_before (record now { net = before }) later earlier s left)
 left_before now (Wrote at len before ∷ later) earlier s left = inr (more later earlier, left_before (record now { cell = before.items }) later earlier s left)
 left_before now (Synced ∷ later) earlier s left = inr (more later earlier, left_before now later earlier s left)
+left_before now (FailedSync ∷ later) earlier s left = inr (more later earlier, left_before now later earlier s left)
 
 module _ (after pick : ℕ) (now : State) (events : List HostEvent) (is : IsTouched now.cell (map (touch_of 0) (reverse events))) where
   abbrev picked : State

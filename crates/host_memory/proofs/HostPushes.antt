@@ -1,15 +1,18 @@
 -- What one more event does to the record.
-use Rattle.std.proofs.Common.{◌≡◌, ◌⊎◌, inl, inr, ⊎_elim, ℕ, List, [], ◌∷◌, ◌++◌, reverse, Option, refl, sym, ap, ◌∙◌, subst, arith}
+use Rattle.std.proofs.Common.{◌≡◌, ◌⊎◌, ◌≤◌, ◌+◌, inl, inr, ⊎_elim, ℕ, Bool, true, false, List, [], ◌∷◌, ◌++◌, length, reverse, Option, refl, sym, ap, ◌∙◌, subst, arith}
+use Rattle.std.specs.Prelude.{Result, Ok, Err, IsTrue, OnOk, OnErr}
 use Rattle.std.proofs.lemmas.List.{reverse-append}
+use Rattle.std.proofs.lemmas.Result.{on_ok_weaker}
 use Rattle.net_model.specs.NetData.{NetData}
 use Rattle.net_model.specs.declared.Call.{Call}
 use Rattle.host_core.specs.Bytes.{Torn}
 use Rattle.host_core.specs.HostView.{State, CellTorn, MaybeCalled, SameCell, Accepts}
-use Rattle.host_core.specs.Stops.{Steps, After, Stays}
+use Rattle.host_core.specs.Stops.{Steps, After, Stays, Keeps}
 use Rattle.host_memory.specs.declared.record.HostEvent.{HostEvent}
-use Rattle.host_memory.specs.declared.record.HostEvent.TheVariants.{Changed, Wrote, Synced}
-use Rattle.host_memory.specs.HostRecord.{undone, Left, LeftSince, stops_of, reads, one_net, IsWritten, IsAsBefore, IsCalled, IsUncalled}
+use Rattle.host_memory.specs.declared.record.HostEvent.TheVariants.{Changed, Wrote, Synced, FailedSync}
+use Rattle.host_memory.specs.HostRecord.{undone, Left, LeftSince, stops_of, reads, one_net, IsWritten, IsAsBefore, IsSyncTried, IsCalled, IsUncalled}
 use Rattle.host_core.proofs.lemmas.Moments.{stays, weaken}
+use Rattle.host_memory.specs.Fused.{IsEvent}
 use Rattle.host_memory.proofs.lemmas.Torn.{torn_same}
 
 module _ (event : HostEvent) (events : List HostEvent) (old new : State) (was : undone event new ≡ old) where
@@ -54,6 +57,9 @@ module _ (events : List HostEvent) (old new : State) where
 
 pub synced : (events : List HostEvent) (now : State) → Steps Stays (stops_of now events) (stops_of now (Synced ∷ events))
 synced events now = push Synced events now now refl Stays (λ s left. (s, left.0, refl))
+
+tried : (events : List HostEvent) (now : State) → Steps Stays (stops_of now events) (stops_of now (FailedSync ∷ events))
+tried events now = push FailedSync events now now refl Stays (λ s left. (s, left, refl))
 
 pub newest : (before after : List HostEvent) (event : HostEvent) → after ≡ before ++ event ∷ [] → reverse after ≡ event ∷ reverse before
 newest before after event is = ap reverse is ∙ reverse-append before (event ∷ [])
@@ -105,10 +111,65 @@ uncalled call before after old new kept cell =
     (same_state before after old new kept.net cell, unchanged before after old new Stays (λ s. refl) kept.events (same_state before after old new kept.net cell))
 
 -- a sync, recorded or not, leaves no more than before
-pub sync_pushed : (before after : List HostEvent) (now : State) → (after ≡ before) ⊎ (after ≡ before ++ Synced ∷ []) → Steps Stays (stops_of now (reverse before)) (stops_of now (reverse after))
-sync_pushed before after now (inl is) = unchanged before after now now Stays (λ s. refl) is refl
-sync_pushed before after now (inr is) =
+pub sync_pushed : (done : Bool) (before after : List HostEvent) (now : State) → IsSyncTried done before after → Steps Stays (stops_of now (reverse before)) (stops_of now (reverse after))
+sync_pushed true before after now is =
     subst (λ (l : List HostEvent). Steps Stays (stops_of now (reverse before)) (stops_of now l)) (sym (newest before after Synced is)) (synced (reverse before) now)
+sync_pushed false before after now (inl is) = unchanged before after now now Stays (λ s. refl) is refl
+sync_pushed false before after now (inr is) =
+    subst (λ (l : List HostEvent). Steps Stays (stops_of now (reverse before)) (stops_of now l)) (sym (newest before after FailedSync is)) (tried (reverse before) now)
+
+-- one that failed leaves no less either
+pub sync_kept : (before after : List HostEvent) (now : State) → IsSyncTried false before after → Keeps (stops_of now (reverse before)) (stops_of now (reverse after))
+sync_kept before after now (inl is) s left = subst (λ (l : List HostEvent). Left now (reverse l) s) (sym is) left
+sync_kept before after now (inr is) s left = subst (λ (l : List HostEvent). Left now l s) (sym (newest before after FailedSync is)) left
 
 pub sync_sure : (before after : List HostEvent) (now : State) → after ≡ before ++ Synced ∷ [] → (s : State) → Left now (reverse after) s → s.cell ≡ now.cell
 sync_sure before after now is s left = (subst (λ (l : List HostEvent). Left now l s) (newest before after Synced is) left).1
+
+not_done : IsTrue false → ⊥
+not_done is = cc
+
+one_event : (before after : List HostEvent) (event : HostEvent) → after ≡ before ++ event ∷ [] → length (reverse after) ≡ length (reverse before) + 1
+one_event before after event is =
+    let all : length (reverse after) ≡ length (event ∷ reverse before) = ap length (newest before after event is) in
+    omega (arith, all)
+
+no_event : (before after : List HostEvent) → after ≡ before → length (reverse after) ≡ length (reverse before)
+no_event before after is = ap (λ (l : List HostEvent). length (reverse l)) is
+
+-- a write is one event, also where it failed, unless memory was refused
+pub write_event : {T E : Type 0} (result : Result T E) (done : Bool) (at len : ℕ) (before after : List HostEvent) (old new : State)
+    → OnOk result (IsTrue done) → (IsTrue done → IsWritten at len old.cell before after) → IsWritten at len old.cell before after ⊎ IsAsBefore old.cell new.cell before after
+    → IsEvent result (stops_of old (reverse before)) (stops_of new (reverse after))
+write_event result done at len before after old new ok recorded either = record {
+  one = on_ok_weaker result (λ (is : IsTrue done). one_event before after _ (recorded is).pushed) ok;
+  at_most = most either;
+}
+  where
+    most : IsWritten at len old.cell before after ⊎ IsAsBefore old.cell new.cell before after → length (reverse after) ≤ length (reverse before) + 1
+    most (inl rec) = let is = one_event before after _ rec.pushed in omega (arith, is)
+    most (inr kept) = let is = no_event before after kept.events in omega (arith, is)
+
+-- and so is a sync
+pub sync_event : {T E : Type 0} (result : Result T E) (done : Bool) (before after : List HostEvent) (now : State)
+    → OnOk result (IsTrue done) → IsSyncTried done before after
+    → IsEvent result (stops_of now (reverse before)) (stops_of now (reverse after))
+sync_event result true before after now ok tried =
+    let is = one_event before after Synced tried in
+    record { one = on_ok_weaker result (λ (done : IsTrue true). is) ok; at_most = omega (arith, is) }
+sync_event result false before after now ok tried = record { one = on_ok_weaker result (λ (done : IsTrue false). absurd (not_done done)) ok; at_most = most tried }
+  where
+    most : IsSyncTried false before after → length (reverse after) ≤ length (reverse before) + 1
+    most (inl is) = let same = no_event before after is in omega (arith, same)
+    most (inr is) = let more = one_event before after FailedSync is in omega (arith, more)
+
+not_both : {T E : Type 0} (result : Result T E) (error : E) (value : T) → result ≡ Err error → result ≡ Ok value → ⊥
+not_both result error value failed ok = cc
+
+-- what a stop may leave stays as it was where the sync is answered as failed
+pub sync_keeps : {T E : Type 0} (value : T) (result : Result T E) (done : Bool) (before after : List HostEvent) (now : State)
+    → (IsTrue done → result ≡ Ok value) → IsSyncTried done before after
+    → OnErr result (Keeps (stops_of now (reverse before)) (stops_of now (reverse after)))
+sync_keeps value (Ok _) done before after now ok tried = tt
+sync_keeps value (Err error) true before after now ok tried = absurd (not_both (Err error) error value refl (ok refl))
+sync_keeps value (Err error) false before after now ok tried = sync_kept before after now tried

@@ -3,7 +3,7 @@ ghost use Rattle.std.specs.Prelude.{◌≡◌, ◌≢◌, ◌⊎◌, ◌↔◌, 
 ghost use Rattle.host_core.specs.Bytes.{Torn, Written, Filled};
 ghost use Rattle.host_core.specs.Faults.{HasCause, HasFault, one_more};
 ghost use Rattle.host_core.specs.HostView.{State, HasCell, Accepts, Refuses, MaybeCalled, SameCell, SameKernel, Untouched, CellTorn, IsFirst, IsMade, MaybeMade, counted, refused, dumped};
-ghost use Rattle.host_core.specs.Stops.{Steps, Stays};
+ghost use Rattle.host_core.specs.Stops.{Steps, Stays, Keeps};
 ghost use Rattle.host_memory.specs.HostRecord.{IsClosing};
 ghost use Rattle.host_memory.specs.HostMakes.{Makes, IsUnmade};
 ghost use Rattle.host_memory.specs.HostStopped.{touch_of};
@@ -60,11 +60,12 @@ impl Drop for MemoryHost {
 }
 
 impl MemoryHost {
+    ghost use Rattle.host_memory.specs.Fused.{IsFresh};
     ghost use Rattle.host_memory.specs.HostMemory.{IsUnfused};
     ghost use Rattle.host_memory.specs.HostPicked.{state_stopped, stops_then};
 
     /// A host with this network, or none, and these bytes in its checkpoint area, of which none is in doubt. It isn't
-    /// settled; nothing was called and nothing failed.
+    /// settled; nothing was called and nothing failed, and the calls that its fuses name are to fail.
     pub fn new(alloc: Global, net: Option<Net>, cell: Vec<u8>, fuses: Vec<Fuse>) -> MemoryHost
         ensures state { (⟦<MemoryHost as Host>⟧.told result).state ≡ record { net = net; cell = cell.items } }
         ensures sure { (s : State) → (⟦<MemoryHost as Host>⟧.told result).stops.may_leave s → s ≡ (⟦<MemoryHost as Host>⟧.told result).state }
@@ -73,7 +74,9 @@ impl MemoryHost {
         ensures faults { (⟦<MemoryHost as Host>⟧.told result).faults ≡ 0 }
         ensures calls { (⟦<MemoryHost as Host>⟧.told result).kernel.calls ≡ 0 }
         ensures refusals { (⟦<MemoryHost as Host>⟧.told result).kernel.refusals ≡ 0 }
+        ensures moment { (⟦<MemoryHost as Host>⟧.told result).stops.moment ≡ 0 }
         ensures unfused { fuses.items ≡ [] → IsUnfused result }
+        ensures fused { IsFresh fuses.items result.fuses }
     {
         MemoryHost {
             alloc,
@@ -105,7 +108,8 @@ impl MemoryHost {
         &self.cell
     }
 
-    /// How many changes of its network, writes and syncs it has recorded, which is the moment.
+    /// How many changes of its network, writes and syncs it has recorded, which is the moment. Each write and each sync is
+    /// one, also where it answers `Failed`, unless memory is refused; a read and a dump are none.
     pub fn calls(&self) -> u64
         ensures { result ≡ (⟦<MemoryHost as Host>⟧.told self.now).stops.moment }
     {
@@ -261,7 +265,7 @@ fn made(
 
 impl Host for MemoryHost {
     ghost use Rattle.host_memory.specs.HostMemory.{IsUnfused, told_of, lawful_host};
-    ghost use Rattle.host_memory.specs.Fused.{IsCounted, IsFused};
+    ghost use Rattle.host_memory.specs.Fused.{IsCounted, IsEvent, IsFused};
 
     ghost tells = { Unit {0} };
 
@@ -320,6 +324,7 @@ impl Host for MemoryHost {
         ensures found { OnOk result (IsSome (told_of self.old).state.net) }
         ensures damaged { IsErrOf result DumpFault.Damaged → (told_of self.old).state.net ≡ None }
         ensures state { (told_of self.new).state ≡ (told_of self.old).state }
+        ensures no_event { (told_of self.new).stops.moment ≡ (told_of self.old).stops.moment }
         ensures stops { Steps Stays (told_of self.old).stops (told_of self.new).stops }
         ensures settles { OnOk result (told_of self.new).settled }
         ensures settled { (told_of self.old).settled → (told_of self.new).settled }
@@ -401,6 +406,7 @@ impl Host for MemoryHost {
         requires { at + length buf.old < 2 ^ 63 }
         ensures filled { IfOk result (λ n. Filled at (told_of self.old).state.cell buf.old buf.new n) }
         ensures untouched { Untouched (Unit {0}) (told_of self.old) (told_of self.new) }
+        ensures no_event { (told_of self.new).stops.moment ≡ (told_of self.old).stops.moment }
         ensures cause { HasCause (told_of self.old).faults (told_of self.new).faults result }
         ensures unfused { IsUnfused self.old → IsUnfused self.new }
         ensures quiet { IsUnfused self.old → (told_of self.new).faults ≡ (told_of self.old).faults }
@@ -418,6 +424,7 @@ impl Host for MemoryHost {
         ensures torn { Torn at (length bytes.now) (told_of self.old).state.cell (told_of self.new).state.cell }
         ensures kernel { SameKernel (Unit {0}) (told_of self.old) (told_of self.new) }
         ensures stops { Steps (CellTorn at (length bytes.now)) (told_of self.old).stops (told_of self.new).stops }
+        ensures event { IsEvent result (told_of self.old).stops (told_of self.new).stops }
         ensures cause { HasCause (told_of self.old).faults (told_of self.new).faults result }
         ensures unfused { IsUnfused self.old → IsUnfused self.new }
         ensures quiet { IsUnfused self.old → OnOk result ((told_of self.new).faults ≡ (told_of self.old).faults) }
@@ -439,6 +446,8 @@ impl Host for MemoryHost {
     fn cell_sync(&mut self) -> Result<(), Failed>
         ensures durable { OnOk result (HasCell (told_of self.old).state.cell (told_of self.new)) }
         ensures untouched { Untouched (Unit {0}) (told_of self.old) (told_of self.new) }
+        ensures kept { OnErr result (Keeps (told_of self.old).stops (told_of self.new).stops) }
+        ensures event { IsEvent result (told_of self.old).stops (told_of self.new).stops }
         ensures cause { HasCause (told_of self.old).faults (told_of self.new).faults result }
         ensures unfused { IsUnfused self.old → IsUnfused self.new }
         ensures quiet { IsUnfused self.old → OnOk result ((told_of self.new).faults ≡ (told_of self.old).faults) }
@@ -449,4 +458,10 @@ impl Host for MemoryHost {
         let is_done = sync(&mut self.events, fuse);
         counted(&mut self.faults, is_done)
     }
+
+    fn release(&mut self)
+        ensures untouched { Untouched (Unit {0}) (told_of self.old) (told_of self.new) }
+        ensures faults { (told_of self.new).faults ≡ (told_of self.old).faults }
+        ensures same { self.new ≡ self.old }
+    {}
 }

@@ -8,7 +8,7 @@ use std::alloc::Global;
 use top_model::Cause;
 
 // The network as the host gives it, or why it gives none. Nothing is changed.
-pub(crate) fn look<H: Host>(alloc: Global, host: &mut H) -> Result<Net, Cause>
+fn dumped<H: Host>(alloc: Global, host: &mut H) -> Result<Net, Cause>
     ensures finds { Finds H.tells H.honest (H.told host.old) (H.told host.new) result }
     ensures looks { ChangesNothing H.tells (H.told host.old) (H.told host.new) }
 {
@@ -18,4 +18,14 @@ pub(crate) fn look<H: Host>(alloc: Global, host: &mut H) -> Result<Net, Cause>
         Err(DumpFault::Damaged) => Err(Cause::Damaged(Area::Kernel.number())),
         Err(DumpFault::OutOfMemory) => Err(Cause::OutOfMemory),
     }
+}
+
+// The same, and then the host is let go, so that what is made of the network and told of it keeps nobody off.
+pub(crate) fn look<H: Host>(alloc: Global, host: &mut H) -> Result<Net, Cause>
+    ensures finds { Finds H.tells H.honest (H.told host.old) (H.told host.new) result }
+    ensures looks { ChangesNothing H.tells (H.told host.old) (H.told host.new) }
+{
+    let found = dumped(alloc, host);
+    host.release();
+    found
 }

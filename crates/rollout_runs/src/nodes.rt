@@ -97,6 +97,10 @@ impl Host for Node {
     fn cell_sync(&mut self) -> Result<(), Failed> {
         self.host.cell_sync()
     }
+
+    fn release(&mut self) {
+        self.host.release();
+    }
 }
 
 // The bytes of a closed checkpoint area.
