@@ -1,5 +1,5 @@
 -- Which changes a stop leaves to wait, from call to call.
-use Rattle.std.proofs.Common.{◌≡◌, inl, inr, sym, ap, ◌∙◌, subst, Option, Some, None}
+use Rattle.std.proofs.Common.{◌≡◌, inl, inr, sym, ap, ◌∙◌, subst, Option, Some}
 use Rattle.net_model.specs.NetData.{NetData}
 use Rattle.host_core.specs.HostView.{State, HostView, SameKernel, SameCell}
 use Rattle.host_core.specs.Stops.{Steps, Stays}
