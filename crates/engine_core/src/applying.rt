@@ -17,13 +17,14 @@ ghost use Rattle.engine_model.specs.Undone.{stand};
 ghost use Rattle.engine_model.specs.Sound.{WhereSound};
 ghost use Rattle.engine_model.specs.Stations.{Only, Kept, Ends};
 ghost use Rattle.engine_model.specs.Answers.{IsUndone};
+ghost use Rattle.engine_model.specs.Compared.{WaitsSeen, Compared};
 ghost use Rattle.engine_model.specs.Refusals.{NoCallMade, ApplyCounts};
 ghost use Rattle.engine_model.specs.Failing.{ApplyIdle, ApplyIntact, ApplyWaits};
 ghost use Rattle.engine_model.specs.Faults.{ApplySays, ApplyExact, MayStandHalf, Tries, FailsTwice, Dumps, Backs, HasTaken};
 ghost use Rattle.engine_core.specs.Attempts.{sealed, done, IsEither, IsFault, WhereRuns};
 ghost use Rattle.engine_core.specs.Saying.{Start, Follows, WhereMerges, DamagedSince, Why, SettledBy, Said, taken_back_as, pending_as, damaged_as, stopped_as, IsGivenUp, ChangeIdle, ChangeIntact};
 ghost use Rattle.engine_core.specs.Calm.{CalmSince, UpToNow};
-ghost use Rattle.engine_core.specs.Applying.{GaveUp, Hurt, Exit, IsStation, IsApplied, ExitApply};
+ghost use Rattle.engine_core.specs.Applying.{GaveUp, Hurt, Exit, IsStation, IsApplied, ExitApply, MadeSeen};
 
 use crate::attempting::attempt;
 use crate::missed::Missed;
@@ -118,6 +119,8 @@ fn give_up<H: Host>(host: &mut H, alloc: Global, missed: Missed) -> ApplyFault
     ensures backs { H.honest → (before : Option NetData)
         → (cell_of (H.told host.old).state.cell ≡ None → (H.told host.old).state.net ≡ before)
         → Backs before (H.told host.new) (Err result) }
+    // Where a change may still wait, the network was seen if it was before.
+    ensures seen { H.honest → (net : NetData) → WaitsSeen net (H.told host.old) → WaitsSeen net (H.told host.new) }
     ensures moment { (H.told host.old).stops.moment ≤ (H.told host.new).stops.moment }
     ensures later { (H.told host.old).faults ≤ (H.told host.new).faults }
 {
@@ -181,6 +184,9 @@ fn carry_out<H: Host>(
         → WhereRuns calls.now from.now to.now (H.told host.old) ((doc : Doc) → merge from.now doc ≡ Ok to.now
         → deadline ≡ deadline_of (asked doc opts.now made)
         → Exit (asked doc opts.now made) (restored_to from.now) (H.told host.old).faults result (H.told host.new))) }
+    // A change is left to wait only once it is compared.
+    ensures seen { WhereSound H.honest (H.told host.old) (Ends (restored_to from.now) (H.told host.old) → opts.now.no_verify ≡ false
+        → WaitsSeen to.now (H.told host.new)) }
     // On an honest host, sound or not.
     ensures ends { H.honest
         → WhereRuns calls.now from.now to.now (H.told host.old) (OnOk result (Ends (done opts.now.no_commit made deadline from.now to.now) (H.told host.new))) }
@@ -226,6 +232,9 @@ fn change<H: Host>(
         → Kept (IsStation (asked doc.now opts.now now) (standing (H.told host.old).state)) (H.told host.old) (H.told host.new)) }
     ensures exit { WhereSound H.honest (H.told host.old) (Ends (standing (H.told host.old).state) (H.told host.old)
         → Exit (asked doc.now opts.now now) (standing (H.told host.old).state) (H.told host.old).faults result (H.told host.new)) }
+    // A change is left to wait only once it is compared.
+    ensures seen { WhereSound H.honest (H.told host.old) (Ends (standing (H.told host.old).state) (H.told host.old)
+        → MadeSeen (asked doc.now opts.now now) (standing (H.told host.old).state) (H.told host.new)) }
     // On an honest host, sound or not.
     ensures exact { H.honest → ApplyExact (Rose (H.told host.old).faults (H.told host.new).faults)
         (change (asked doc.now opts.now now) (standing (H.told host.old).state) (H.told host.old).state.net)
@@ -297,6 +306,8 @@ pub fn settle_and_change<H: Host>(
     ensures kept { WhereSound H.honest (H.told host.old) (Kept (IsApplied (asked doc.now opts.now now) (H.told host.old).state) (H.told host.old)
         (H.told host.new)) }
     ensures exit { WhereSound H.honest (H.told host.old) (ExitApply (asked doc.now opts.now now) (H.told host.old) result (H.told host.new)) }
+    // A change is left to wait only once it is compared.
+    ensures seen { WhereSound H.honest (H.told host.old) (Compared (asked doc.now opts.now now) (H.told host.old) (H.told host.new)) }
     // On an honest host, sound or not.
     ensures exact { H.honest → ApplyExact (Rose (H.told host.old).faults (H.told host.new).faults)
         (apply (asked doc.now opts.now now) (standing (H.told host.old).state)) (H.told host.new) result }

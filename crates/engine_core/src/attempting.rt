@@ -13,6 +13,7 @@ ghost use Rattle.merge_model.specs.MergedNet.{merge};
 ghost use Rattle.engine_model.specs.Undone.{stand};
 ghost use Rattle.engine_model.specs.Sound.{WhereSound};
 ghost use Rattle.engine_model.specs.Stations.{Only, Kept, Ends, AllNear};
+ghost use Rattle.engine_model.specs.Compared.{NoneWaits, IsSeen, WaitsSeen};
 ghost use Rattle.engine_core.specs.Attempts.{sealed, IsOnWay, IsFault, WhereRuns};
 ghost use Rattle.engine_core.specs.Saying.{Start, Follows, WhereMerges, IsOpen, Why};
 ghost use Rattle.engine_core.specs.Calm.{CalmSince, UpToNow};
@@ -57,6 +58,8 @@ fn begin<H: Host>(
         → IfErr result (λ missed. Why H.tells doc start (H.told host.new) missed) }
     ensures quiet { OnOk result (NoneRefused (H.told host.old).kernel (H.told host.new).kernel) }
     ensures compared { (found : NetData) → IsErrOf result (Missed.Differs found) → ⊥ }
+    // No stop leaves a change that waits.
+    ensures unmarked { WhereSound H.honest (H.told host.old) (Ends (restored_to from.now) (H.told host.old) → NoneWaits (H.told host.new)) }
     ensures moment { (H.told host.old).stops.moment ≤ (H.told host.new).stops.moment }
     ensures later { (H.told host.old).faults ≤ (H.told host.new).faults }
 {
@@ -77,6 +80,7 @@ fn begin<H: Host>(
 // Dumps and compares, unless that isn't wanted.
 fn verify<H: Host>(host: &mut H, alloc: Global, to: &Net, no_verify: bool) -> Result<(), Missed>
     ensures verified { H.tells → OnOk result (no_verify ≡ false → (H.told host.new).fresh ≡ Some to.now) }
+    ensures checked { H.honest → OnOk result (no_verify ≡ false → IsSeen to.now (H.told host.new)) }
     ensures missed { H.honest → (H.told host.old).state.net ≡ Some to.now → IfErr result (λ missed. IsFault missed) }
     ensures state { H.tells → (H.told host.new).state ≡ (H.told host.old).state }
     ensures stops { Steps Stays (H.told host.old).stops (H.told host.new).stops }
@@ -146,6 +150,9 @@ fn seal<H: Host>(
         → Holds (Some (applying made deadline from)) (H.told host.old)
         → OnOk result (Holds (sealed no_commit made deadline from) (H.told host.new)) }
     ensures verified { H.tells → OnOk result (no_verify ≡ false → (H.told host.new).fresh ≡ Some to.now) }
+    ensures checked { H.honest → OnOk result (no_verify ≡ false → IsSeen to.now (H.told host.new)) }
+    // A change is left to wait only once it is compared.
+    ensures seen { H.honest → NoneWaits (H.told host.old) → no_verify ≡ false → WaitsSeen to.now (H.told host.new) }
     ensures kept { WhereSound H.honest (H.told host.old) ((made deadline : ℕ) (from : NetData) → Holds (Some (applying made deadline from)) (H.told host.old)
         → Ends (stand to.now (Some (applying made deadline from))) (H.told host.old)
         → Kept (IsOnWay no_commit made deadline from to.now) (H.told host.old) (H.told host.new)) }
@@ -195,6 +202,10 @@ pub fn attempt<H: Host>(
     requires none { H.tells → Holds None (H.told host.old) }
     ensures set { H.tells → OnOk result (Holds (sealed opts.now.no_commit made deadline from.now) (H.told host.new)) }
     ensures verified { H.tells → OnOk result (opts.now.no_verify ≡ false → (H.told host.new).fresh ≡ Some to.now) }
+    ensures checked { H.honest → OnOk result (opts.now.no_verify ≡ false → IsSeen to.now (H.told host.new)) }
+    // A change is left to wait only once it is compared.
+    ensures seen { WhereSound H.honest (H.told host.old) (Ends (restored_to from.now) (H.told host.old) → opts.now.no_verify ≡ false
+        → WaitsSeen to.now (H.told host.new)) }
     ensures kept { WhereSound H.honest (H.told host.old) (Ends (restored_to from.now) (H.told host.old)
         → WhereRuns calls.now from.now to.now (H.told host.old) (Kept (IsOnWay opts.now.no_commit made deadline from.now to.now) (H.told host.old)
         (H.told host.new))) }

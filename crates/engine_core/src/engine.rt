@@ -10,6 +10,7 @@ ghost use Rattle.merge_model.specs.MergedNet.{merge};
 ghost use Rattle.engine_model.specs.Machine.{asked, apply, commit, recover};
 ghost use Rattle.engine_model.specs.Sound.{WhereSound};
 ghost use Rattle.engine_model.specs.Stations.{Only, Settled, Either, Kept, at, entry_of, left_by};
+ghost use Rattle.engine_model.specs.Compared.{Compared};
 ghost use Rattle.engine_model.specs.Exit.{ApplyExit, CommitExit};
 ghost use Rattle.engine_model.specs.Refusals.{ApplyCounts};
 ghost use Rattle.engine_model.specs.Failing.{IsUnbegun, ApplyIdle, ApplyIntact, ApplyWaits};
@@ -63,6 +64,9 @@ pub fn apply<H: Host>(
         (H.told host.new).faults) result) }
     ensures kept { WhereSound H.honest (H.told host.old) (Kept (Either (Settled now (entry_of (H.told host.old))) (Only (apply (asked doc.now opts.now now)
         (standing (H.told host.old).state)).after)) (H.told host.old) (H.told host.new)) }
+    // A change that waits and wasn't left at the entry is left only where the last dump gave its network and no kernel call came after
+    // it, also behind a fault, unless it isn't to be verified.
+    ensures seen { WhereSound H.honest (H.told host.old) (Compared (asked doc.now opts.now now) (H.told host.old) (H.told host.new)) }
     // Where no checkpoint stood and nothing failed, each pair that was left on the way has each link that the change needn't
     // touch, its addresses and its routes that stand in both networks as they were.
     ensures undisturbed { WhereSound H.honest (H.told host.old) ((from to : NetData) → standing (H.told host.old).state ≡ restored_to from

@@ -8,3 +8,4 @@ pub mod Refusals
 pub mod Failing
 pub mod Backs
 pub mod Finding
+pub mod Comparing

@@ -7,6 +7,7 @@ ghost use Rattle.engine_model.specs.Sound.{WhereSound};
 ghost use Rattle.engine_model.specs.Stations.{Only, Kept, at, entry_of, left_by};
 ghost use Rattle.engine_model.specs.Exit.{BackExit};
 ghost use Rattle.engine_model.specs.Answers.{IsBefore, IsClear};
+ghost use Rattle.engine_model.specs.Compared.{WaitsAsBefore};
 ghost use Rattle.engine_model.specs.Refusals.{BackCounts};
 ghost use Rattle.engine_model.specs.Failing.{IsUnbegun};
 ghost use Rattle.engine_model.specs.Faults.{BackAnswers, BackExact, BackSays, HasSet, HasTaken, GaveSaved};
@@ -94,6 +95,8 @@ pub fn recover<H: Host>(host: &mut H, alloc: Global, now: u64) -> Result<Recover
     ensures begun { H.tells → IfErr result (λ fault. (IsBefore fault → ⊥) → HasTaken now (standing (H.told host.old).state).cell) }
     // What is answered before anything was begun leaves the host as it was.
     ensures unbegun { IfErr result (λ fault. IsBefore fault → IsUnbegun H.tells (H.told host.old) (H.told host.new)) }
+    // A change that waits then could be left before.
+    ensures waits { H.tells → WaitsAsBefore (H.told host.old) (H.told host.new) }
     ensures moment { (H.told host.old).stops.moment ≤ (H.told host.new).stops.moment }
     ensures later { (H.told host.old).faults ≤ (H.told host.new).faults }
 {

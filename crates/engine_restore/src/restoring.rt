@@ -16,6 +16,7 @@ ghost use Rattle.checkpoint_cell.specs.Settled.{restored_to};
 ghost use Rattle.engine_model.specs.Answers.{IsBefore, IsHealthy, IsClear, IsTaken, IsUndone, Finds};
 ghost use Rattle.engine_model.specs.Failing.{IsUnbegun, Fails};
 ghost use Rattle.engine_model.specs.Faults.{GaveSaved};
+ghost use Rattle.engine_model.specs.Compared.{NoneWaits, WaitsAsBefore, IsSeen, WaitsSeen};
 ghost use Rattle.engine_restore.specs.Restoring.{IsSet, Hinders, IsDumped, WayBack, IsReady, Undoes, Interrupts, Restores};
 
 use crate::devices::differing;
@@ -51,6 +52,7 @@ fn dump_net<H: Host>(host: &mut H, alloc: Global) -> Result<Net, BackFault>
     ensures dumped { IfOk result (λ net. IsDumped H.tells H.honest (H.told host.old) (H.told host.new) net) }
     ensures fault { IfErr result (λ fault. Hinders H.tells H.honest (H.told host.old) (H.told host.new) fault) }
     ensures unbegun { IsUnbegun H.tells (H.told host.old) (H.told host.new) }
+    ensures seen { H.honest → (net : NetData) → IsSeen net (H.told host.old) → IsSeen net (H.told host.new) }
     ensures later { (H.told host.old).faults ≤ (H.told host.new).faults }
 {
     match host.dump(alloc) {
@@ -85,6 +87,7 @@ fn ready<H: Host>(host: &mut H, alloc: Global) -> Result<Vec<Call>, BackFault>
     ensures ready { IfOk result (λ calls. IsReady H.tells H.honest calls.items (H.told host.old) (H.told host.new)) }
     ensures fault { IfErr result (λ fault. Hinders H.tells H.honest (H.told host.old) (H.told host.new) fault) }
     ensures unbegun { IsUnbegun H.tells (H.told host.old) (H.told host.new) }
+    ensures seen { H.honest → (net : NetData) → IsSeen net (H.told host.old) → IsSeen net (H.told host.new) }
     ensures later { (H.told host.old).faults ≤ (H.told host.new).faults }
 {
     let pending = match load_held(host, alloc) {
@@ -108,6 +111,7 @@ fn take_up<H: Host>(host: &mut H, phase: Phase) -> Result<(), Failed>
     ensures ends { H.tells → (checkpoint : Checkpoint) (net : NetData) → Holds (Some checkpoint) (H.told host.old)
         → Ends (stand net (Some checkpoint)) (H.told host.old)
         → OnOk result (Ends (stand net (Some (in_phase Phase.Applying checkpoint))) (H.told host.new)) }
+    ensures waits { H.tells → WaitsAsBefore (H.told host.old) (H.told host.new) }
     ensures moves { Steps Any (H.told host.old).stops (H.told host.new).stops }
     ensures kernel { SameKernel H.tells (H.told host.old) (H.told host.new) }
     ensures cause { HasCause (H.told host.old).faults (H.told host.new).faults result }
@@ -129,6 +133,8 @@ fn undo<H: Host>(host: &mut H, alloc: Global, calls: &[Call]) -> Result<(), Back
     ensures kept { WhereSound H.honest (H.told host.old) ((made deadline : ℕ) (from saved : NetData)
         → Ends (stand from (Some (applying made deadline saved))) (H.told host.old) → (H.told host.old).state.net ≡ Some from → IsNet from
         → Runs calls.now from saved → Kept (Only (restored_to saved)) (H.told host.old) (H.told host.new)) }
+    ensures waits { H.tells → (checkpoint : Checkpoint) → Holds (Some checkpoint) (H.told host.old) → checkpoint.phase ≡ Phase.Applying
+        → NoneWaits (H.told host.new) }
     ensures moves { Steps Any (H.told host.old).stops (H.told host.new).stops }
     ensures later { (H.told host.old).faults ≤ (H.told host.new).faults }
 {
@@ -153,6 +159,9 @@ fn restore<H: Host>(host: &mut H, alloc: Global, phase: Phase) -> Result<(), Bac
         → checkpoint.net ≡ Some saved → Kept (Only (restored_to saved)) (H.told host.old) (H.told host.new)) }
     // Without a network nothing is done.
     ensures bare { H.tells → (H.told host.old).state.net ≡ None → (H.told host.new).state ≡ (H.told host.old).state }
+    // A change that waits then could be left before, and a network that was seen then still is.
+    ensures waits { H.tells → WaitsAsBefore (H.told host.old) (H.told host.new) }
+    ensures seen { H.honest → (net : NetData) → IsSeen net (H.told host.old) → WaitsSeen net (H.told host.new) }
     ensures moves { Steps Any (H.told host.old).stops (H.told host.new).stops }
     ensures later { (H.told host.old).faults ≤ (H.told host.new).faults }
 {
@@ -192,6 +201,8 @@ pub fn go_back<H: Host>(host: &mut H, alloc: Global) -> Result<bool, BackFault>
     ensures bare { H.tells → (H.told host.old).state.net ≡ None → (H.told host.new).state ≡ (H.told host.old).state }
     ensures going { WhereSound H.honest (H.told host.old) (IfErr result (λ fault. (IsBefore fault → ⊥)
         → FromRead (IsUndone (H.told host.old).state) (H.told host.old) (H.told host.new))) }
+    // On an honest host, where a change may still wait, the network was seen if it was before.
+    ensures seen { H.honest → (net : NetData) → WaitsSeen net (H.told host.old) → WaitsSeen net (H.told host.new) }
     ensures moves { Steps Any (H.told host.old).stops (H.told host.new).stops }
     ensures saved { H.tells → OnOk result (saved_net (H.told host.new).state.cell ≡ saved_net (H.told host.old).state.cell) }
     // On an honest host, sound or not, what is taken back is the saved network.
@@ -253,6 +264,8 @@ pub fn take_back<H: Host>(host: &mut H, alloc: Global, now: u64) -> Result<Recov
     ensures idle { IfOk result (λ done. done ≢ Recovered.Restored → IsUnbegun H.tells (H.told host.old) (H.told host.new)) }
     ensures going { WhereSound H.honest (H.told host.old) (IfErr result (λ fault. (IsBefore fault → ⊥)
         → FromRead (IsSettled now (H.told host.old).state) (H.told host.old) (H.told host.new))) }
+    // A change that waits then could be left before.
+    ensures waits { H.tells → WaitsAsBefore (H.told host.old) (H.told host.new) }
     ensures moves { Steps Any (H.told host.old).stops (H.told host.new).stops }
     // On an honest host, sound or not, what is taken back reads as the saved network.
     ensures restored_reads { H.honest → (taken : IsTaken now (cell_of (H.told host.old).state.cell)) (saved : NetData)

@@ -10,6 +10,7 @@ use Rattle.engine_model.specs.Answers.{IsUndone}
 use Rattle.engine_core.specs.Attempts.{IsOnWay, IsEither, done}
 use Rattle.engine_core.specs.Applying.{Change}
 use Rattle.engine_model.specs.Machine.{Asked, asked, deadline_of}
+use Rattle.engine_model.proofs.lemmas.Comparing.{seen_same}
 use Rattle.engine_model.proofs.lemmas.Leading.{kept_on, kept_wider, near_kept, near_ends}
 use Rattle.std.proofs.lemmas.Result.{on_ok_weaker}
 use Rattle.engine_core.proofs.Calms.{calm_on}
@@ -188,3 +189,12 @@ returns-in-Ok-clause-backs g c = λ honest. finished_backs (g.H.Host.told c.args
 
 pub returns-in-Err-clause-backs : goal.returns-in-Err-clause-backs
 returns-in-Err-clause-backs g c = λ honest. c.give_up.ensures.backs honest (g.H.Host.told c.args.host.now).state.net (λ none. (c.in-Err.ensures.unset (g.met.H.Host.honest_tells honest) none).0)
+
+-- ---- a change is left to wait only once it is compared
+
+pub returns-in-Ok-clause-seen : goal.returns-in-Ok-clause-seen
+returns-in-Ok-clause-seen g c = λ honest sound ends is s left waits.
+    seen_same g.H.Host.tells c.args.to.now (g.H.Host.told c.attempt.new.host) (g.H.Host.told c.finish.new.host) (g.met.H.Host.honest_tells honest) c.finish.ensures.kernel (c.in-Ok.ensures.checked honest is)
+
+pub returns-in-Err-clause-seen : goal.returns-in-Err-clause-seen
+returns-in-Err-clause-seen g c = λ honest sound ends is. c.give_up.ensures.seen honest c.args.to.now (c.attempt.ensures.seen honest sound ends is)

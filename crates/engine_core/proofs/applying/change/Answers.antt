@@ -10,7 +10,8 @@ use Rattle.engine_model.specs.Sound.{Sound}
 use Rattle.engine_model.specs.Stations.{Kept, Ends}
 use Rattle.checkpoint_cell.specs.Settled.{restored_to}
 use Rattle.engine_core.specs.Attempts.{IsEither}
-use Rattle.engine_core.specs.Applying.{IsStation, Exit, Change}
+use Rattle.engine_core.specs.Applying.{IsStation, Exit, Change, MadeSeen}
+use Rattle.engine_model.proofs.lemmas.Comparing.{waits_stays, none_on, held_waits}
 use Rattle.engine_model.proofs.lemmas.Leading.{kept_on, kept_wider, kept_stays, ends_stays, sound_stays}
 use Rattle.std.proofs.lemmas.Result.{on_ok_weaker}
 use Rattle.plan_model.specs.Plans.{IsPlan}
@@ -213,7 +214,22 @@ returns-clause-moment g c =
 pub returns-clause-later : goal.returns-clause-later
 returns-clause-later g c = later_on (g.H.Host.told c.args.host.now).faults (g.H.Host.told c.dump.new.self).faults (g.H.Host.told c.carry_out.new.host).faults c.dump.ensures.cause.later c.carry_out.ensures.later
 
+-- a change is left to wait only once it is compared
+pub returns-clause-seen : goal.returns-clause-seen
+returns-clause-seen g c = λ honest sound ends is s left waits.
+    let b = begun g (goal.at.returns-clause-seen g c).After-carry_out honest sound ends in (
+      record { from = c.in-Ok.found; to = c.in-Ok-merge.to; stood = b.stood; merges = b.merges },
+      c.carry_out.ensures.seen honest b.sound b.ends is s left waits,
+    )
+
 -- ---- where no change is begun
+
+-- none waits
+unmarked : (g : _) (c : After-dump g) → g.H.Host.honest → MadeSeen (asked c.args.doc.now c.args.opts.now c.args.now) (standing (g.H.Host.told c.args.host.now).state) (g.H.Host.told c.dump.new.self)
+unmarked g c honest is s left waits =
+    let old = g.H.Host.told c.args.host.now in
+    let new = g.H.Host.told c.dump.new.self in
+    absurd (none_on old new (waits_stays old new c.dump.ensures.stops) (held_waits None old (c.requires.none (g.met.H.Host.honest_tells honest)) (λ none. none)) s left waits)
 
 left_exit : (a : Asked) (before : Standing) (faults : ℕ) (new : HostView) (left : Left) → left ≢ Pending → Ends before new → Exit a before faults (Err (ap_.HostFault left)) new
 left_exit a before faults new NotBegun never ends = ends
@@ -228,6 +244,7 @@ pub returns-in-Err-Failed : goal.returns-in-Err-Failed
 returns-in-Err-Failed g c = record {
   kept = λ honest sound ends. stays g (goal.at.returns-in-Err-Failed g c).After-dump sound;
   exit = λ honest sound ends. left_exit (asked c.args.doc.now c.args.opts.now c.args.now) (standing (g.H.Host.told c.args.host.now).state) (g.H.Host.told c.args.host.now).faults (g.H.Host.told c.dump.new.self) c.args.left c.requires.left (ends_stays (standing (g.H.Host.told c.args.host.now).state) (g.H.Host.told c.args.host.now) (g.H.Host.told c.dump.new.self) ends c.dump.ensures.stops);
+  seen = λ honest sound ends. unmarked g (goal.at.returns-in-Err-Failed g c).After-dump honest;
   exact = λ honest. c.in-Err-Failed.ensures.cause.failed (ap (λ e. Err e) c.in-Err-Failed.field-0-is);
   calm = λ honest t le from to is merges calm. tt;
   value = tt;
@@ -254,6 +271,7 @@ pub returns-in-Err-Damaged : goal.returns-in-Err-Damaged
 returns-in-Err-Damaged g c = record {
   kept = λ honest sound ends. stays g (goal.at.returns-in-Err-Damaged g c).After-dump sound;
   exit = λ honest sound ends. (refl, c.in-Err-Damaged.ensures.damaged (g.met.H.Host.honest_tells honest) (ap (λ e. Err e) c.in-Err-Damaged.field-0-is), ends_stays (standing (g.H.Host.told c.args.host.now).state) (g.H.Host.told c.args.host.now) (g.H.Host.told c.dump.new.self) ends c.dump.ensures.stops);
+  seen = λ honest sound ends. unmarked g (goal.at.returns-in-Err-Damaged g c).After-dump honest;
   exact = λ honest.
       let tells = g.met.H.Host.honest_tells honest in
       let old = g.H.Host.told c.args.host.now in
@@ -292,6 +310,7 @@ pub returns-in-Err-OutOfMemory : goal.returns-in-Err-OutOfMemory
 returns-in-Err-OutOfMemory g c = record {
   kept = λ honest sound ends. stays g (goal.at.returns-in-Err-OutOfMemory g c).After-dump sound;
   exit = λ honest sound ends. inl (near_ends (Only (standing (g.H.Host.told c.args.host.now).state)) (standing (g.H.Host.told c.args.host.now).state) (g.H.Host.told c.dump.new.self) refl (ends_stays (standing (g.H.Host.told c.args.host.now).state) (g.H.Host.told c.args.host.now) (g.H.Host.told c.dump.new.self) ends c.dump.ensures.stops));
+  seen = λ honest sound ends. unmarked g (goal.at.returns-in-Err-OutOfMemory g c).After-dump honest;
   exact = λ honest. tt;
   calm = λ honest t le from to is merges calm. tt;
   value = tt;
@@ -323,6 +342,7 @@ returns-in-Err-Refused g c = record {
       let broken : merge c.in-Ok.found c.args.doc.now ≡ Err c.in-Err-Refused.r = c.in-Err-Refused.ensures.refused c.in-Err-Refused.r (ap (λ e. Err e) c.in-Err-Refused.field-0-is) in
       let same = c.in-Err-Refused.r-is in
       (c.in-Ok.found, stood, cc, ends_stays (standing old.state) old (g.H.Host.told c.dump.new.self) ends c.dump.ensures.stops);
+  seen = λ honest sound ends. unmarked g (goal.at.returns-in-Err-Refused g c).After-dump honest;
   exact = λ honest.
       let tells = g.met.H.Host.honest_tells honest in
       let old = g.H.Host.told c.args.host.now in
@@ -360,6 +380,7 @@ pub returns-in-Err-OutOfMemory-merge : goal.returns-in-Err-OutOfMemory-merge
 returns-in-Err-OutOfMemory-merge g c = record {
   kept = λ honest sound ends. stays g (goal.at.returns-in-Err-OutOfMemory-merge g c).After-dump sound;
   exit = λ honest sound ends. inl (near_ends (Only (standing (g.H.Host.told c.args.host.now).state)) (standing (g.H.Host.told c.args.host.now).state) (g.H.Host.told c.dump.new.self) refl (ends_stays (standing (g.H.Host.told c.args.host.now).state) (g.H.Host.told c.args.host.now) (g.H.Host.told c.dump.new.self) ends c.dump.ensures.stops));
+  seen = λ honest sound ends. unmarked g (goal.at.returns-in-Err-OutOfMemory-merge g c).After-dump honest;
   exact = λ honest. tt;
   calm = λ honest t le from to is merges calm. tt;
   value = tt;
@@ -381,6 +402,7 @@ pub returns-in-Err : goal.returns-in-Err
 returns-in-Err g c = record {
   kept = λ honest sound ends. stays g (goal.at.returns-in-Err g c).After-dump sound;
   exit = λ honest sound ends. inl (near_ends (Only (standing (g.H.Host.told c.args.host.now).state)) (standing (g.H.Host.told c.args.host.now).state) (g.H.Host.told c.dump.new.self) refl (ends_stays (standing (g.H.Host.told c.args.host.now).state) (g.H.Host.told c.args.host.now) (g.H.Host.told c.dump.new.self) ends c.dump.ensures.stops));
+  seen = λ honest sound ends. unmarked g (goal.at.returns-in-Err g c).After-dump honest;
   exact = λ honest. tt;
   calm = λ honest t le from to is merges calm. tt;
   value = tt;

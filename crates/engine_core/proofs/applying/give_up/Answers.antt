@@ -142,3 +142,11 @@ returns-in-Ok-clause-backs g c = λ honest before unset.
 
 pub returns-in-Err-clause-backs : goal.returns-in-Err-clause-backs
 returns-in-Err-clause-backs g c = λ honest before unset. subst (λ (a : ApplyFault). Backs before (g.H.Host.told c.go_back.new.host) (Err a)) (sym c.stopped.ensures) (stopped_backs before (g.H.Host.told c.go_back.new.host) c.args.missed c.in-Err.fault)
+
+-- ---- a change may still wait where the network was seen
+
+pub returns-in-Ok-clause-seen : goal.returns-in-Ok-clause-seen
+returns-in-Ok-clause-seen g c = c.go_back.ensures.seen
+
+pub returns-in-Err-clause-seen : goal.returns-in-Err-clause-seen
+returns-in-Err-clause-seen g c = c.go_back.ensures.seen

@@ -4,6 +4,7 @@ use Rattle.checkpoint_cell.specs.Settled.{Standing}
 use Rattle.engine_model.specs.declared.answers.ApplyFault.{ApplyFault}
 use Rattle.engine_model.specs.Stations.{IsSettled}
 use Rattle.engine_core.specs.Applying.{IsApplied, ExitApply}
+use Rattle.engine_core.proofs.Applies.{compared_from}
 use Rattle.engine_model.proofs.lemmas.Leading.{kept_wider}
 use Rattle.engine_model.specs.Machine.{asked}
 use Rattle.engine_model.specs.Faults.{ApplySays}
@@ -398,3 +399,31 @@ returns-in-Err-clause-backs g c = λ honest.
     let before = (recover c.args.now (standing (g.H.Host.told c.args.host.now).state)).after.net in
     subst (λ (a : ApplyFault). Backs before (g.H.Host.told c.take_back.new.host) (Err a)) (sym c.unsettled.ensures)
     (unsettled_backs g.H.Host.tells before (g.H.Host.told c.args.host.now) (g.H.Host.told c.take_back.new.host) c.in-Err.fault c.in-Err.ensures.fails)
+
+-- ---- a change is left to wait only once it is compared
+
+pub returns-in-Ok-Waiting-clause-seen : goal.returns-in-Ok-Waiting-clause-seen
+returns-in-Ok-Waiting-clause-seen g c = λ honest sound is s left waits. inl (c.take_back.ensures.waits (g.met.H.Host.honest_tells honest) s left waits)
+
+pub returns-in-Err-clause-seen : goal.returns-in-Err-clause-seen
+returns-in-Err-clause-seen g c = λ honest sound is s left waits. inl (c.take_back.ensures.waits (g.met.H.Host.honest_tells honest) s left waits)
+
+pub returns-in-Ok-Nothing-clause-seen : goal.returns-in-Ok-Nothing-clause-seen
+returns-in-Ok-Nothing-clause-seen g c = λ honest sound.
+    let tells = g.met.H.Host.honest_tells honest in
+    let old = g.H.Host.told c.args.host.now in
+    let mid = g.H.Host.told c.take_back.new.host in
+    let here = (g.met.H.Host.lawful c.take_back.new.host).reads tells in
+    let ends = c.in-Ok-Nothing.ensures.ends honest sound in
+    compared_from c.args.doc.now c.args.opts.now c.args.now old mid (g.H.Host.told c.change.new.host) (sound.fit old.state ((g.met.H.Host.lawful c.args.host.now).reads tells)) here ends
+    (c.change.ensures.seen honest (c.take_back.ensures.kept honest sound).sound (now_ends ends.0 mid here ends.2))
+
+pub returns-in-Ok-Restored-clause-seen : goal.returns-in-Ok-Restored-clause-seen
+returns-in-Ok-Restored-clause-seen g c = λ honest sound.
+    let tells = g.met.H.Host.honest_tells honest in
+    let old = g.H.Host.told c.args.host.now in
+    let mid = g.H.Host.told c.take_back.new.host in
+    let here = (g.met.H.Host.lawful c.take_back.new.host).reads tells in
+    let ends = c.in-Ok-Restored.ensures.ends honest sound in
+    compared_from c.args.doc.now c.args.opts.now c.args.now old mid (g.H.Host.told c.change-in-Ok-Restored.new.host) (sound.fit old.state ((g.met.H.Host.lawful c.args.host.now).reads tells)) here ends
+    (c.change-in-Ok-Restored.ensures.seen honest (c.take_back.ensures.kept honest sound).sound (now_ends ends.0 mid here ends.2))

@@ -70,3 +70,11 @@ returns-clause-fresh g c = λ tells.
 
 pub returns-clause-unset : goal.returns-clause-unset
 returns-clause-unset g c = λ tells. err_any c.seal.result (λ none. absurd (c.seal.ensures.stands tells none))
+
+-- ---- a change is left to wait only once it is compared
+
+pub returns-in-Err-clause-seen : goal.returns-in-Err-clause-seen
+returns-in-Err-clause-seen g c = λ honest sound ends is s left waits. absurd (c.begin.ensures.unmarked honest sound ends s left waits)
+
+pub returns-clause-seen : goal.returns-clause-seen
+returns-clause-seen g c = λ honest sound ends is. c.seal.ensures.seen honest (c.begin.ensures.unmarked honest sound ends) is

@@ -6,6 +6,8 @@ use Rattle.checkpoint_cell.specs.Steps.{NoneOr}
 use Rattle.engine_model.specs.Sound.{Sound}
 use Rattle.engine_model.specs.Stations.{Only, Kept, Ends}
 use Rattle.checkpoint_cell.specs.Settled.{restored_to}
+use Rattle.engine_model.specs.Compared.{NoneWaits}
+use Rattle.engine_model.proofs.lemmas.Comparing.{none_or_waits, same_cell_waits}
 use Rattle.engine_model.proofs.lemmas.Leading.{run_kept, cell_kept, kept_on, ends_cell}
 use Rattle.engine_model.proofs.lemmas.Restores.{held, ends_held}
 use Rattle.engine_core.proofs.Attempts.{putting, filled}
@@ -62,6 +64,16 @@ later g c = later_on (g.H.Host.told c.args.host.now).faults (g.H.Host.told c.put
 never_unset : (g : _) (c : After-run g) → g.H.Host.tells → cell_of (g.H.Host.told c.run.new.host).state.cell ≡ None → ⊥
 never_unset g c tells none = let e : Some (applying c.args.made c.args.deadline c.args.from.now) ≡ None = sym (held_cell g c tells) ∙ none in cc
 
+-- the checkpoint is none, or that of a change that is being made
+put_unmarked : (g : _) (c : After-put g) → g.H.Host.honest → Sound (g.H.Host.told c.args.host.now) → Ends (restored_to c.args.from.now) (g.H.Host.told c.args.host.now) → NoneWaits (g.H.Host.told c.put.new.host)
+put_unmarked g c honest sound ends =
+    let tells = g.met.H.Host.honest_tells honest in
+    let old = g.H.Host.told c.args.host.now in
+    none_or_waits (applying c.args.made c.args.deadline c.args.from.now) refl old (g.H.Host.told c.put.new.host) (c.put.ensures.stops tells (filled c.args.from.now old ((g.met.H.Host.lawful c.args.host.now).reads tells) sound ends))
+
+run_unmarked : (g : _) (c : After-run g) → g.H.Host.honest → Sound (g.H.Host.told c.args.host.now) → Ends (restored_to c.args.from.now) (g.H.Host.told c.args.host.now) → NoneWaits (g.H.Host.told c.run.new.host)
+run_unmarked g c honest sound ends = same_cell_waits (g.H.Host.told c.put.new.host) (g.H.Host.told c.run.new.host) c.run.ensures.stops_cell (put_unmarked g (goal.at.After-run g c).After-put honest sound ends)
+
 -- ---- the checkpoint wasn't put
 
 pub returns-in-Err-Failed : goal.returns-in-Err-Failed
@@ -82,6 +94,7 @@ returns-in-Err-Failed g c =
       says = λ doc start follows calls. (since_start g at start follows, rose_after start.faults old.faults new.faults follows.faults rose);
       quiet = tt;
       compared = λ found is. failed_differs found is;
+      unmarked = λ honest sound ends. put_unmarked g at honest sound ends;
       moment = c.put.ensures.stops_net.later;
       later = c.put.ensures.cause.later;
     }
@@ -104,6 +117,7 @@ returns-in-Err-OutOfMemory g c =
       );
       quiet = tt;
       compared = λ found is. memory_differs found is;
+      unmarked = λ honest sound ends. put_unmarked g at honest sound ends;
       moment = c.put.ensures.stops_net.later;
       later = c.put.ensures.cause.later;
     }
@@ -133,6 +147,7 @@ returns-in-Err-Refused g c =
           );
       quiet = tt;
       compared = λ found is. refused_differs _ _ found is;
+      unmarked = λ honest sound ends. run_unmarked g at honest sound ends;
       moment = moment g at;
       later = later g at;
     }
@@ -159,6 +174,7 @@ returns-in-Err-Failed-run g c =
       );
       quiet = tt;
       compared = λ found is. failed_differs found is;
+      unmarked = λ honest sound ends. run_unmarked g at honest sound ends;
       moment = moment g at;
       later = later g at;
     }
@@ -183,6 +199,7 @@ returns-in-Err-OutOfMemory-run g c =
       );
       quiet = tt;
       compared = λ found is. memory_differs found is;
+      unmarked = λ honest sound ends. run_unmarked g at honest sound ends;
       moment = moment g at;
       later = later g at;
     }
@@ -215,6 +232,7 @@ returns-in-Ok-run g c =
       says = λ doc start follows calls. tt;
       quiet = quiet_on old.kernel mid.kernel new.kernel (unrefused g (goal.at.After-run g at).After-put) (c.in-Ok-run.ensures.quiet (λ k n is. cc));
       compared = λ found is. done_failed _ _ is;
+      unmarked = λ honest sound ends. run_unmarked g at honest sound ends;
       moment = moment g at;
       later = later g at;
     }

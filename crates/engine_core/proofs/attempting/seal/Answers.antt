@@ -6,6 +6,7 @@ use Rattle.engine_core.proofs.Calms.{stays_nets}
 use Rattle.engine_model.proofs.lemmas.Refusals.{quiet_same, quiet_on}
 use Rattle.host_core.proofs.lemmas.Counts.{rose_after}
 use Rattle.engine_core.proofs.Says.{open_as}
+use Rattle.engine_model.proofs.lemmas.Comparing.{waits_stays, none_on, seen_same}
 use Rattle.engine_model.proofs.lemmas.Leading.{kept_stays, kept_on, ends_stays, sound_stays}
 use Rattle.engine_model.proofs.lemmas.Restores.{held_stays}
 use Rattle.engine_core.proofs.attempting.seal.Goals as goal
@@ -79,3 +80,23 @@ returns-in-Err-clause-stands g c = λ tells none.
     let was = c.requires tells in
     let e : Some (applying was.0 was.1 was.2) ≡ None = sym was.3.cell ∙ ap (λ (s : State). cell_of s.cell) (sym (c.verify.ensures.state tells)) ∙ none in
     absurd (cc)
+
+-- ---- a change is left to wait only once it is compared
+
+pub returns-in-Err-clause-seen : goal.returns-in-Err-clause-seen
+returns-in-Err-clause-seen g c = λ honest none is s left waits.
+    let old = g.H.Host.told c.args.host.now in
+    let new = g.H.Host.told c.verify.new.host in
+    absurd (none_on old new (waits_stays old new c.verify.ensures.stops) none s left waits)
+
+pub returns-in-Ok-mark-clause-seen : goal.returns-in-Ok-mark-clause-seen
+returns-in-Ok-mark-clause-seen g c = λ honest none is s left waits.
+    seen_same g.H.Host.tells c.args.to.now (g.H.Host.told c.verify.new.host) (g.H.Host.told c.mark.new.host) (g.met.H.Host.honest_tells honest) c.mark.ensures.kernel (c.in-Ok.ensures.checked honest is)
+
+pub returns-in-Err-mark-clause-seen : goal.returns-in-Err-mark-clause-seen
+returns-in-Err-mark-clause-seen g c = λ honest none is s left waits.
+    seen_same g.H.Host.tells c.args.to.now (g.H.Host.told c.verify.new.host) (g.H.Host.told c.mark.new.host) (g.met.H.Host.honest_tells honest) c.mark.ensures.kernel (c.in-Ok.ensures.checked honest is)
+
+pub returns-in-Ok-mark-clause-checked : goal.returns-in-Ok-mark-clause-checked
+returns-in-Ok-mark-clause-checked g c = λ honest is.
+    seen_same g.H.Host.tells c.args.to.now (g.H.Host.told c.verify.new.host) (g.H.Host.told c.mark.new.host) (g.met.H.Host.honest_tells honest) c.mark.ensures.kernel (c.in-Ok.ensures.checked honest is)

@@ -2,7 +2,7 @@ use Rattle.std.proofs.Common.{◌≡◌, ◌∙◌, inr, Some, None, Err, ap, sy
 use Rattle.std.proofs.Math.Nat.{le_refl}
 use Rattle.std.proofs.lemmas.Bool.{true≢false, false≢true}
 use Rattle.net_model.specs.NetData.{NetData}
-use Rattle.host_core.specs.HostView.{Kernel, NoneRefused}
+use Rattle.host_core.specs.HostView.{State, Kernel, NoneRefused}
 use Rattle.host_core.proofs.lemmas.Counts.{rose_after}
 use Rattle.host_core.proofs.lemmas.Moments.{stays}
 use Rattle.engine_model.proofs.lemmas.Failing.{open_same}
@@ -15,6 +15,7 @@ use Rattle.engine_core.proofs.attempting.verify.Goals.{In-Ok}
 pub returns-then-no_verify : goal.returns-then-no_verify
 returns-then-no_verify g c = record {
   verified = λ tells is. absurd (true≢false (sym c.if-no_verify.true ∙ is));
+  checked = λ honest is. absurd (true≢false (sym c.if-no_verify.true ∙ is));
   missed = λ honest is. tt;
   state = λ tells. refl;
   stops = stays (g.H.Host.told c.args.host.now).stops;
@@ -37,6 +38,10 @@ returns-then-same_net g c =
     let same : c.in-Ok.found ≡ c.args.to.now = search (rules, c.if-same_net.ensures.0) in
     record {
       verified = λ tells is. c.in-Ok.ensures.fresh tells ∙ ap (λ (n : NetData). Some n) same;
+      checked = λ honest is.
+          let tells = g.met.H.Host.honest_tells honest in
+          let gave = ap (λ (n : NetData). Some n) same in
+          record { fresh = c.in-Ok.ensures.fresh tells ∙ gave; stands = ap (λ (s : State). s.net) (c.dump.ensures.state tells) ∙ c.in-Ok.ensures.net honest ∙ gave };
       missed = λ honest is. tt;
       state = c.dump.ensures.state;
       stops = c.dump.ensures.stops;
@@ -57,6 +62,7 @@ returns-else-same_net g c =
     let other = λ (same : c.in-Ok.found ≡ c.args.to.now). let wrong = c.if-same_net.ensures.1 same in absurd {A = ⊥} (search (rules, wrong)) in
     record {
       verified = λ tells. tt;
+      checked = λ honest. tt;
       missed = λ honest is. let e : Some c.in-Ok.found ≡ Some c.args.to.now = sym (c.in-Ok.ensures.net honest) ∙ is in let same : c.in-Ok.found ≡ c.args.to.now = cc in other same;
       state = c.dump.ensures.state;
       stops = c.dump.ensures.stops;
@@ -79,6 +85,7 @@ returns-in-Err-Failed g c =
     let rose = c.in-Err-Failed.ensures.cause.failed (ap (λ e. Err e) c.in-Err-Failed.field-0-is) in
     record {
       verified = λ tells. tt;
+      checked = λ honest. tt;
       missed = λ honest is. tt;
       state = c.dump.ensures.state;
       stops = c.dump.ensures.stops;
@@ -100,6 +107,7 @@ returns-in-Err-Damaged g c =
     let there = g.met.H.Host.lawful c.dump.new.self in
     record {
       verified = λ tells. tt;
+      checked = λ honest. tt;
       missed = λ honest is. let e : Some c.args.to.now ≡ None = sym is ∙ none (g.met.H.Host.honest_tells honest) in cc;
       state = c.dump.ensures.state;
       stops = c.dump.ensures.stops;
@@ -119,6 +127,7 @@ returns-in-Err-OutOfMemory g c =
     let quiet = quiet_same old.kernel new.kernel c.in-Err-OutOfMemory.ensures.kernel in
     record {
       verified = λ tells. tt;
+      checked = λ honest. tt;
       missed = λ honest is. tt;
       state = c.dump.ensures.state;
       stops = c.dump.ensures.stops;

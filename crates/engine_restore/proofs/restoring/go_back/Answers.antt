@@ -8,12 +8,14 @@ use Rattle.checkpoint_cell.specs.Cell.{Checkpoint, cell_of, saved_net}
 use Rattle.checkpoint_cell.specs.Settled.{Standing, standing, restored_to}
 use Rattle.checkpoint_cell.specs.Steps.{Holds}
 use Rattle.engine_model.specs.Answers.{IsUndone, Finds}
+use Rattle.engine_model.specs.Compared.{WaitsSeen}
 use Rattle.engine_model.specs.Machine.{saved_on}
 use Rattle.engine_model.specs.Sound.{Sound, IsWhole}
 use Rattle.engine_model.specs.Stations.{Only, Kept, Ends}
 use Rattle.engine_model.specs.Undone.{restored, undone}
 use Rattle.engine_model.proofs.lemmas.Failing.{looked, fails_after}
 use Rattle.engine_model.proofs.lemmas.Finding.{finds_as}
+use Rattle.engine_model.proofs.lemmas.Comparing.{waits_stays, waits_on, seen_on, seen_same}
 use Rattle.engine_model.proofs.lemmas.Leading.{kept_stays, kept_on, kept_wider, sound_stays, same_state, any_step, any_on}
 use Rattle.engine_model.proofs.lemmas.Machines.{from_read}
 use Rattle.engine_model.proofs.lemmas.Refusals.{quiet_same, quiet_on}
@@ -46,6 +48,7 @@ returns-in-Err g c =
       idle = tt;
       bare = λ tells none. same_state g.H.Host.tells old new look tells;
       going = λ honest sound begun. absurd (begun tt);
+      seen = λ honest net seen. seen_on net old new (waits_stays old new look.stops) seen (λ is s left waits. seen_same g.H.Host.tells net old new (g.met.H.Host.honest_tells honest) look.kernel is);
       moves = any_step Stays old.stops new.stops look.stops;
       saved = λ tells. tt;
       reads = λ honest. tt;
@@ -79,6 +82,7 @@ returns-in-Empty g c =
       idle = λ was. looked g.H.Host.tells old new look;
       bare = λ tells is. same_state g.H.Host.tells old new look tells;
       going = λ honest sound. tt;
+      seen = λ honest net seen. seen_on net old new (waits_stays old new look.stops) seen (λ is s left waits. seen_same g.H.Host.tells net old new (g.met.H.Host.honest_tells honest) look.kernel is);
       moves = any_step Stays old.stops new.stops look.stops;
       saved = λ tells. ap saved_net (look.cell tells);
       reads = λ honest was. absurd (false≢true was);
@@ -119,6 +123,16 @@ still_bare g c tells none =
 
 there : (g : _) (c : After-restore g) → g.H.Host.tells → (checkpoint : Checkpoint) → cell_of (g.H.Host.told c.args.host.now).state.cell ≡ Some checkpoint → Holds (Some checkpoint) (g.H.Host.told c.barrier.new.host)
 there g c tells checkpoint is = subst (λ (k : Option Checkpoint). Holds k (g.H.Host.told c.barrier.new.host)) is (c.in-Ok.ensures.sure tells)
+
+-- what may still wait could be left before, and the network is seen as it was
+still_seen : (g : _) (c : After-restore g) → g.H.Host.honest → (net : NetData) → WaitsSeen net (g.H.Host.told c.args.host.now) → WaitsSeen net (g.H.Host.told c.restore.new.host)
+still_seen g c honest net seen =
+    let tells = g.met.H.Host.honest_tells honest in
+    let old = g.H.Host.told c.args.host.now in
+    let mid = g.H.Host.told c.barrier.new.host in
+    let new = g.H.Host.told c.restore.new.host in
+    let look = c.barrier.ensures.untouched in
+    seen_on net old new (waits_on old mid new (waits_stays old mid look.stops) (c.restore.ensures.waits tells)) seen (λ is. c.restore.ensures.seen honest net (seen_same g.H.Host.tells net old mid tells look.kernel is))
 
 pub restore-requires : goal.restore-requires
 restore-requires g c = λ tells.
@@ -163,6 +177,7 @@ returns-in-Ok-restore g c =
       idle = λ was. absurd (true≢false was);
       bare = λ tells none. still_bare g at tells none;
       going = λ honest sound. tt;
+      seen = λ honest net seen. still_seen g at honest net seen;
       moves = any_on old.stops mid.stops new.stops (any_step Stays old.stops mid.stops look.stops) c.restore.ensures.moves;
       saved = λ tells. done.saved tells ∙ ap saved_net (look.cell tells);
       reads = λ honest was. done.reads honest;
@@ -199,6 +214,7 @@ returns-in-Err-restore g c =
       going = λ honest sound begun.
           let tells = g.met.H.Host.honest_tells honest in
           from_read (IsUndone old.state) old mid new ((g.met.H.Host.lawful c.args.host.now).reads tells) sound look.stops (c.in-Ok.ensures.sure tells) (after_barrier g at honest sound);
+      seen = λ honest net seen. still_seen g at honest net seen;
       moves = any_on old.stops mid.stops new.stops (any_step Stays old.stops mid.stops look.stops) c.restore.ensures.moves;
       saved = λ tells. tt;
       reads = λ honest. tt;

@@ -22,6 +22,8 @@ use Rattle.engine_model.specs.declared.answers.BackFault.{BackFault}
 use Rattle.engine_model.specs.declared.answers.BackFault.TheVariants.{NoCheckpoint}
 use Rattle.engine_model.proofs.lemmas.Failing.{fails_late, fails_set}
 use Rattle.engine_model.proofs.lemmas.Finding.{finds_done}
+use Rattle.engine_model.specs.Compared.{NoneWaits}
+use Rattle.engine_model.proofs.lemmas.Comparing.{waits_stays, waits_on, seen_same}
 use Rattle.engine_model.proofs.lemmas.Leading.{kept_stays, kept_on, sound_stays, any_step, any_on}
 use Rattle.engine_model.proofs.lemmas.Refusals.{quiet_on, unmade_quiet, unmade_on}
 use Rattle.engine_model.proofs.lemmas.Restores.{held_stays, is_applying, ends_held}
@@ -89,6 +91,8 @@ returns-in-Err g c =
       fault = c.in-Err.ensures.fault;
       kept = λ honest sound checkpoint saved holds has. kept_stays (Only (restored_to saved)) old new sound begun.stops;
       bare = λ tells none. begun.same tells;
+      waits = λ tells. waits_stays old new begun.stops;
+      seen = λ honest net seen s left waits. c.ready.ensures.seen honest net seen;
       moves = any_step Stays old.stops new.stops begun.stops;
       later = c.ready.ensures.later;
     }
@@ -108,6 +112,8 @@ returns g c =
       };
       kept = λ honest sound checkpoint saved holds has. taken g at checkpoint saved honest sound holds has;
       bare = λ tells none. absurd (none_here old.state.net (c.in-Ok.ensures.ready.found tells) none);
+      waits = λ tells. waits_on old mid new (waits_stays old mid c.ready.ensures.unbegun.stops) (c.take_up.ensures.waits tells);
+      seen = λ honest net seen s left waits. seen_same g.H.Host.tells net mid new (g.met.H.Host.honest_tells honest) c.take_up.ensures.kernel (c.ready.ensures.seen honest net seen);
       moves = any_on old.stops mid.stops new.stops (any_step Stays old.stops mid.stops c.ready.ensures.unbegun.stops) c.take_up.ensures.moves;
       later = later_on old.faults mid.faults new.faults c.ready.ensures.later c.take_up.ensures.cause.later;
     }
@@ -197,6 +203,12 @@ hinders g c fault i =
         i.healthy honest k.leads.from k.leads.saved (net_is g c (g.met.H.Host.honest_tells honest) k.leads.from k.leads.is_from)
         (subst (λ (l : List Call). Runs l k.leads.from k.leads.saved) (sym (calls_are g c)) k.leads.runs)
 
+-- the change is taken up, so none waits
+none_waits : (g : _) (c : After-undo g) → g.H.Host.tells → NoneWaits (g.H.Host.told c.undo.new.host)
+none_waits g c tells =
+    let was = c.requires tells in
+    c.undo.ensures.waits tells (in_phase Applying was.0) (c.in-Ok-take_up.ensures.taken tells was.0 (held g (goal.at.After-undo g c).After-take_up was.0 tells was.1)) refl
+
 pub returns-in-Ok-take_up : goal.returns-in-Ok-take_up
 returns-in-Ok-take_up g c =
     let here = (goal.at.returns-in-Ok-take_up g c).After-undo in
@@ -220,6 +232,8 @@ returns-in-Ok-take_up g c =
           kept_on (Only (restored_to saved)) old taken_up new first
           (c.undo.ensures.kept honest first.sound checkpoint.made checkpoint.deadline k.leads.from saved ends (net_is g here tells k.leads.from k.leads.is_from) k.leads.built runs);
       bare = λ tells none. absurd (none_here old.state.net (c.in-Ok.ensures.ready.found tells) none);
+      waits = λ tells s left waits. absurd (none_waits g here tells s left waits);
+      seen = λ honest net seen s left waits. absurd (none_waits g here (g.met.H.Host.honest_tells honest) s left waits);
       moves = any_on old.stops mid.stops new.stops (any_step Stays old.stops mid.stops c.ready.ensures.unbegun.stops) (any_on mid.stops taken_up.stops new.stops c.take_up.ensures.moves c.undo.ensures.moves);
       later = later_on old.faults mid.faults new.faults c.ready.ensures.later (later_on mid.faults taken_up.faults new.faults c.take_up.ensures.cause.later c.undo.ensures.later);
     }

@@ -12,6 +12,9 @@ use Rattle.engine_model.specs.Sound.{Sound}
 use Rattle.engine_model.specs.Stations.{Only, Kept, Ends}
 use Rattle.checkpoint_cell.specs.Settled.{restored_to}
 use Rattle.checkpoint_cell.proofs.lemmas.Saved.{saved_stays}
+use Rattle.engine_model.specs.Compared.{NoneWaits}
+use Rattle.checkpoint_cell.specs.declared.Phase.TheVariants.{Applying}
+use Rattle.engine_model.proofs.lemmas.Comparing.{made_waits, held_waits, none_or_waits}
 use Rattle.engine_model.proofs.lemmas.Leading.{run_kept, cell_kept, same_kind, kept_on, any_step, any_on}
 use Rattle.engine_model.proofs.lemmas.Restores.{held, ends_held, clearing}
 use Rattle.engine_model.proofs.lemmas.Refusals.{quiet_same, quiet_on}
@@ -30,6 +33,17 @@ ran g c honest sound made deadline from saved ends built =
 still : (g : _) (c : After-run g) → StillOpen g.H.Host.tells (g.H.Host.told c.args.host.now) → StillOpen g.H.Host.tells (g.H.Host.told c.run.new.host)
 still g c up = λ tells. subst (λ (k : Option Checkpoint). HasOpen k) (sym (ap cell_of (c.run.ensures.cell tells))) (up tells)
 
+-- the checkpoint that is held is that of a change that is being made, so none waits
+held_on : (g : _) (c : After-run g) (checkpoint : Checkpoint) → g.H.Host.tells → Holds (Some checkpoint) (g.H.Host.told c.args.host.now) → Holds (Some checkpoint) (g.H.Host.told c.run.new.host)
+held_on g c checkpoint tells holds = held (Some checkpoint) (g.H.Host.told c.args.host.now) (g.H.Host.told c.run.new.host) holds c.run.ensures.stops_cell (c.run.ensures.cell tells)
+
+none_waits : (g : _) (c : After-run g) → g.H.Host.tells → (checkpoint : Checkpoint) → Holds (Some checkpoint) (g.H.Host.told c.args.host.now) → checkpoint.phase ≡ Applying → NoneWaits (g.H.Host.told c.run.new.host)
+none_waits g c tells checkpoint holds made = held_waits (Some checkpoint) (g.H.Host.told c.run.new.host) (held_on g c checkpoint tells holds) (λ waits. made_waits checkpoint.phase made waits)
+
+cleared_waits : (g : _) (c : After-clear g) → g.H.Host.tells → (checkpoint : Checkpoint) → Holds (Some checkpoint) (g.H.Host.told c.args.host.now) → checkpoint.phase ≡ Applying → NoneWaits (g.H.Host.told c.clear.new.host)
+cleared_waits g c tells checkpoint holds made =
+    none_or_waits checkpoint made (g.H.Host.told c.run.new.host) (g.H.Host.told c.clear.new.host) (c.clear.ensures.stops tells checkpoint (held_on g (goal.at.After-clear g c).After-run checkpoint tells holds))
+
 pub returns-in-Err-Refused : goal.returns-in-Err-Refused
 returns-in-Err-Refused g c =
     let is = ap (λ e. Err e) c.in-Err-Refused.field-0-is in
@@ -41,6 +55,7 @@ returns-in-Err-Refused g c =
         healthy = λ honest from saved stands runs. c.in-Err-Refused.ensures.accepted honest from saved stands runs _ _ is;
       };
       kept = λ honest sound made deadline from saved ends stands built runs. ran g (goal.at.returns-in-Err-Refused g c).After-run honest sound made deadline from saved ends built;
+      waits = λ tells checkpoint holds made. none_waits g (goal.at.returns-in-Err-Refused g c).After-run tells checkpoint holds made;
       moves = any_step SameCell (g.H.Host.told c.args.host.now).stops (g.H.Host.told c.run.new.host).stops c.run.ensures.stops_cell;
       later = c.run.ensures.cause.later;
     }
@@ -54,6 +69,7 @@ returns-in-Err-Failed g c = record {
     healthy = λ honest from saved stands runs. tt;
   };
   kept = λ honest sound made deadline from saved ends stands built runs. ran g (goal.at.returns-in-Err-Failed g c).After-run honest sound made deadline from saved ends built;
+  waits = λ tells checkpoint holds made. none_waits g (goal.at.returns-in-Err-Failed g c).After-run tells checkpoint holds made;
   moves = any_step SameCell (g.H.Host.told c.args.host.now).stops (g.H.Host.told c.run.new.host).stops c.run.ensures.stops_cell;
   later = c.run.ensures.cause.later;
 }
@@ -67,6 +83,7 @@ returns-in-Err-OutOfMemory g c = record {
     healthy = λ honest from saved stands runs. tt;
   };
   kept = λ honest sound made deadline from saved ends stands built runs. ran g (goal.at.returns-in-Err-OutOfMemory g c).After-run honest sound made deadline from saved ends built;
+  waits = λ tells checkpoint holds made. none_waits g (goal.at.returns-in-Err-OutOfMemory g c).After-run tells checkpoint holds made;
   moves = any_step SameCell (g.H.Host.told c.args.host.now).stops (g.H.Host.told c.run.new.host).stops c.run.ensures.stops_cell;
   later = c.run.ensures.cause.later;
 }
@@ -113,6 +130,7 @@ returns-in-Ok-clear g c =
       };
       fault = tt;
       kept = λ honest sound made deadline from saved ends is built runs. done g at honest sound made deadline from saved ends is built runs;
+      waits = λ tells checkpoint holds made. cleared_waits g at tells checkpoint holds made;
       moves = any_on old.stops mid.stops new.stops (any_step SameCell old.stops mid.stops c.run.ensures.stops_cell) (any_step SameNet mid.stops new.stops c.clear.ensures.stops_net);
       later = later_on old.faults mid.faults new.faults c.run.ensures.cause.later c.clear.ensures.cause.later;
     }
@@ -131,6 +149,7 @@ returns-in-Err g c =
         healthy = λ honest from saved is runs. tt;
       };
       kept = λ honest sound made deadline from saved ends is built runs. done g at honest sound made deadline from saved ends is built runs;
+      waits = λ tells checkpoint holds made. cleared_waits g at tells checkpoint holds made;
       moves = any_on old.stops mid.stops new.stops (any_step SameCell old.stops mid.stops c.run.ensures.stops_cell) (any_step SameNet mid.stops new.stops c.clear.ensures.stops_net);
       later = later_on old.faults mid.faults new.faults c.run.ensures.cause.later c.clear.ensures.cause.later;
     }
