@@ -5,3 +5,4 @@ pub mod Clamped
 pub mod Calls
 pub mod Pairs
 pub mod Releasing
+pub mod Dependents

@@ -1,38 +1,30 @@
 //! Whether attaching a port makes a cycle.
-ghost use Rattle.std.specs.Prelude.{◌≡◌, ◌<◌, ◌&&◌, true, false, not, IfSome, IfOk, length, map, slice_index_or};
+ghost use Rattle.std.specs.Prelude.{◌≡◌, ◌≢◌, ◌<◌, ◌&&◌, true, false, not, IfSome, IfOk, length, slice_index_or};
 ghost use Rattle.net_model.specs.Name.{same_bytes};
-ghost use Rattle.net_model.specs.Words.{rises, is_among};
-ghost use Rattle.net_model.specs.Order.{link_cmp};
-ghost use Rattle.net_model.specs.Links.{is_named, ports_of};
+ghost use Rattle.net_model.specs.Words.{is_among};
+ghost use Rattle.net_model.specs.Links.{ports_of};
 ghost use Rattle.net_model.specs.Dependence.{reaches, no_cycle};
 ghost use Rattle.kernel_model.specs.Words.{has_link};
 ghost use Rattle.net_model.specs.Edits.{edit_link, attached};
 ghost use Rattle.link_step.specs.Leaf.{is_leaf};
 
+use crate::dependents::dependents;
 use net_core::Net;
 use net_edits::is_among;
 use net_lists::{find_link, is_bond, place_of};
-use net_model::{Kind, Link, Name, OutOfMemory};
-use net_valid::arrows;
-use reach::closure;
-use std::alloc::{AllocError, Global};
+use net_model::{Kind, Name, OutOfMemory};
 
-fn marks(alloc: Global, links: &[Link], name: &Name) -> Result<Vec<bool>, AllocError>
-    ensures { IfOk result (λ marks. marks.items ≡ map (is_named name.now) links.now) }
+// Whether the port depends on the link at this place.
+fn reaches(net: &Net, port: usize, at: usize) -> Result<bool, OutOfMemory>
+    requires port { port < length net.now.links }
+    requires inside { at < length net.now.links }
+    requires other { port ≢ at }
+    ensures { IfOk result (λ is. (d : _) → is ≡ reaches net.now.links (length net.now.links) (slice_index_or net.now.links port d).name (slice_index_or net.now.links at d)) }
 {
-    links.iter().map(|link| link.name == *name).collect(alloc)
-}
-
-// Whether the link at this place is reached from the port.
-fn reaches(alloc: Global, links: &[Link], port: &Name, at: usize) -> Result<bool, OutOfMemory>
-    requires in_order { rises link_cmp links.now ≡ true }
-    requires inside { at < length links.now }
-    ensures { IfOk result (λ is. (d : _) → is ≡ reaches links.now (length links.now) port.now (slice_index_or links.now at d)) }
-{
-    let arrows = arrows(alloc, links)?;
-    let starts = marks(alloc, links, port)?;
-    let reached = closure(alloc, &arrows, &starts)?;
-    Ok(reached[at])
+    net.laws();
+    let alloc = *net.links().allocator();
+    let marks = dependents(alloc, net, at)?;
+    Ok(marks[port])
 }
 
 // Whether a link of this kind depends on none: it has neither a base nor ports.
@@ -97,11 +89,14 @@ pub(crate) fn makes_cycle(net: &Net, port: &Name, controller: &Name) -> Result<b
     if let Some(makes) = by_bases(net, port, controller) {
         return Ok(makes);
     }
-    match place_of(links, controller) {
-        Some(at) => {
-            let reached = reaches(*links.allocator(), links, port, at)?;
-            Ok(reached)
-        }
-        None => Ok(false),
-    }
+    let at = match place_of(links, controller) {
+        Some(at) => at,
+        None => return Ok(false),
+    };
+    let below = match place_of(links, port) {
+        Some(below) => below,
+        None => return Ok(false),
+    };
+    let reached = reaches(net, below, at)?;
+    Ok(reached)
 }

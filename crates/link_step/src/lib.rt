@@ -3,6 +3,8 @@
 
 // Whether attaching makes a cycle.
 mod cycle;
+// Which links depend on one.
+mod dependents;
 // What hangs on a link.
 mod hanging;
 // Links by name, in lists strictly sorted by name.
