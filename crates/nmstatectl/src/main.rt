@@ -11,7 +11,7 @@ use std::io::Write;
 use std::process::ExitCode;
 use system_adapters::{
     FileFolder, FileSource, Stream, StreamSink, SystemClock, node_folders, service_folder,
-    take_folder,
+    take_closed_streams, take_folder,
 };
 
 /// The status where memory is refused before a command is read.
@@ -25,6 +25,19 @@ fn out_of_memory(rt: &HostRuntime) -> ExitCode
     ExitCode::from(OUT_OF_MEMORY)
 }
 
+/// The status of a fault of the host.
+const HOST_FAULT: u8 = 5;
+
+/// Says on the errors that a fault came before anything was done, and gives its status.
+fn not_begun(rt: &HostRuntime) -> ExitCode
+    ensures { exit_status result ≡ 5 }
+{
+    let _ = rt
+        .stderr()
+        .write_all(b"error: host fault, not begun\n");
+    ExitCode::from(HOST_FAULT)
+}
+
 /// Ends with the status of a report.
 fn ending(report: &Report) -> ExitCode
     ensures { exit_status result ≡ report.now.status }
@@ -34,6 +47,10 @@ fn ending(report: &Report) -> ExitCode
 
 fn main(rt: HostRuntime) -> ExitCode {
     let alloc = rt.alloc();
+    // Before any file is opened: a file would get the number of a closed stream, and be written into.
+    if take_closed_streams(&rt).is_err() {
+        return not_begun(&rt);
+    }
     let Ok(mut words) = words(&rt) else {
         return out_of_memory(&rt);
     };
