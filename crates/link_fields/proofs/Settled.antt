@@ -1,11 +1,11 @@
 -- What is known of the fields that links have from their bases.
-use Rattle.std.proofs.Common.{◌≡◌, ◌≢◌, ◌⊎◌, inl, inr, ◌<◌, ◌≤◌, ◌+◌, ℕ, zero, suc, true, List, length, get_or, set, replicate, Option, Some, None, is_none, IfSome, refl, sym, ap, subst, ◌∙◌, arith}
+use Rattle.std.proofs.Common.{◌≡◌, ◌≢◌, ◌⊎◌, inl, inr, ◌<◌, ◌≤◌, ◌+◌, ℕ, zero, suc, true, List, [], ◌∷◌, ◌++◌, length, get_or, set, replicate, Option, Some, None, is_none, IfSome, refl, sym, ap, subst, ◌∙◌, arith}
 use Rattle.std.specs.Option.{option_map, option_map_or, unwrap_or}
-use Rattle.std.proofs.lemmas.List.{length-set, length-replicate, get_or-set_same, get_or-set_other, get_or-replicate}
+use Rattle.std.proofs.lemmas.List.{length-append, get_or_append_left, get_or_at, length-set, length-replicate, get_or-set_same, get_or-set_other, get_or-replicate}
 use Rattle.merge_model.specs.Members.{Member}
 use Rattle.merge_model.specs.Merged.{base_member, down_bases, by_bases, up_over, mtu_over, mac_over}
 use Rattle.link_fields.specs.declared.bases.Fields.{Fields}
-use Rattle.link_fields.specs.Bases.{ends, Holds, Knows}
+use Rattle.link_fields.specs.Bases.{ends, Holds, Knows, SuitsWithin, Gives}
 
 module _ {X : Type 0} (rule : Member → Option X → X) (ms : List Member) where
   none_over : (o : Option Member) (s : ℕ) → is_none o ≡ true → option_map (down_bases rule ms s) o ≡ None
@@ -88,3 +88,65 @@ none_known ms = record {
   whole = length-replicate (length ms) None;
   right = λ i fields inside e d. let wrong : None ≡ Some fields = sym (get_or-replicate (length ms) i None None inside) ∙ e in absurd cc;
 }
+
+-- the fields of no links
+pub none_given : (ms : List Member) (steps : ℕ) → Gives ms steps 0 []
+none_given ms steps = record { whole = refl; right = λ i lt d e. absurd (omega (arith, lt)) }
+
+less_or_same : (i n : ℕ) → i < n + 1 → (i < n) ⊎ (i ≡ n)
+less_or_same i n lt = grind arith
+
+-- and of one more
+pub one_given : (ms : List Member) (steps at : ℕ) (all : List Fields) (f : Fields) → Gives ms steps at all → ((d : Member) → SuitsWithin ms steps (get_or ms at d) f) → Gives ms steps (at + 1) (all ++ f ∷ [])
+one_given ms steps at all f g here = record {
+  whole = omega (arith, length-append all (f ∷ []), g.whole);
+  right = λ i lt d e. elim (less_or_same i at lt) [
+    | inl low ↦ subst (SuitsWithin ms steps (get_or ms i d)) (sym (get_or_append_left all (f ∷ []) e i (omega (arith, low, g.whole)))) (g.right i low d e)
+    | inr same ↦
+        subst (λ n. SuitsWithin ms steps (get_or ms n d) (get_or (all ++ f ∷ []) n e)) (sym same)
+        (subst (SuitsWithin ms steps (get_or ms at d)) (sym (get_or_at all f [] e at g.whole)) (here d))
+  ];
+}
+
+-- fields that hold are those as far down as there are links
+pub held : (ms : List Member) (m : Member) (fields : Fields) → Holds ms m fields → SuitsWithin ms (length ms) m fields
+held ms m fields h = record { up = h.suits.up; mtu = h.suits.mtu; mac = h.suits.mac }
+
+same_at : {X : Type 0} (xs : List X) (i : ℕ) (d e : X) → i < length xs → get_or xs i d ≡ get_or xs i e
+same_at [] i d e lt = absurd (omega (arith, lt))
+same_at (x ∷ xs) zero d e lt = refl
+same_at (x ∷ xs) (suc i) d e lt = same_at xs i d e (omega (arith, lt))
+
+-- of one more, as it is found at its place
+pub one_given_at : (ms : List Member) (steps at : ℕ) (all : List Fields) (f : Fields) (m : Member) → Gives ms steps at all → at < length ms → m ≡ get_or ms at m → SuitsWithin ms steps m f → Gives ms steps (at + 1) (all ++ f ∷ [])
+one_given_at ms steps at all f m g lt is s = one_given ms steps at all f g (λ d. subst (λ x. SuitsWithin ms steps x f) (is ∙ same_at ms at m d lt) s)
+
+-- of one more, of which they were known
+pub one_given_known : (ms : List Member) (known : List (Option Fields)) (at : ℕ) (all : List Fields) (f : Fields) → Gives ms (length ms) at all → Knows ms known → at < length ms → get_or known at None ≡ Some f → Gives ms (length ms) (at + 1) (all ++ f ∷ [])
+one_given_known ms known at all f g k lt is = one_given ms (length ms) at all f g (λ d. held ms (get_or ms at d) f (k.right at f lt is d))
+
+further : {X : Type 0} (rule : Member → Option X → X) (ms : List Member) (steps : ℕ) (m b : Member) (x : X) → base_member ms m ≡ Some b → x ≡ down_bases rule ms steps b → rule m (Some x) ≡ down_bases rule ms (steps + 1) m
+further rule ms steps m b x is e =
+    let next : suc steps ≡ steps + 1 = omega arith in
+    ap (λ y. rule m (Some y)) e ∙ ap (λ o. rule m (option_map (down_bases rule ms steps) o)) (sym is) ∙ ap (λ n. down_bases rule ms n m) next
+
+-- the fields over those of the base
+pub one_further : (ms : List Member) (steps : ℕ) (m b : Member) (below fields : Fields) → base_member ms m ≡ Some b → SuitsWithin ms steps b below
+    → fields.up ≡ up_over m (Some below.up) → fields.mtu ≡ mtu_over m (Some below.mtu) → fields.mac ≡ mac_over m (Some below.mac) → SuitsWithin ms (steps + 1) m fields
+one_further ms steps m b below fields is s up mtu mac = record {
+  up = up ∙ further up_over ms steps m b below.up is s.up;
+  mtu = mtu ∙ further mtu_over ms steps m b below.mtu is s.mtu;
+  mac = mac ∙ further mac_over ms steps m b below.mac is s.mac;
+}
+
+-- without one, how far down is looked makes no difference
+pub none_further : (ms : List Member) (steps : ℕ) (m : Member) (fields : Fields) → base_member ms m ≡ None → SuitsWithin ms 0 m fields → SuitsWithin ms steps m fields
+none_further ms steps m fields is s = record {
+  up = s.up ∙ alone_within up_over ms steps m is;
+  mtu = s.mtu ∙ alone_within mtu_over ms steps m is;
+  mac = s.mac ∙ alone_within mac_over ms steps m is;
+}
+
+-- the fields at the place of a link suit it
+pub suits_at : (ms : List Member) (steps count at : ℕ) (all : List Fields) (m : Member) (f : Fields) → Gives ms steps count all → at < count → m ≡ get_or ms at m → f ≡ get_or all at f → SuitsWithin ms steps m f
+suits_at ms steps count at all m f g lt is here = subst (λ x. SuitsWithin ms steps x f) (sym is) (subst (SuitsWithin ms steps (get_or ms at m)) (sym here) (g.right at lt m f))

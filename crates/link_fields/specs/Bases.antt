@@ -2,7 +2,7 @@
 use Rattle.std.specs.Prelude.{◌≡◌, ◌<◌, ℕ, Bool, true, List, length, Option, Some, None, is_none, zero, suc, slice_index_or}
 use Rattle.std.specs.Option.{option_map_or}
 use Rattle.merge_model.specs.Members.{Member}
-use Rattle.merge_model.specs.Merged.{base_member, by_bases, is_up, mtu_over, mac_over}
+use Rattle.merge_model.specs.Merged.{base_member, down_bases, by_bases, is_up, up_over, mtu_over, mac_over}
 use Rattle.link_fields.specs.declared.bases.Fields.{Fields}
 
 -- the chain of its bases comes within so many steps to a link without one
@@ -16,7 +16,18 @@ pub record Suits (ms : List Member) (m : Member) (fields : Fields) : Type 0 wher
   pub mtu : fields.mtu ≡ by_bases mtu_over ms m
   pub mac : fields.mac ≡ by_bases mac_over ms m
 
--- and the chain of its bases ends
+-- these are the fields of the link, looking so many bases down
+pub record SuitsWithin (ms : List Member) (steps : ℕ) (m : Member) (fields : Fields) : Type 0 where
+  pub up : fields.up ≡ down_bases up_over ms steps m
+  pub mtu : fields.mtu ≡ down_bases mtu_over ms steps m
+  pub mac : fields.mac ≡ down_bases mac_over ms steps m
+
+-- these are those of the first so many links
+pub record Gives (ms : List Member) (steps count : ℕ) (all : List Fields) : Type 0 where
+  pub whole : length all ≡ count
+  pub right : (i : ℕ) → i < count → (d : Member) (e : Fields) → SuitsWithin ms steps (slice_index_or ms i d) (slice_index_or all i e)
+
+-- the fields of the merged link, whose chain of bases ends
 pub record Holds (ms : List Member) (m : Member) (fields : Fields) : Type 0 where
   pub suits : Suits ms m fields
   pub ends : ends ms fields.bases m ≡ true

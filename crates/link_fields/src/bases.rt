@@ -1,9 +1,9 @@
 //! The fields that links have from their bases: each link is looked at once, its base before it.
-ghost use Rattle.std.specs.Prelude.{◌≡◌, ◌<◌, None, Some, IfSome, IfOk, OnOk, length, slice_index_or};
+ghost use Rattle.std.specs.Prelude.{◌≡◌, ◌<◌, ◌+◌, None, Some, IfSome, IfOk, OnOk, length, slice_index_or};
 ghost use Rattle.merge_model.specs.Merged.{base_member};
-ghost use Rattle.link_fields.specs.Bases.{Suits, Holds, Knows, AreInside, IsBaseAt};
+ghost use Rattle.link_fields.specs.Bases.{Holds, Knows, AreInside, IsBaseAt, SuitsWithin, Gives};
 
-use crate::fields::{mac_over, mac_within, mtu_over, mtu_within, up_over, up_within};
+use crate::fields::{mac_over, mtu_over, up_over};
 use link_members::Members;
 use link_order::{Member, base_of};
 use net_model::Mac;
@@ -122,9 +122,8 @@ fn note_all(members: &Members, known: &mut [Option<Fields>], places: &[usize])
     }
 }
 
-/// Notes the fields of the link at a place, and before them those of the links below it of which nothing is known. The
-/// error is that memory is out.
-pub(crate) fn settle(
+// Notes the fields of the link at a place, and before them those of the links below it of which nothing is known.
+fn settle(
     alloc: Global,
     members: &Members,
     known: &mut [Option<Fields>],
@@ -139,27 +138,123 @@ pub(crate) fn settle(
     Ok(())
 }
 
-// Those of a link whose chain of bases doesn't end, by following it as far as there are links.
-fn followed(members: &Members, member: &Member) -> Fields
-    ensures { Suits members.now member.now result }
+// The fields of each link whose chain of bases ends.
+fn settled(alloc: Global, members: &Members) -> Result<Vec<Option<Fields>>, AllocError>
+    ensures { IfOk result (λ known. Knows members.now known.items) }
 {
-    let steps = members.list().len();
+    let len = members.list().len();
+    let mut known = vec![in alloc; None; len]?;
+    for at in 0..len {
+        settle(alloc, members, &mut known, at)?;
+    }
+    Ok(known)
+}
+
+// The fields of all links, unless those of one aren't known.
+fn all_known(
+    alloc: Global,
+    members: &Members,
+    known: &[Option<Fields>],
+) -> Result<Option<Vec<Fields>>, AllocError>
+    requires { Knows members.now known.now }
+    ensures { IfOk result (λ found. IfSome found (λ all. Gives members.now (length members.now) (length members.now) all.items)) }
+{
+    let _ = members;
+    let mut all = Vec::new(alloc);
+    for at in 0..known.len() {
+        let Some(fields) = known[at] else {
+            return Ok(None);
+        };
+        all.push(fields)?;
+    }
+    Ok(Some(all))
+}
+
+// The fields of a link of which no base is looked at.
+fn shallow(members: &Members, member: &Member) -> Fields
+    ensures { SuitsWithin members.now 0 member.now result }
+{
+    let _ = members;
     Fields {
-        up: up_within(members, steps, member),
-        mtu: mtu_within(members, steps, member),
-        mac: mac_within(members, steps, member),
-        bases: steps,
+        up: up_over(member, None),
+        mtu: mtu_over(member, None),
+        mac: mac_over(member, None),
+        bases: 0,
     }
 }
 
-/// The fields of the link at a place, from what is known.
-pub(crate) fn fields_at(members: &Members, known: &[Option<Fields>], at: usize) -> Fields
-    requires known { Knows members.now known.now }
-    requires inside { at < length members.now }
-    ensures { (d : _) → Suits members.now (slice_index_or members.now at d) result }
+fn all_shallow(alloc: Global, members: &Members) -> Result<Vec<Fields>, AllocError>
+    ensures { IfOk result (λ all. Gives members.now 0 (length members.now) all.items) }
 {
-    match known[at] {
-        Some(fields) => fields,
-        None => followed(members, &members.list()[at]),
+    let list = members.list();
+    let mut all = Vec::new(alloc);
+    for at in 0..list.len() {
+        all.push(shallow(members, &list[at]))?;
+    }
+    Ok(all)
+}
+
+fn fields_at(all: &[Fields], at: usize) -> Fields
+    requires { at < length all.now }
+    ensures { result ≡ slice_index_or all.now at result }
+{
+    all[at]
+}
+
+// The fields of a link, looking one base further than those of all links do.
+fn deeper(members: &Members, below: &[Fields], steps: usize, member: &Member) -> Fields
+    requires { Gives members.now steps (length members.now) below.now }
+    ensures { SuitsWithin members.now (steps + 1) member.now result }
+{
+    let _ = steps;
+    let Some(base) = base_place(members, member) else {
+        return shallow(members, member);
+    };
+    let fields = fields_at(below, base);
+    Fields {
+        up: up_over(member, Some(fields.up)),
+        mtu: mtu_over(member, Some(fields.mtu)),
+        mac: mac_over(member, Some(fields.mac)),
+        bases: 0,
+    }
+}
+
+fn all_deeper(
+    alloc: Global,
+    members: &Members,
+    below: &[Fields],
+    steps: usize,
+) -> Result<Vec<Fields>, AllocError>
+    requires { Gives members.now steps (length members.now) below.now }
+    ensures { IfOk result (λ all. Gives members.now (steps + 1) (length members.now) all.items) }
+{
+    let list = members.list();
+    let mut all = Vec::new(alloc);
+    for at in 0..list.len() {
+        all.push(deeper(members, below, steps, &list[at]))?;
+    }
+    Ok(all)
+}
+
+// The fields where a chain of bases doesn't end: followed as far as there are links, of all of them one base at a time.
+fn followed(alloc: Global, members: &Members) -> Result<Vec<Fields>, AllocError>
+    ensures { IfOk result (λ all. Gives members.now (length members.now) (length members.now) all.items) }
+{
+    let mut all = all_shallow(alloc, members)?;
+    for steps in 0..members.list().len() {
+        all = all_deeper(alloc, members, &all, steps)?;
+    }
+    Ok(all)
+}
+
+/// The fields of all links that follow from their bases. Where a chain of bases doesn't end it takes time as the square of
+/// the links, so callers refuse cycles first. The error is that memory is out.
+pub(crate) fn all_fields(alloc: Global, members: &Members) -> Result<Vec<Fields>, AllocError>
+    ensures { IfOk result (λ all. Gives members.now (length members.now) (length members.now) all.items) }
+{
+    let known = settled(alloc, members)?;
+    match all_known(alloc, members, &known)? {
+        Some(all) => Ok(all),
+        None => followed(alloc, members),
     }
 }

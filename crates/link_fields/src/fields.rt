@@ -1,20 +1,10 @@
 //! The fields of merged links that follow from their bases: one rule for each.
-ghost use Rattle.std.specs.Prelude.{◌≡◌, option_copied};
+ghost use Rattle.std.specs.Prelude.{◌≡◌};
 ghost use Rattle.std.specs.Option.{option_map};
-ghost use Rattle.merge_model.specs.Merged.{base_member, up_over, down_bases, mtu_over, stated_mtu, unstated_mtu, mac_over, stated_mac};
+ghost use Rattle.merge_model.specs.Merged.{up_over, mtu_over, stated_mtu, unstated_mtu, mac_over, stated_mac};
 
-use link_members::Members;
-use link_order::{Member, base_of, is_absent, is_stated_up, permanent_of};
+use link_order::{Member, is_absent, is_stated_up, permanent_of};
 use net_model::{DEFAULT_MTU, Mac};
-
-fn base_member<'a, 'b>(members: &'b Members<'a>, member: &Member<'a>) -> Option<&'b Member<'a>>
-    ensures { option_copied result ≡ base_member members.now member.now }
-{
-    match base_of(&member.kind()) {
-        Some(base) => members.find(&base),
-        None => None,
-    }
-}
 
 /// Up where it is stated up or lifted, or unstated and up before and, if it is a VLAN, over a base that is up.
 pub(crate) fn up_over(member: &Member, below: Option<bool>) -> bool
@@ -23,20 +13,6 @@ pub(crate) fn up_over(member: &Member, below: Option<bool>) -> bool
     is_stated_up(member.wish())
         || member.is_lifted()
         || (member.is_unstated() && member.was_up() && below.unwrap_or(true))
-}
-
-/// Whether the link is up, looking so many bases down.
-pub(crate) fn up_within<'a>(members: &Members<'a>, steps: usize, member: &Member<'a>) -> bool
-    ensures { result ≡ down_bases up_over members.now steps member.now }
-{
-    if steps == 0 {
-        return up_over(member, None);
-    }
-    let below = match base_member(members, member) {
-        Some(base) => Some(up_within(members, steps - 1, base)),
-        None => None,
-    };
-    up_over(member, below)
 }
 
 fn stated_mtu(member: &Member) -> Option<u32>
@@ -83,20 +59,6 @@ pub(crate) fn mtu_over(member: &Member, below: Option<u32>) -> u32
     }
 }
 
-/// The MTU, looking so many bases down.
-pub(crate) fn mtu_within<'a>(members: &Members<'a>, steps: usize, member: &Member<'a>) -> u32
-    ensures { result ≡ down_bases mtu_over members.now steps member.now }
-{
-    if steps == 0 {
-        return mtu_over(member, None);
-    }
-    let below = match base_member(members, member) {
-        Some(base) => Some(mtu_within(members, steps - 1, base)),
-        None => None,
-    };
-    mtu_over(member, below)
-}
-
 fn stated_mac(member: &Member) -> Option<Mac>
     ensures { result ≡ stated_mac member.now }
 {
@@ -132,18 +94,4 @@ pub(crate) fn mac_over(member: &Member, below: Option<Mac>) -> Mac
             },
         },
     }
-}
-
-/// The MAC, looking so many bases down.
-pub(crate) fn mac_within<'a>(members: &Members<'a>, steps: usize, member: &Member<'a>) -> Mac
-    ensures { result ≡ down_bases mac_over members.now steps member.now }
-{
-    if steps == 0 {
-        return mac_over(member, None);
-    }
-    let below = match base_member(members, member) {
-        Some(base) => Some(mac_within(members, steps - 1, base)),
-        None => None,
-    };
-    mac_over(member, below)
 }

@@ -1,10 +1,10 @@
 //! The merged links: one rule for each field.
-ghost use Rattle.std.specs.Prelude.{◌≡◌, IfOk};
+ghost use Rattle.std.specs.Prelude.{◌≡◌, IfOk, length};
 ghost use Rattle.merge_model.specs.Merged.{merged_link, merged_links};
-ghost use Rattle.link_fields.specs.Bases.{Suits};
+ghost use Rattle.link_fields.specs.Bases.{SuitsWithin};
 
 use crate::addresses::addrs_of;
-use crate::bases::{Fields, fields_at, settle};
+use crate::bases::{Fields, all_fields};
 use crate::options::{bond_of, bridge_of, port_of};
 use link_members::Members;
 use link_order::Member;
@@ -17,7 +17,7 @@ fn merged_link(
     member: &Member,
     fields: Fields,
 ) -> Result<Link, AllocError>
-    requires { Suits members.now member.now fields }
+    requires { SuitsWithin members.now (length members.now) member.now fields }
     ensures { IfOk result (λ link. link ≡ merged_link members.now member.now) }
 {
     let addrs = addrs_of(alloc, members, member, fields.up)?;
@@ -40,12 +40,10 @@ pub fn merged_links(alloc: Global, members: &Members) -> Result<Vec<Link>, Alloc
     ensures { IfOk result (λ links. links.items ≡ merged_links members.now) }
 {
     let list = members.list();
-    let mut known = vec![in alloc; None; list.len()]?;
+    let fields = all_fields(alloc, members)?;
     let mut links = Vec::new(alloc);
     for at in 0..list.len() {
-        settle(alloc, members, &mut known, at)?;
-        let fields = fields_at(members, &known, at);
-        links.push(merged_link(alloc, members, &list[at], fields)?)?;
+        links.push(merged_link(alloc, members, &list[at], fields[at])?)?;
     }
     Ok(links)
 }
