@@ -11,13 +11,13 @@ ghost use Rattle.merge_model.specs.BrokenEntries.{duplicate_name};
 ghost use Rattle.merge_model.specs.Merge.{links_of};
 ghost use Rattle.merge_model.specs.Places.{at_rule, first_of};
 ghost use Rattle.merge_model.specs.Answers.{MergesLinks};
-ghost use Rattle.link_rules.specs.Rules.{entry_rules, port_rules, merged_rules};
+ghost use Rattle.link_rules.specs.Rules.{entry_rules, port_rules, shape_rules, merged_rules};
 
 use document_model::Doc;
 use link_fields::merged_links;
 use link_members::{Members, with_controllers, with_lifted};
 use link_order::{Entries, Member, members_by_rank};
-use link_rules::{Merged, entries_broken, merged_broken, ports_broken};
+use link_rules::{Merged, entries_broken, merged_broken, ports_broken, shape_broken};
 use merge_laws::merge_laws;
 use merge_model::MergeFault;
 use net_core::Net;
@@ -52,10 +52,10 @@ fn members<'a>(
 }
 
 // The names of the merged links differ, where the entries break no rule.
-fn names_differ_laws(net: &Net, entries: &Entries, links: &[Link])
+fn names_differ_laws(net: &Net, entries: &Entries, state: &Members)
     requires rules { first_of at_rule (entry_rules net.now.links entries.now) ≡ None }
-    requires links { links.now ≡ links_of net.now.links entries.now }
-    ensures { names_differ links.now ≡ true }
+    requires state { state.now ≡ members net.now.links entries.now }
+    ensures { names_differ (merged_links state.now) ≡ true }
 {
     net.laws();
     merge_laws();
@@ -73,7 +73,7 @@ fn merged(
     ensures { IfOk result (λ merged. merged ≡ links_of net.now.links entries.now) }
 {
     let links = merged_links(alloc, state)?;
-    names_differ_laws(net, entries, links.as_slice());
+    names_differ_laws(net, entries, state);
     Merged::of(alloc, links)
 }
 
@@ -92,6 +92,11 @@ fn merge_entries<'a>(
     let members = members(alloc, net, entries)?;
     let wrong = ports_broken(alloc, &members)?;
     if let Some(refused) = wrong {
+        return Err(MergeFault::Refused(refused));
+    }
+    names_differ_laws(net, entries, &members);
+    let stuck = shape_broken(alloc, &members)?;
+    if let Some(refused) = stuck {
         return Err(MergeFault::Refused(refused));
     }
     let merged = merged(alloc, net, entries, &members)?;

@@ -1,8 +1,10 @@
 mod Apart
 mod Below
+mod Candidates
 mod Claims
 mod Contradicted
 mod Differ
 mod Least
 mod NoCycle
+mod Outlines
 mod Primaries

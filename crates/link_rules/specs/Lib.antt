@@ -1,2 +1,4 @@
 pub mod Rules
 pub mod Rows
+pub mod Outline
+pub mod Candidates

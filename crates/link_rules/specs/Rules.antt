@@ -1,4 +1,4 @@
--- The rules 1 to 17 of the merge in three groups, the lesser of two names, and the order of addresses.
+-- The rules 1 to 17 of the merge in four groups, the lesser of two names, and the order of addresses.
 use Rattle.std.specs.Prelude.{ℕ, List, [], ◌∷◌, Option, Some, None, if◌then◌else◌}
 use Rattle.std.specs.declared.cmp.Ordering.{Ordering}
 use Rattle.std.specs.Ordering.{is_lt, on}
@@ -25,10 +25,14 @@ entry_rules links entries = (1, duplicate_name entries) ∷ (2, no_type links en
 abbrev pub port_rules : List Member → List (ℕ × Option Place)
 port_rules ms = (6, port_missing ms) ∷ (7, port_twice ms) ∷ (8, port_conflict ms) ∷ []
 
--- and of the merged links
+-- of the names, kinds and controllers of the merged links
+abbrev pub shape_rules : List Link → List (ℕ × Option Place)
+shape_rules merged = (9, port_kind merged) ∷ (10, bad_base merged) ∷ (11, cycle merged) ∷ []
+
+-- and of their fields
 abbrev pub merged_rules : List Member → List Link → List (ℕ × Option Place)
 merged_rules ms merged =
-    (9, port_kind merged) ∷ (10, bad_base merged) ∷ (11, cycle merged) ∷ (12, vlan_twin merged)
+    (12, vlan_twin merged)
     ∷ (13, base_down merged) ∷ (14, vlan_mtu merged) ∷ (15, bond_options merged) ∷ (16, port_address ms merged) ∷ (17, address_twice merged) ∷ []
 
 -- by the address alone

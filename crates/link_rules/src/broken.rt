@@ -1,14 +1,17 @@
 //! The least rule that is broken, group by group.
-ghost use Rattle.std.specs.Prelude.{◌≡◌, IfOk};
+ghost use Rattle.std.specs.Prelude.{◌≡◌, true, IfOk};
 ghost use Rattle.std.specs.Option.{option_map};
+ghost use Rattle.net_model.specs.Valid.{names_differ};
+ghost use Rattle.merge_model.specs.Merged.{merged_links};
 ghost use Rattle.merge_model.specs.Places.{at_rule, first_of};
-ghost use Rattle.link_rules.specs.Rules.{entry_rules, port_rules, merged_rules};
+ghost use Rattle.link_rules.specs.Rules.{entry_rules, port_rules, shape_rules, merged_rules};
 
 use crate::bonds::bond_options;
 use crate::broken_entries::{duplicate_name, missing_detail, no_device, no_type, physical_kind};
 use crate::broken_links::{bad_base, base_down, port_address, port_kind, vlan_mtu};
 use crate::dependence::cycle;
 use crate::merged::Merged;
+use crate::outline::outlines;
 use crate::ports::{port_conflict, port_missing, port_twice};
 use crate::twice::address_twice;
 use crate::twins::vlan_twin;
@@ -106,13 +109,9 @@ pub fn ports_broken(alloc: Global, members: &Members) -> Result<Option<Refused>,
     Ok(at(PORT_CONFLICT, port_conflict(members)))
 }
 
-/// The least of rules 9 to 17 that is broken, at its first place. The error is that memory is out.
-pub fn merged_broken(
-    alloc: Global,
-    members: &Members,
-    merged: &Merged,
-) -> Result<Option<Refused>, AllocError>
-    ensures { IfOk result (λ broken. broken ≡ first_of at_rule (merged_rules members.now merged.now)) }
+// The least of rules 9 to 11 that is broken, asked of links that may lack their fields.
+fn outlines_broken(alloc: Global, merged: &Merged) -> Result<Option<Refused>, AllocError>
+    ensures { IfOk result (λ broken. broken ≡ first_of at_rule (shape_rules merged.now)) }
 {
     if let Some(place) = port_kind(merged) {
         return Ok(Some(refused(PORT_KIND, place)));
@@ -120,10 +119,29 @@ pub fn merged_broken(
     if let Some(place) = bad_base(merged) {
         return Ok(Some(refused(BAD_BASE, place)));
     }
-    let on_cycle = cycle(alloc, merged)?;
-    if let Some(place) = on_cycle {
-        return Ok(Some(refused(CYCLE, place)));
-    }
+    Ok(at(CYCLE, cycle(alloc, merged)?))
+}
+
+/// The least of rules 9 to 11 that is broken, at its first place. They look at names, kinds and controllers alone, so that
+/// bases that lead round are refused before any field is followed along them. The error is that memory is out.
+pub fn shape_broken(alloc: Global, members: &Members) -> Result<Option<Refused>, AllocError>
+    requires { names_differ (merged_links members.now) ≡ true }
+    ensures { IfOk result (λ broken. broken ≡ first_of at_rule (shape_rules (merged_links members.now))) }
+{
+    let links = outlines(alloc, members)?;
+    let merged = Merged::of(alloc, links)?;
+    let broken = outlines_broken(alloc, &merged)?;
+    Ok(broken)
+}
+
+/// The least of rules 12 to 17 that is broken, at its first place. The error is that memory is out.
+pub fn merged_broken(
+    alloc: Global,
+    members: &Members,
+    merged: &Merged,
+) -> Result<Option<Refused>, AllocError>
+    ensures { IfOk result (λ broken. broken ≡ first_of at_rule (merged_rules members.now merged.now)) }
+{
     let twin = vlan_twin(alloc, merged.links())?;
     if let Some(place) = twin {
         return Ok(Some(refused(VLAN_TWIN, place)));

@@ -10,8 +10,12 @@ mod broken;
 mod broken_entries;
 // The rules 9, 10, 13, 14 and 16 of the merge, which are asked of the merged links, mentioned or not.
 mod broken_links;
+// Numbers of the strongly connected components of a graph.
+mod components;
 // The merged links, found by their names.
 mod merged;
+// The merged links before their fields.
+mod outline;
 // The rules 6 to 8 of the merge, which are asked of claims and lists of ports.
 mod ports;
 // The rule 11 of the merge: whether a link depends on itself, through any others.
@@ -21,5 +25,5 @@ mod twice;
 // The rule 12 of the merge: two VLANs agree in base, protocol and number.
 mod twins;
 
-pub use broken::{entries_broken, merged_broken, ports_broken};
+pub use broken::{entries_broken, merged_broken, ports_broken, shape_broken};
 pub use merged::Merged;
