@@ -124,7 +124,8 @@ class Program:
         self.requests, self.answers = requests, answers
 
     def status(self):
-        """As a shell tells it: 128 and the signal's number where one ended it."""
+        """As a shell tells it: 128 and the signal's number where one ended it. Nothing is heard or answered any more."""
+        os.close(self.requests)
         os.close(self.answers)
         status = self.process.wait()
         return status if status >= 0 else 128 - status
