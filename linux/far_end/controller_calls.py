@@ -127,6 +127,7 @@ def detach(machine, port):
     kind = machine.network.links[controller].kind
     if kind != "bridge":
         machine.spare_in_closing([port])
+    machine.spare_hidden([port])
     forget_primary(machine, port, controller)
     machine.run([set_link(port, "nomaster")], 13)
     machine.network.lead(port, None)

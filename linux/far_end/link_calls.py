@@ -1,5 +1,5 @@
 """Calls on links: made and deleted, up and down, MTU and MAC address."""
-from .controller_calls import after_moving, forget_primary, leave_and_enter, set_primary
+from .controller_calls import after_moving, forget_primary, leave_and_enter
 from .errors import Refused
 from .machine import set_link
 from .profile import BOND_MODES, VLAN_PROTOCOLS, Link, PortOptions, default_mac
@@ -55,6 +55,7 @@ def del_link(machine, name):
     machine.spare_in_deleting(ends)
     if link.kind in ("bond", "vrf"):
         machine.spare_in_closing(ports)
+    machine.spare_hidden(ports)
     left = [(it, network.links[it].controller) for it in gone if network.links[it].controller not in (None, *gone)]
     for port, controller in left:
         forget_primary(machine, port, controller)
@@ -71,6 +72,7 @@ def remove(machine, gone, ports):
     for name in gone:
         machine.network.take(name)
         machine.untold.lines.pop(name, None)
+        machine.untold.hidden.pop(name, None)
         machine.stated.discard(name)
         machine.pinned.discard(name)
     for port in ports:
@@ -92,6 +94,7 @@ def up(machine, name):
     link, network = machine.network.links[name], machine.network
     down = []
     if not link.is_up:
+        machine.spare_hidden([name])
         down = sorted(network.vlans.get(name, ()))
         down += [it.name for it in machine.untold.strangers.get(name, ()) if it.is_vlan_over and not it.is_up]
     machine.run([set_link(name, "up"), *(set_link(it, "down") for it in down)], 17)

@@ -143,10 +143,13 @@ def read_addresses(link, raws, say):
 
 
 def drop_addresses(link, links, say):
-    """Takes out the addresses that a valid network can't have there."""
+    """Takes out the addresses that a valid network can't have there, and gives them."""
+    dropped = []
     is_port = link.controller and links[link.controller].kind in ("bond", "bridge")
     for it in sorted(link.addresses):
         twice = sum(other.address == it.address for other in link.addresses) > 1
         if is_port or twice or len(it.address) == 16 and not link.is_up:
             say(f"{link.name} {it}", "an address on a port" if is_port else "an address that stands twice" if twice else "IPv6 on a link that is down")
             link.addresses.discard(it)
+            dropped.append(it)
+    return dropped

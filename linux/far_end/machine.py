@@ -30,6 +30,7 @@ class Untold:
     """What the machine has that the profile can't say, and that is left as it is."""
     strangers: dict = field(default_factory=dict)       # lists of Stranger, by the link that they stand on or in
     lines: dict = field(default_factory=dict)           # lines that put addresses and routes back, by link
+    hidden: dict = field(default_factory=dict)          # addresses that a port, or a link that is down, can't have, by link
     fixed: set = field(default_factory=set)             # devices with routes that no line could put back
     rules: set = field(default_factory=set)             # priority, family and target of rules
     dns: list = field(default_factory=list)             # lines of resolv.conf
@@ -63,7 +64,7 @@ class Machine:
             network.put(link)
         for name, link in network.links.items():
             untold.lines[name] = read_addresses(link, raws[name].get("addr_info", []), self.say_left_out)
-            drop_addresses(link, network.links, self.say_left_out)
+            untold.hidden[name] = drop_addresses(link, network.links, self.say_left_out)
         untold.strangers = strangers_of(raws, network.links)
         for family, ipv6 in (("-4", False), ("-6", True)):
             # By number (-N): names of tables and protocols are the machine's own.
@@ -125,6 +126,12 @@ class Machine:
                     raise Refused(10, f"{name} has {it.name} on it, which isn't told")
             if name in self.untold.fixed:
                 raise Refused(10, f"{name} has a route that isn't told and couldn't be put back")
+
+    def spare_hidden(self, names):
+        """Refuses a call after which addresses would be told that aren't: of ports that leave a controller, and of links that go up."""
+        for name in names:
+            for it in self.untold.hidden.get(name, ()):
+                raise Refused(10, f"{name} has {it}, which isn't told while it is a port, or down")
 
     def spare_in_deleting(self, names):
         """Refuses a call that deletes links, where something that isn't told stands on or in them."""

@@ -6,6 +6,8 @@ import sys
 import traceback
 
 CLONE_NEWNS, CLONE_NEWNET = 0x00020000, 0x40000000
+# The process that holds the namespace of the other ends.
+HOLDER = None
 DEVICES = ("eth1", "eth2", "eth3", "eth4")
 
 
@@ -25,8 +27,9 @@ def unshare(flags):
 
 
 def enter(devices=DEVICES):
-    """Puts this process in a new namespace with such devices, down, each with a MAC address of its own. Gives the process that holds
-    the other one; it ends with this one."""
+    """Puts this process in a new namespace with such devices, down, each with a MAC address of its own. What holds the other one ends
+    with this process."""
+    global HOLDER
     unshare(CLONE_NEWNET | CLONE_NEWNS)
     sh("mount --make-rprivate / && mount -t sysfs sys /sys")
     holder = subprocess.Popen(["unshare", "-n", "cat"], stdin=subprocess.PIPE, stdout=subprocess.DEVNULL)
@@ -37,7 +40,7 @@ def enter(devices=DEVICES):
              for at, name in enumerate(devices, 1)]
     ip([line for pair in lines for line in pair])
     ip([f"link set far{at} up" for at, _ in enumerate(devices, 1)], "nsenter", "-t", str(holder.pid), "-n")
-    return holder
+    HOLDER = holder
 
 
 def apart(work, *arguments):
@@ -47,9 +50,9 @@ def apart(work, *arguments):
     if pid == 0:
         status = 1
         try:
-            holder = enter()
+            enter()
             status = work(*arguments)
-            holder.stdin.close()
+            HOLDER.stdin.close()
         except BaseException:
             traceback.print_exc()
         finally:

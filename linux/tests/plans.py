@@ -1,0 +1,176 @@
+"""Plans: calls that the shipped program plans between networks, made by the far end without a look in between, and compared behind each
+plan with what the model, and the program's `simulate`, say of the same lines.
+
+usage: plans.py draw FOLDER PROGRAM SERIES PLANS [SEED]   plans between drawn networks, and those of the tasks in examples/ one after
+                                                          another, as files of FOLDER; says of each whether simulate and the model agree
+       plans.py others FOLDER                             keeps the network of links by other hands, for plans among them
+       plans.py run FOLDER                                makes them here, in namespaces of their own"""
+import copy
+import itertools
+import json
+import pathlib
+import random
+import subprocess
+import sys
+import tempfile
+
+sys.dont_write_bytecode = True
+sys.path.insert(0, str(pathlib.Path(__file__).resolve().parent.parent))
+
+from far_end import requests, serving                           # noqa: E402
+from far_end.image import image_of                              # noqa: E402
+from far_end.machine import Machine                             # noqa: E402
+from far_end.profile import Link, Network, default_mac          # noqa: E402
+from tests import model, room                                   # noqa: E402
+from tests.calls import OTHERS, difference                      # noqa: E402
+from tests.draw import Draw                                     # noqa: E402
+from tests.images import read_image, store                      # noqa: E402
+
+TASKS = pathlib.Path(__file__).resolve().parents[2] / "examples" / "tasks"
+CALLS_A_PLAN = 14
+
+
+class Program:
+    """The shipped program, on a state that is written for each question."""
+
+    def __init__(self, path, folder):
+        self.path, self.folder = path, folder
+
+    def ask(self, network, words, given=""):
+        state = store(f"{self.folder}/state", image_of(network))
+        ran = subprocess.run([self.path, "--state", state, *words], input=given, capture_output=True, text=True, check=False)
+        return ran.returncode, ran.stdout, ran.stderr
+
+
+def bare():
+    """The devices of a room."""
+    network = Network()
+    for at, name in enumerate(room.DEVICES, 1):
+        network.put(Link(name, "ethernet", bytes((0x52, 0x54, 0, 0, 0, at)), permanent_mac=default_mac(name)))
+    return network
+
+
+def after(network, lines):
+    """What the model says of lines."""
+    network = copy.deepcopy(network)
+    for line in lines:
+        call, *arguments = requests.read_call(line)
+        assert model.accepts(network, (getattr(model, call.__name__), *arguments)), line
+    return network
+
+
+def planned(program, network, document):
+    """The lines of a plan and the network behind them; none where the document can't be merged."""
+    status, out, _ = program.ask(network, ["plan", "--batch"], document)
+    if status:
+        return None
+    lines = out.splitlines()
+    then = after(network, lines)
+    status, simulated, errors = program.ask(network, ["simulate"], out)
+    shown = program.ask(then, ["show"])[1]
+    assert status == 0 and simulated == shown, f"simulate and the model differ: {errors}"
+    return lines, then
+
+
+def drawn_document(program, rng, network):
+    """A network some calls away, as a document; what isn't there is absent."""
+    target = copy.deepcopy(network)
+    draw = Draw(rng, target)
+    for _ in range(CALLS_A_PLAN):
+        draw.call()
+    document = json.loads(program.ask(target, ["show", "--json"])[1])
+    document["interfaces"] += [{"name": it, "state": "absent"} for it in network.links if it not in target.links and network.links[it].kind != "ethernet"]
+    return json.dumps(document)
+
+
+def drawn_series(program, seed, count, start):
+    rng, network, plans = random.Random(seed), copy.deepcopy(start), []
+    while len(plans) < count:
+        found = planned(program, network, drawn_document(program, rng, network))
+        if found and found[0]:
+            plans.append({"lines": found[0], "image": image_of(found[1]).hex()})
+            network = found[1]
+    return plans
+
+
+def task_series(program, pair):
+    network, plans = bare(), []
+    for path in pair:
+        found = planned(program, network, path.read_text(encoding="utf-8"))
+        if found is None:
+            return None
+        plans.append({"lines": found[0], "image": image_of(found[1]).hex()})
+        network = found[1]
+    return plans
+
+
+def draw(folder, path, count, plans, first=0):
+    folder = pathlib.Path(folder)
+    folder.mkdir(exist_ok=True)
+    others = read_image(bytes.fromhex((folder / "others.hex").read_text())) if (folder / "others.hex").exists() else None
+    with tempfile.TemporaryDirectory() as room_folder:
+        program = Program(path, room_folder)
+        for seed in range(int(first), int(first) + int(count)):
+            by_others = bool(seed % 2 and others)
+            found = drawn_series(program, seed, int(plans), others if by_others else bare())
+            (folder / f"plans-{seed}.json").write_text(json.dumps({"others": by_others, "plans": found}), encoding="utf-8")
+        tasks = sorted(it for it in TASKS.glob("*.yml") if it.name != "hardware.yml")
+        drawn = 0
+        for at, pair in enumerate(itertools.permutations(tasks, 2)):
+            found = task_series(program, pair)
+            if found:
+                drawn += 1
+                (folder / f"tasks-{at}.json").write_text(json.dumps({"others": False, "names": [it.stem for it in pair], "plans": found}), encoding="utf-8")
+    print(f"drawn: {count} series, {drawn} pairs of tasks; simulate and the model agree on each plan")
+    return 0
+
+
+def one(path, results):
+    series = json.loads(path.read_text(encoding="utf-8"))
+    bad, calls, refused = [], 0, 0
+    with tempfile.TemporaryDirectory() as folder:
+        if series["others"]:
+            room.ip(OTHERS.strip().splitlines())
+        machine = Machine(f"{folder}/resolv.conf")
+        for at, plan in enumerate(series["plans"]):
+            for line in plan["lines"]:
+                answer = serving.answer(machine, line)
+                calls += 1
+                if answer != b"+":
+                    refused += 1
+                    bad.append(f"    refused in plan {at}: {line} {answer!r}")
+                    break
+            kept = difference(image_of(machine.network), bytes.fromhex(plan["image"])) if machine.is_known else []
+            found = [*kept, *difference(machine.dump(), bytes.fromhex(plan["image"]))]
+            bad += [f"    after plan {at}", *found] if found else []
+            if bad:
+                break
+    results.write_text(json.dumps([len(series["plans"]), calls, refused, bool(bad)]), encoding="utf-8")
+    if bad:
+        print(f"{path.stem} {series.get('names', '')}", *bad, sep="\n", flush=True)
+    return 1 if bad else 0
+
+
+def run(folder):
+    told = {}
+    for path in sorted(pathlib.Path(folder).glob("*-*.json")):
+        results = path.with_suffix(".told")
+        room.apart(one, path, results)
+        told.setdefault(path.name.partition("-")[0], []).append(json.loads(results.read_text(encoding="utf-8")) if results.exists() else [0, 0, 0, True])
+    for kind, rows in told.items():
+        plans, calls, refused, bad = (sum(it) for it in zip(*rows))
+        print(f"{kind}: {len(rows)} series, {plans} plans, {calls} calls, {refused} refused, {bad} series with a difference")
+    return 1 if any(row[3] for rows in told.values() for row in rows) else 0
+
+
+def others(folder):
+    """Keeps the network of links by other hands, for plans among them."""
+    room.ip(OTHERS.strip().splitlines())
+    with tempfile.TemporaryDirectory() as it:
+        (pathlib.Path(folder) / "others.hex").write_text(Machine(f"{it}/resolv.conf").dump().hex(), encoding="ascii")
+    return 0
+
+
+if __name__ == "__main__":
+    verb, *words = sys.argv[1:]
+    sys.exit(room.apart(others, *words) if verb == "others" else {"draw": draw, "run": run}[verb](*words))
