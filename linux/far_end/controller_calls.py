@@ -16,6 +16,7 @@ def set_primary(machine, bond, port):
             file.write((port or "") + "\n")
     except OSError as e:
         raise Refused(14, f"primary of {bond}: {e.strerror}") from None
+    machine.has_changed = True
     link = machine.network.links[bond]
     link.bond = link.bond._replace(primary=port)
 
@@ -108,15 +109,14 @@ def port_line(port, options):
 
 def attach(machine, port, controller):
     link = machine.network.links[controller]
-    lines = [set_link(port, "master", controller)]
-    if link.kind == "bridge":
-        lines.append(port_line(port, PortOptions()))
-    else:
+    if link.kind != "bridge":
         machine.spare_in_closing([port])
     if link.kind == "bond" and link.mode in MODES_WITH_PRIMARY and not link.bond.primary:
         set_primary(machine, controller, None)
-    machine.run(lines, 10)
+    machine.run([set_link(port, "master", controller)], 10)
     machine.network.lead(port, controller)
+    if link.kind == "bridge":
+        machine.mend([port_line(port, PortOptions())])
     after_moving(machine, port, link.kind, controller)
 
 

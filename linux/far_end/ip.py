@@ -6,7 +6,7 @@ import select
 import subprocess
 import sys
 
-from .errors import Fault, Refused
+from .errors import Fault
 
 # Characters that a line of `ip -batch` doesn't carry: a comment, quotes, and an escape.
 UNSAYABLE = set("#\"'\\")
@@ -147,5 +147,5 @@ class Batch:
         new = os.read(file, 65536)
         if not new:
             self.close()
-            raise Refused(14, "ip ended: " + before.decode("utf-8", "replace").strip())
+            raise Fault("ip ended: " + before.decode("utf-8", "replace").strip())
         return new

@@ -36,15 +36,14 @@ def add_link(machine, link):
         raise Refused(2, "% in a link's name is a pattern for Linux")
     is_bridge = link.kind == "bridge"
     base = ["link", link.base] if link.kind == "vlan" else []
-    lines = [["link", "add", *base, "name", link.name, "address", write_mac(link.mac), "mtu", OTHER_MTU if is_bridge else str(link.mtu),
-              "type", link.kind, *kind_words(links)]]
-    if is_bridge:
-        lines.append(set_link(link.name, "mtu", str(link.mtu)))
-        machine.pinned.add(link.name)
-    machine.run(lines, 2)
+    machine.run([["link", "add", *base, "name", link.name, "address", write_mac(link.mac), "mtu", OTHER_MTU if is_bridge else str(link.mtu),
+                  "type", link.kind, *kind_words(links)]], 2)
     for it in links:
         machine.network.put(it)
         machine.stated.add(it.name)
+    if is_bridge:
+        machine.pinned.add(link.name)
+        machine.mend(machine.mtu_lines([link.name]))
 
 
 def del_link(machine, name):

@@ -5,7 +5,7 @@ from dataclasses import dataclass, field
 from typing import NamedTuple
 
 from .dns import read_dns
-from .errors import Refused
+from .errors import Fault, Refused
 from .image import image_of
 from .ip import Commands
 from .links import drop_addresses, read_addresses, read_links
@@ -44,6 +44,8 @@ class Machine:
         self.ip = Commands(wait, verbose)
         self.network, self.untold = Network(), Untold()
         self.is_known = False
+        # Whether the call that is being made changed something already.
+        self.has_changed = False
         # Links whose MAC address was stated, and bridges whose MTU was: Linux changes them by itself before, and not after.
         self.stated, self.pinned = set(), set()
         self.said = set()
@@ -85,8 +87,11 @@ class Machine:
     # Running
 
     def run(self, lines, number, ipv6=False):
-        """Runs the lines of a call. Where one fails the call is refused with this number."""
-        for line, words in self.ip.run(lines, ipv6):
+        """Runs the lines of a call. Where one fails the call is refused with this number. Those behind it are run all the same, so what
+        makes no sense without it belongs in a run of its own."""
+        failed = self.ip.run(lines, ipv6)
+        self.has_changed |= len(failed) < len(lines)
+        for line, words in failed:
             raise Refused(number, f"ip {' '.join(line)}: {words}")
 
     def mend(self, lines, untold=()):
@@ -96,7 +101,7 @@ class Machine:
         for line, words in failed:
             print(f"not put back: ip {' '.join(line)}: {words}", file=sys.stderr, flush=True)
         if any(id(line) in own for line, _ in failed):
-            raise Refused(14, "what went with it couldn't be put back")
+            raise Fault("what went with a call couldn't be put back")
 
     # Lines that state what is known of links
 

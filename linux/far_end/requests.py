@@ -142,13 +142,15 @@ def read_call(line):
 
 
 def make_call(machine, line):
-    """Makes a call. Whatever is refused or fails ends what is known: the next call reads first."""
+    """Makes a call. Whatever is refused or fails ends what is known: the next call reads first. A refusal says that nothing was changed,
+    so a call that is refused half way is a fault."""
     call, *arguments = read_call(line)
     if not machine.is_known:
         machine.read()
-    machine.is_known = False
+    machine.is_known = machine.has_changed = False
     try:
         call(machine, *arguments)
-    except KeyError as e:
-        raise Refused(1, f"no link {e}") from None
+    except (KeyError, Refused) as e:
+        refused = e if isinstance(e, Refused) else Refused(1, f"no link {e}")
+        raise Fault(f"half done: {refused}") if machine.has_changed else refused from None
     machine.is_known = True

@@ -146,7 +146,7 @@ def bad_dump(folder, mode):
 
 
 def dead_batch(folder):
-    return check(Case("dead_batch", folder, "30", True), heard=["2d0e", DONE], made=1)
+    return check(Case("dead_batch", folder, "30", True), heard=[FAULT, DONE], made=1)
 
 
 STRANGE = {"empty": b"", "bytes": bytes(range(1, 10)) + bytes(range(128, 256)), "NUL": b"\0" + CALLS[0].encode(), "half a call": b"link add name br9",
