@@ -15,7 +15,7 @@ from far_end import serving                                     # noqa: E402
 from far_end.image import image_of                              # noqa: E402
 from far_end.machine import Machine                             # noqa: E402
 from tests import model, room                                   # noqa: E402
-from tests.draw import Draw                                     # noqa: E402
+from tests.draw import NAMES, Draw                                  # noqa: E402
 from tests.images import read_image                             # noqa: E402
 
 # Links by other hands: their MAC addresses and MTUs follow those of ports and bases, and ports of a bond have its MAC address.
@@ -62,10 +62,11 @@ class Series:
         self.machine = Machine(f"{folder}/resolv.conf")
         self.first = self.machine.dump()
         self.network = read_image(self.first)
+        self.kinds = [it for it in NAMES if room.has(it)]
         self.lines, self.refused = [], []
 
     def make(self):
-        call = Draw(self.rng, self.network).call()
+        call = Draw(self.rng, self.network, self.kinds).call()
         line = model.spell(call)
         self.lines.append(line)
         answer = serving.answer(self.machine, line)
@@ -85,7 +86,7 @@ class Series:
 def series(seed, count, results):
     with tempfile.TemporaryDirectory() as folder:
         if seed % 2:
-            room.ip(OTHERS.strip().splitlines())
+            room.ip_some(OTHERS.strip().splitlines())
         it = Series(seed, folder)
         while len(it.lines) < count:
             is_made = it.make()

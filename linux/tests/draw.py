@@ -16,8 +16,8 @@ METRICS = (0, 100, 1024)
 class Draw:
     """Draws calls on a network, which it changes as the model does."""
 
-    def __init__(self, rng, network):
-        self.rng, self.network = rng, network
+    def __init__(self, rng, network, kinds=tuple(NAMES)):
+        self.rng, self.network, self.kinds = rng, network, sorted(kinds)
 
     def name(self, *kinds):
         names = [it.name for it in self.network.links.values() if not kinds or it.kind in kinds]
@@ -29,7 +29,7 @@ class Draw:
     # Links
 
     def add_link(self):
-        kind = self.rng.choice(sorted(NAMES))
+        kind = self.rng.choice(self.kinds)
         link = Link(self.rng.choice(NAMES[kind]), kind, b"")
         link.mac = default_mac(link.name)
         if kind == "bond":

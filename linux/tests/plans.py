@@ -1,8 +1,9 @@
 """Plans: calls that the shipped program plans between networks, made by the far end without a look in between, and compared behind each
 plan with what the model, and the program's `simulate`, say of the same lines.
 
-usage: plans.py draw FOLDER PROGRAM SERIES PLANS [SEED]   plans between drawn networks, and those of the tasks in examples/ one after
-                                                          another, as files of FOLDER; says of each whether simulate and the model agree
+usage: plans.py draw FOLDER PROGRAM SERIES PLANS [SEED]   plans between drawn networks, those of the tasks in examples/ one after another,
+                                                          and those that are stopped behind each call and led back, as files of
+                                                          FOLDER; says of each whether simulate and the model agree
        plans.py others FOLDER                             keeps the network of links by other hands, for plans among them
        plans.py run FOLDER                                makes them here, in namespaces of their own"""
 import copy
@@ -104,6 +105,23 @@ def task_series(program, pair):
     return plans
 
 
+def back_series(program, network, path):
+    """A plan that is stopped behind each of its calls in turn, each time with the plan back to what was before; as pairs of plans."""
+    found = planned(program, network, path.read_text(encoding="utf-8"))
+    if found is None:
+        return None
+    first, plans = image_of(network).hex(), []
+    before = json.loads(program.ask(network, ["show", "--json"])[1])
+    for at in range(1, len(found[0]) + 1):
+        then = after(network, found[0][:at])
+        new = [{"name": it, "state": "absent"} for it in then.links if it not in network.links]
+        way = planned(program, then, json.dumps({**before, "interfaces": before["interfaces"] + new}))
+        if way is None or image_of(way[1]).hex() != first:
+            return None
+        plans += [{"lines": found[0][:at], "image": image_of(then).hex()}, {"lines": way[0], "image": first, "anew": True}]
+    return plans
+
+
 def draw(folder, path, count, plans, first=0):
     folder = pathlib.Path(folder)
     folder.mkdir(exist_ok=True)
@@ -121,6 +139,11 @@ def draw(folder, path, count, plans, first=0):
             if found:
                 drawn += 1
                 (folder / f"tasks-{at}.json").write_text(json.dumps({"others": False, "names": [it.stem for it in pair], "plans": found}), encoding="utf-8")
+        for at, path in enumerate(tasks):
+            for name, network in (("bare", bare()), ("others", others)):
+                found = network and back_series(program, network, path)
+                if found:
+                    (folder / f"stopped-{at}-{name}.json").write_text(json.dumps({"others": name == "others", "names": [path.stem, name], "plans": found}), encoding="utf-8")
     print(f"drawn: {count} series, {drawn} pairs of tasks; simulate and the model agree on each plan")
     return 0
 
@@ -130,9 +153,11 @@ def one(path, results):
     bad, calls, refused = [], 0, 0
     with tempfile.TemporaryDirectory() as folder:
         if series["others"]:
-            room.ip(OTHERS.strip().splitlines())
+            room.ip_some(OTHERS.strip().splitlines())
         machine = Machine(f"{folder}/resolv.conf")
         for at, plan in enumerate(series["plans"]):
+            if plan.get("anew"):                # as a far end that starts behind one that was killed
+                machine = Machine(f"{folder}/resolv.conf")
             for line in plan["lines"]:
                 answer = serving.answer(machine, line)
                 calls += 1
@@ -165,7 +190,7 @@ def run(folder):
 
 def others(folder):
     """Keeps the network of links by other hands, for plans among them."""
-    room.ip(OTHERS.strip().splitlines())
+    room.ip_some(OTHERS.strip().splitlines())
     with tempfile.TemporaryDirectory() as it:
         (pathlib.Path(folder) / "others.hex").write_text(Machine(f"{it}/resolv.conf").dump().hex(), encoding="ascii")
     return 0

@@ -20,6 +20,17 @@ def ip(lines, *before):
     subprocess.run([*before, "ip", "-batch", "-"], input="".join(it + "\n" for it in lines), text=True, check=True)
 
 
+def has(kind):
+    """Whether the kernel has a kind of links."""
+    words = {"bond": "type bond", "vlan": "link eth1 type vlan id 9", "vrf": "type vrf table 999", "veth": "type veth peer name try1"}.get(kind, f"type {kind}")
+    return not sh(f"ip link add name try0 {words} 2>&1 && ip link del try0", check=False)
+
+
+def ip_some(lines):
+    """As ip, and what the kernel lacks is passed over."""
+    subprocess.run(["ip", "-force", "-batch", "-"], input="".join(it + "\n" for it in lines), text=True, check=False, capture_output=True)
+
+
 def unshare(flags):
     libc = ctypes.CDLL(None, use_errno=True)
     if libc.unshare(flags):

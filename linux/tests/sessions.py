@@ -256,14 +256,9 @@ CASES = {
 }
 
 
-def lacks(kind):
-    """Whether the kernel lacks a kind of links."""
-    return kind and bool(room.sh(f"ip link add lacking type {kind} 2>&1 && ip link del lacking", check=False))
-
-
 def one(program, title):
     case, kind = CASES[title]
-    if lacks(kind):
+    if kind and not room.has(kind):
         print(f"skipped {title}: this kernel has no {kind}", flush=True)
         return 0
     with tempfile.TemporaryDirectory() as folder:

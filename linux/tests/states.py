@@ -17,7 +17,7 @@ from far_end.image import image_of                              # noqa: E402
 from far_end.machine import Machine                             # noqa: E402
 from tests import model, room                                   # noqa: E402
 from tests.calls import difference                              # noqa: E402
-from tests.draw import Draw                                     # noqa: E402
+from tests.draw import NAMES, Draw                                  # noqa: E402
 from tests.images import read_image                             # noqa: E402
 
 UP = "ip link set eth1 up; ip link set eth2 up; ip address add 192.168.1.2/24 dev eth1; ip address add 2001:db8:1::2/64 dev eth1; "
@@ -106,8 +106,8 @@ class Look:
 class Beside(Draw):
     """Calls that don't themselves take away what isn't told: no link of the beginning is closed or deleted."""
 
-    def __init__(self, rng, network):
-        super().__init__(rng, network)
+    def __init__(self, rng, network, kinds):
+        super().__init__(rng, network, kinds)
         self.first = set(network.links)
 
     def call(self):
@@ -137,11 +137,12 @@ def state(title, count, results):
         rng = random.Random(title)
         machine = Machine(f"{folder}/resolv.conf")
         network = read_image(look.image)
+        kinds = [it for it in NAMES if room.has(it)]
         refused, made = [], 0
         errors = io.StringIO()
         for _ in range(count):
             before = copy.deepcopy(network)
-            line = model.spell(Beside(rng, network).call())
+            line = model.spell(Beside(rng, network, kinds).call())
             with contextlib.redirect_stderr(errors):
                 answer = serving.answer(machine, line)
                 image = machine.dump()
