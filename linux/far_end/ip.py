@@ -34,7 +34,7 @@ class Commands:
             if stream:
                 stream.close()
         self.late = process
-        raise Fault(f"ip gave no answer for {self.wait} seconds")
+        raise Fault(f"ip gave no answer for {self.wait:g} seconds")
 
     def settle(self):
         """Waits for an `ip` that gave no answer."""
@@ -48,8 +48,9 @@ class Commands:
     def finished(self, words):
         """Runs one `ip` to its end: its status, what it printed, and what it said on standard error."""
         self.say(words)
-        process = subprocess.Popen(words, stdin=subprocess.DEVNULL, stdout=subprocess.PIPE, stderr=subprocess.PIPE, text=True,
-                                   start_new_session=True)
+        # A name may be no UTF-8.
+        process = subprocess.Popen(words, stdin=subprocess.DEVNULL, stdout=subprocess.PIPE, stderr=subprocess.PIPE, encoding="utf-8",
+                                   errors="surrogateescape", start_new_session=True)
         try:
             out, err = process.communicate(timeout=self.wait)
         except subprocess.TimeoutExpired:

@@ -19,7 +19,7 @@ PROGRAM = "nmstatectl_peer"
 # The descriptors over which the program asks and hears.
 REQUESTS, ANSWERS = 3, 4
 # Statuses of our own: beside those of the program, which docs/COMMANDS.md lists.
-USAGE, NO_PROGRAM = 2, 70
+USAGE, NOT_STARTED = 2, 70
 HOST_FAULTS = (4, 5, 10)
 # Descriptors above those that the program takes.
 HIGH = 10
@@ -174,11 +174,14 @@ def main(words):
         say(f"nmstatectl-linux: {e} isn't an option of its form; --help prints them")
         return USAGE
     if options.netns:
+        if not os.path.exists(f"/run/netns/{options.netns}"):
+            say(f"nmstatectl-linux: there is no network namespace {options.netns}: ip netns list has those that have names")
+            return NOT_STARTED
         enter_namespace(options, rest)
     path = find_program(options.program)
     if path is None:
         say(f"nmstatectl-linux: there is no {PROGRAM}: build it (rt ci {PROGRAM}), or name it with --program")
-        return NO_PROGRAM
+        return NOT_STARTED
     # A change from afar goes on when the line hangs up. The program and ip inherit that.
     signal.signal(signal.SIGHUP, signal.SIG_IGN)
     return run(options, path, rest)

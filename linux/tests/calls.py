@@ -30,7 +30,7 @@ link add v1 link b0 type vlan id 1
 link set v1 up
 link add v2 link eth1 type vlan id 2
 link set v2 mtu 1400
-link add r0 type vrf table 300
+link add r0 address 02:00:00:00:00:77 type vrf table 300
 link set r0 up
 link set eth4 master r0
 link set eth4 up

@@ -4,6 +4,7 @@ plan with what the model, and the program's `simulate`, say of the same lines.
 usage: plans.py draw FOLDER PROGRAM SERIES PLANS [SEED]   plans between drawn networks, those of the tasks in examples/ one after another,
                                                           and those that are stopped behind each call and led back, as files of
                                                           FOLDER; says of each whether simulate and the model agree
+       plans.py recorded FOLDER                           the plans that the sessions in examples/ print, likewise
        plans.py others FOLDER                             keeps the network of links by other hands, for plans among them
        plans.py run FOLDER                                makes them here, in namespaces of their own"""
 import copy
@@ -28,6 +29,9 @@ from tests.draw import Draw                                     # noqa: E402
 from tests.images import read_image, store                      # noqa: E402
 
 TASKS = pathlib.Path(__file__).resolve().parents[2] / "examples" / "tasks"
+SESSIONS = TASKS.parent / "sessions"
+PRINTED = {"add-link", "del-link", "up", "down", "set-mtu", "set-mac", "set-bond", "set-bridge", "attach", "detach", "set-port", "add-address",
+           "del-address", "add-route", "del-route", "add-rule", "del-rule", "set-dns"}
 CALLS_A_PLAN = 14
 
 
@@ -122,6 +126,48 @@ def back_series(program, network, path):
     return plans
 
 
+def batch_line(line):
+    """The line of a printed call in the manner of ip(8)."""
+    name, *words = line.split()
+    kinds = {"bond": "type bond mode {}", "bridge": "type bridge", "vrf": "type vrf table {}", "dummy": "type dummy", "veth": "type veth peer name {}"}
+    if name == "add-link" and words[1] == "vlan":
+        return f"link add link {words[2]} name {words[0]} type vlan protocol {words[4].replace('q', 'Q')} id {words[3]}"
+    if name == "add-link":
+        return f"link add name {words[0]} " + kinds[words[1]].format(*words[2:])
+    if name in ("add-route", "del-route"):
+        via = f" via {words[6]}" if "via" in words else ""
+        return f"route {name[:3]} {words[0]}{via} dev {words[-1]} table {words[2]} metric {words[4]}"
+    forms = {"del-link": "link del dev {}", "up": "link set dev {} up", "down": "link set dev {} down", "set-mtu": "link set dev {} mtu {}",
+             "set-mac": "link set dev {} address {}", "attach": "link set dev {} master {}", "detach": "link set dev {} nomaster",
+             "add-address": "address add {1} dev {0}", "del-address": "address del {1} dev {0}"}
+    return forms[name].format(*words) if name in forms else f"#! {line}"
+
+
+def recorded(folder):
+    """The plans that the sessions in examples/ print, which the gate compares with what the program prints."""
+    folder = pathlib.Path(folder)
+    folder.mkdir(exist_ok=True)
+    drawn = 0
+    for path in sorted(SESSIONS.glob("*.session")):
+        network, plans, names = bare(), [], []
+        for part in path.read_text(encoding="utf-8").split("$ ")[1:]:
+            command, *printed = part.splitlines()
+            calls = [it for it in printed if it.split(" ")[0] in PRINTED]
+            if not command.startswith("nmstatectl plan ") or "--batch" in command or not calls:
+                continue
+            try:
+                network = after(network, map(batch_line, calls))
+            except AssertionError:              # it follows on what another command of the session made
+                continue
+            plans.append({"lines": list(map(batch_line, calls)), "image": image_of(network).hex()})
+            names.append(command.split()[-1])
+        drawn += len(plans)
+        if plans:
+            (folder / f"recorded-{path.stem}.json").write_text(json.dumps({"others": False, "names": names, "plans": plans}), encoding="utf-8")
+    print(f"recorded: {drawn} plans")
+    return 0
+
+
 def draw(folder, path, count, plans, first=0):
     folder = pathlib.Path(folder)
     folder.mkdir(exist_ok=True)
@@ -198,4 +244,4 @@ def others(folder):
 
 if __name__ == "__main__":
     verb, *words = sys.argv[1:]
-    sys.exit(room.apart(others, *words) if verb == "others" else {"draw": draw, "run": run}[verb](*words))
+    sys.exit(room.apart(others, *words) if verb == "others" else {"draw": draw, "recorded": recorded, "run": run}[verb](*words))

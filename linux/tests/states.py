@@ -68,7 +68,7 @@ STATES = {
         [f"rule {at}" for at in range(100, 107)], ""),
     "names that a batch doesn't carry": (
         "ip link add 'a#b' type dummy; ip link add 'a\"b' type bridge; ip link add name up type dummy; ip link add name dev type dummy; ip link add \"it's\" type dummy; "
-        "ip link add 'c\\d' type dummy; ip link add 'e%f' type dummy", ["e%f, its name"], ""),
+        "ip link add 'c\\d' type dummy; ip link add 'e%f' type dummy; ip link add \"$(printf 'z\\377')\" type bridge", ["e%f, its name", "z"], ""),
     "resolv.conf with more": ("", [], "# by hand\nnameserver fe80::1%eth1\noptions ndots:3\nnameserver 192.0.2.53\nsearch example.com\n"),
 }
 LEFT_DNS = ("# by hand", "nameserver fe80::1%eth1", "options ndots:3")
