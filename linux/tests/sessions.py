@@ -1,0 +1,283 @@
+"""The proved program itself over a Linux: README's session, changes that are killed at each request and taken back, refusals, deadlines, a
+service, and what is said of a folder that can't be worked with.
+
+usage: sessions.py PROGRAM [WORD..]       (the cases whose titles have one of the words)"""
+import fcntl
+import json
+import os
+import pathlib
+import subprocess
+import sys
+import tempfile
+import time
+
+sys.dont_write_bytecode = True
+sys.path.insert(0, str(pathlib.Path(__file__).resolve().parent.parent))
+
+from tests import room                                          # noqa: E402
+from tests.states import still                                  # noqa: E402
+
+HERE = pathlib.Path(__file__).resolve().parent
+LAUNCHER, TASKS = HERE.parent / "nmstatectl-linux", HERE.parents[1] / "examples" / "tasks"
+MTU = {"interfaces": [{"name": "eth1", "type": "ethernet", "mtu": 9000}]}
+# What any kernel has that these tests run on, with several calls of each kind.
+BRIDGE = {"interfaces": [
+    {"name": "br7", "type": "linux-bridge", "state": "up", "ipv4": {"enabled": True, "address": [{"ip": "192.0.2.1", "prefix-length": 24}]},
+     "ipv6": {"enabled": True, "address": [{"ip": "2001:db8:7::1", "prefix-length": 64}]}, "bridge": {"port": [{"name": "eth1"}, {"name": "eth2"}]}},
+    {"name": "eth1", "type": "ethernet", "mtu": 1400}, {"name": "eth4", "type": "ethernet", "state": "down"}],
+    "routes": {"config": [{"destination": "198.51.100.0/24", "next-hop-interface": "br7", "next-hop-address": "192.0.2.9"}]}}
+# What stands before: a machine that is in use.
+BEFORE = """
+link set eth3 up
+link set eth4 up
+address add 192.168.3.1/24 dev eth3
+address add 2001:db8:3::1/64 dev eth3
+address add 192.168.4.1/24 dev eth4
+address add 2001:db8:4::1/64 dev eth4
+route add 10.4.0.0/16 via 192.168.4.9 dev eth4 proto static
+route add 2001:db8:44::/48 via 2001:db8:4::9 dev eth4 metric 77 proto static
+rule add pref 100 from 10.0.0.0/8 table 100
+"""
+
+
+def shown():
+    """All that ip shows, without counters and what changes by itself."""
+    parts = {}
+    for words in ("-details address show", "-4 route show table all", "-6 route show table all", "-4 rule show", "-6 rule show"):
+        parts[words] = json.loads(room.sh(f"ip -json {words}") or "[]")
+    up = {it["ifname"]: "UP" in it.get("flags", []) for it in parts["-details address show"] if it}
+    text = {words: sorted(json.dumps(still(it), sort_keys=True) for it in those if it) for words, those in parts.items()}
+    return {"up": up, **text}
+
+
+def differs(before, now):
+    found = []
+    for key in before:
+        if before[key] != now[key]:
+            one, other = (before[key], now[key]) if isinstance(before[key], dict) else (set(before[key]), set(now[key]))
+            found += [f"{key}: {one} {other}"] if isinstance(one, dict) else [f"{key}: gone {one - other}, new {other - one}"]
+    return found
+
+
+class Session:
+    """Commands on a machine, and where they differ from what must be."""
+
+    def __init__(self, program, folder):
+        self.program, self.folder, self.bad = program, folder, []
+        self.state = f"{folder}/state"
+        os.mkdir(self.state)
+
+    def file(self, name, document):
+        path = f"{self.folder}/{name}"
+        pathlib.Path(path).write_text(json.dumps(document), encoding="utf-8")
+        return path
+
+    def run(self, *words, program=None, path=None, **env):
+        env = dict(os.environ, PROGRAM=self.program, **env)
+        if path:
+            env["PATH"] = f"{path}:{env['PATH']}"
+        words = [LAUNCHER, "--resolv", f"{self.folder}/resolv.conf", "--program", program or self.program, "--state", self.state, *words]
+        return subprocess.run(words, capture_output=True, text=True, env=env, check=False, timeout=300)
+
+    def wants(self, ran, status, out=None, error=None):
+        if ran.returncode != status or out is not None and ran.stdout != out or error is not None and error not in ran.stderr:
+            self.bad.append(f"{ran.args[6:]}: status {ran.returncode}, {ran.stdout!r} {ran.stderr!r}; and not {status} {out!r} {error!r}")
+
+    def same(self, before, what):
+        self.bad += [f"{what}: {it}" for it in differs(before, shown())]
+
+
+def one_mtu(s):
+    before = shown()
+    s.wants(s.run("apply", s.file("mtu.json", MTU)), 0, "applied\n")
+    now = shown()
+    text = next(it for it in now["-details address show"] if '"ifname": "eth1"' in it)
+    old = next(it for it in before["-details address show"] if '"ifname": "eth1"' in it)
+    s.bad += [] if text == old.replace('"mtu": 1500', '"mtu": 9000') else [f"{old} {text}"]
+    before["-details address show"] = now["-details address show"] = [it for it in now["-details address show"] if it != text]
+    s.bad += differs(before, now)
+    s.wants(s.run("recover"), 0, "nothing to recover\n")
+
+
+def shown_again(s):
+    """What is shown can be applied, and changes nothing."""
+    before = shown()
+    path = f"{s.folder}/shown.yml"
+    pathlib.Path(path).write_text(s.run("show").stdout, encoding="utf-8")
+    s.wants(s.run("plan", path), 0, "")
+    s.wants(s.run("apply", path), 0, "applied\n")
+    s.same(before, "show | apply")
+    s.wants(s.run("check"), 0, "kernel 4 links, checkpoint none\n")
+    s.wants(s.run("init", str(TASKS / "hardware.yml")), 3, "", "error: state exists")
+
+
+def taken_back(s, document=None):
+    before = shown()
+    ran = s.run("apply", "--no-commit", "--timeout", "600", document or s.file("bridge.json", BRIDGE))
+    s.wants(ran, 0)
+    s.bad += [] if ran.stdout.startswith("applied, waiting until ") else [ran.stdout]
+    addresses = room.sh("ip -br address")
+    s.bad += [] if document or "br7" in addresses and "192.0.2.1/24" in addresses else [addresses]
+    s.bad += [] if not document or "bond0.5@bond0" in addresses and "198.51.100.2/24" in addresses else [addresses]
+    s.wants(s.run("rollback"), 0, "rolled back\n")
+    s.same(before, "rollback")
+
+
+def bond_taken_back(s):
+    taken_back(s, str(TASKS / "bond-vlan.yml"))
+
+
+def due(s):
+    before = shown()
+    path = s.file("bridge.json", BRIDGE)
+    s.wants(s.run("apply", "--no-commit", "--timeout", "1", path), 0)
+    time.sleep(2.1)
+    s.wants(s.run("commit"), 3, "", "error: expired change")
+    s.wants(s.run("recover"), 0, "restored\n")
+    s.same(before, "recover")
+    s.wants(s.run("apply", "--no-commit", "--timeout", "600", path), 0)
+    s.bad += [] if s.run("recover").stdout.startswith("waiting until ") else ["recover didn't wait"]
+    s.wants(s.run("commit"), 0, "committed\n")
+    s.wants(s.run("recover"), 0, "nothing to recover\n")
+
+
+def requests_of(s, document):
+    """How many requests an apply makes, by killing it later and later."""
+    before = shown()
+    for at in range(1, 100):
+        ran = s.run("apply", document, program=str(HERE / "killing.py"), KILL_AT=str(at))
+        if ran.returncode == 0:
+            return at
+        s.bad += [] if ran.returncode == 137 else [f"killed at {at}: status {ran.returncode} {ran.stderr}"]
+        back = s.run("recover")
+        s.bad += [] if back.stdout in ("restored\n", "nothing to recover\n") else [f"killed at {at}: {back.stdout} {back.stderr}"]
+        s.same(before, f"killed at request {at}, recover")
+        if s.bad:
+            return at
+    return 100
+
+
+def killed(s):
+    print(f"       {requests_of(s, s.file('bridge.json', BRIDGE)) - 1} requests", flush=True)
+
+
+def bond_killed(s):
+    print(f"       {requests_of(s, str(TASKS / 'bond-vlan.yml')) - 1} requests", flush=True)
+
+
+def far_end_killed(s, document=None):
+    """Behind each run of lines, between the runs of a call too."""
+    before, path = shown(), document or s.file("bridge.json", BRIDGE)
+    tools = f"{s.folder}/tools"
+    os.mkdir(tools)
+    os.symlink(HERE / "cutting_ip", f"{tools}/ip")
+    for at in range(1, 100):
+        count = f"{s.folder}/count"
+        pathlib.Path(count).write_text("", encoding="ascii")
+        ran = s.run("apply", path, path=tools, CUT_AT=str(at), CUT_COUNT=count)
+        time.sleep(0.5)
+        if ran.returncode == 0:
+            break
+        s.bad += [] if ran.returncode == -9 else [f"cut at {at}: status {ran.returncode} {ran.stderr}"]
+        back = s.run("recover")
+        s.bad += [] if back.stdout in ("restored\n", "nothing to recover\n") else [f"cut at {at}: {back.stdout} {back.stderr}"]
+        s.same(before, f"the far end killed behind run {at}, recover")
+        if s.bad:
+            return
+    print(f"       {at - 1} runs", flush=True)
+
+
+def bond_far_end_killed(s):
+    far_end_killed(s, str(TASKS / "bond-vlan.yml"))
+
+
+def refused(s):
+    before = shown()
+    document = {"interfaces": [{"name": "eth1", "type": "ethernet", "mtu": 1400}, {"name": "all", "type": "linux-bridge", "state": "up"}]}
+    ran = s.run("apply", s.file("all.json", document))
+    s.wants(ran, 4, "", "rolled back")
+    s.bad += [] if "refused: ip link add name all" in ran.stderr else [ran.stderr]
+    s.same(before, "refused")
+
+
+def not_verified(s):
+    """IPv6 goes from a link whose MTU is below 1280."""
+    before = shown()
+    ran = s.run("apply", s.file("small.json", {"interfaces": [{"name": "eth4", "type": "ethernet", "mtu": 1000}]}))
+    s.bad += [] if ran.returncode in (4, 9) and "rolled back" in ran.stderr else [f"{ran.returncode} {ran.stdout} {ran.stderr}"]
+    s.same(before, "not verified")
+
+
+def service(s):
+    folder = pathlib.Path(s.folder) / "documents"
+    folder.mkdir()
+    (folder / "10-mtu.yml").write_text(json.dumps(MTU), encoding="utf-8")
+    (folder / "20-bridge.yml").write_text(json.dumps(BRIDGE), encoding="utf-8")
+    s.wants(s.run("recover"), 0, "nothing to recover\n")
+    s.wants(s.run("service", str(folder)), 0, "applied 10-mtu.yml\napplied 20-bridge.yml\n")
+    s.bad += [] if sorted(it.name for it in folder.iterdir()) == ["10-mtu.applied", "20-bridge.applied"] else [str(list(folder.iterdir()))]
+    s.wants(s.run("service", str(folder)), 0, "")
+
+
+def folders(s):
+    path = s.file("mtu.json", MTU)
+    os.rename(s.state, s.state + ".away")
+    s.wants(s.run("apply", path), 5, "", "the folder of the state isn't there")
+    os.rename(s.state + ".away", s.state)
+    lock = os.open(s.state, os.O_RDONLY)
+    fcntl.flock(lock, fcntl.LOCK_EX)
+    s.wants(s.run("apply", path), 5, "", f"is in use by process {os.getpid()}")
+    os.close(lock)
+    s.wants(s.run("apply", path), 0, "applied\n")
+
+
+def readme(s):
+    """README's session, but for what is made by init."""
+    plan = s.run("plan", str(TASKS / "bond-vlan.yml")).stdout
+    s.bad += [] if plan.startswith("add-link bond0 bond active-backup\nadd-link bond0.5 vlan bond0 5 802.1q\n") and plan.endswith("add-address bond0.5 198.51.100.2/24\n") else [plan]
+    s.wants(s.run("apply", "--no-commit", "--timeout", "600", str(TASKS / "bond-vlan.yml")), 0)
+    text = s.run("show", "bond0.5").stdout
+    s.bad += [] if "  state: up\n" in text and "    - ip: 198.51.100.2\n      prefix-length: 24\n" in text and "    base-iface: bond0\n    id: 5\n" in text else [text]
+    s.wants(s.run("commit"), 0, "committed\n")
+    s.wants(s.run("apply", s.file("eth9.json", {"interfaces": [{"name": "eth9", "mtu": 9000}]})), 1, "", "error: merge rule 2 NoType at eth9")
+    before = shown()
+    s.wants(s.run("apply", "--no-commit", str(TASKS / "take-away.yml")), 0)
+    s.bad += [] if "bond0" not in room.sh("ip -br link") else ["bond0 is still there"]
+    s.wants(s.run("rollback"), 0, "rolled back\n")
+    s.bad += [it for it in differs(before, shown()) if "ifindex" not in it]
+
+
+CASES = {
+    "an MTU, and nothing else": (one_mtu, ""), "what is shown is applied": (shown_again, ""), "a bridge, rolled back": (taken_back, ""),
+    "a bond with a VLAN, rolled back": (bond_taken_back, "bond"), "a deadline": (due, ""), "killed at each request": (killed, ""),
+    "killed at each request, with a bond": (bond_killed, "bond"), "the far end killed behind each run": (far_end_killed, ""),
+    "the far end killed behind each run, with a bond": (bond_far_end_killed, "bond"), "a call refused": (refused, ""), "not verified": (not_verified, ""),
+    "a service": (service, ""), "folders of the state": (folders, ""), "README's session": (readme, "bond"),
+}
+
+
+def one(program, title):
+    case, kind = CASES[title]
+    if kind and not room.has(kind):
+        print(f"skipped {title}: this kernel has no {kind}", flush=True)
+        return 0
+    with tempfile.TemporaryDirectory() as folder:
+        room.ip(BEFORE.strip().splitlines())
+        # IPv6 addresses settle, so that they are the same later.
+        time.sleep(2)
+        session = Session(program, folder)
+        case(session)
+    print(f"{'FAILED' if session.bad else 'ok    '} {title}", *(f"       {it}" for it in session.bad), sep="\n", flush=True)
+    return 1 if session.bad else 0
+
+
+def main(words):
+    program, named = os.path.abspath(words[0]), words[1:]
+    titles = [it for it in CASES if not named or any(word in it for word in named)]
+    failed = sum(bool(room.apart(one, program, it)) for it in titles)
+    print(f"sessions: {len(titles) - failed} of {len(titles)}")
+    return 1 if failed else 0
+
+
+if __name__ == "__main__":
+    sys.exit(main(sys.argv[1:]))
