@@ -1,10 +1,12 @@
 """Random calls, one after another, made by the far end and by the model: what is read of Linux must be what the model says, and so must
 what the far end keeps in between. Some series begin among links that other hands made.
 
-usage: calls.py SERIES CALLS [FIRST_SEED]"""
+usage: calls.py SERIES CALLS [FIRST_SEED [FOLDER]]   FOLDER keeps what each series had
+       calls.py simulated FOLDER PROGRAM             compares what is kept with what the shipped program's `simulate` says of the lines"""
 import json
 import pathlib
 import random
+import subprocess
 import sys
 import tempfile
 
@@ -16,7 +18,7 @@ from far_end.image import image_of                              # noqa: E402
 from far_end.machine import Machine                             # noqa: E402
 from tests import model, room                                   # noqa: E402
 from tests.draw import NAMES, Draw                                  # noqa: E402
-from tests.images import read_image                             # noqa: E402
+from tests.images import read_image, store                           # noqa: E402
 
 # Links by other hands: their MAC addresses and MTUs follow those of ports and bases, and ports of a bond have its MAC address.
 OTHERS = """
@@ -59,7 +61,7 @@ class Series:
 
     def __init__(self, seed, folder):
         self.rng = random.Random(seed)
-        self.machine = Machine(f"{folder}/resolv.conf")
+        self.machine = Machine(f"{folder}/resolv.conf", room.WAIT)
         self.first = self.machine.dump()
         self.network = read_image(self.first)
         self.kinds = [it for it in NAMES if room.has(it)]
@@ -100,7 +102,31 @@ def series(seed, count, results):
         return 1 if found or it.refused else 0
 
 
+def simulated(folder, program):
+    """What Linux had before and behind each series, beside the program's own step."""
+    same, calls, paths = 0, 0, sorted(pathlib.Path(folder).glob("calls-*.json"))
+    with tempfile.TemporaryDirectory() as state:
+        for path in paths:
+            told = json.loads(path.read_text(encoding="utf-8"))
+
+            def ask(image, *words, given=""):
+                store(state, bytes.fromhex(image))
+                ran = subprocess.run([program, "--state", state, *words], input=given, capture_output=True, text=True, check=False)
+                return ran.returncode, ran.stdout
+
+            said = ask(told["first"], "simulate", given="".join(it + "\n" for it in told["lines"]))
+            is_same = said == ask(told["last"], "show") and said[0] == 0
+            same += is_same
+            calls += len(told["lines"])
+            if not is_same:
+                print(f"{path.name}: simulate says another network, or refuses: status {said[0]}", flush=True)
+    print(f"simulated: {same} of {len(paths)} series, {calls} calls")
+    return 0 if same == len(paths) else 1
+
+
 def main(words):
+    if words[0] == "simulated":
+        return simulated(*words[1:])
     count, calls, first = int(words[0]), int(words[1]), int(words[2]) if len(words) > 2 else 0
     out = pathlib.Path(words[3]) if len(words) > 3 else pathlib.Path(tempfile.mkdtemp())
     told = []

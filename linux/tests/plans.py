@@ -200,10 +200,10 @@ def one(path, results):
     with tempfile.TemporaryDirectory() as folder:
         if series["others"]:
             room.ip_some(OTHERS.strip().splitlines())
-        machine = Machine(f"{folder}/resolv.conf")
+        machine = Machine(f"{folder}/resolv.conf", room.WAIT)
         for at, plan in enumerate(series["plans"]):
             if plan.get("anew"):                # as a far end that starts behind one that was killed
-                machine = Machine(f"{folder}/resolv.conf")
+                machine = Machine(f"{folder}/resolv.conf", room.WAIT)
             for line in plan["lines"]:
                 answer = serving.answer(machine, line)
                 calls += 1
@@ -238,7 +238,7 @@ def others(folder):
     """Keeps the network of links by other hands, for plans among them."""
     room.ip_some(OTHERS.strip().splitlines())
     with tempfile.TemporaryDirectory() as it:
-        (pathlib.Path(folder) / "others.hex").write_text(Machine(f"{it}/resolv.conf").dump().hex(), encoding="ascii")
+        (pathlib.Path(folder) / "others.hex").write_text(Machine(f"{it}/resolv.conf", room.WAIT).dump().hex(), encoding="ascii")
     return 0
 
 

@@ -6,6 +6,8 @@ import sys
 import traceback
 
 CLONE_NEWNS, CLONE_NEWNET = 0x00020000, 0x40000000
+# How long an ip may take, in seconds: a guest of a machine that is in use is slow.
+WAIT = 300
 # The process that holds the namespace of the other ends.
 HOLDER = None
 DEVICES = ("eth1", "eth2", "eth3", "eth4")

@@ -89,7 +89,7 @@ class Look:
     def __init__(self, folder):
         errors = io.StringIO()
         with contextlib.redirect_stderr(errors):
-            self.machine = Machine(f"{folder}/resolv.conf")
+            self.machine = Machine(f"{folder}/resolv.conf", room.WAIT)
             self.image = self.machine.dump()
         self.left_out = {it.removeprefix("left out: ") for it in errors.getvalue().splitlines()}
         links = self.machine.ip.show("-details", "link", "show")
@@ -135,7 +135,7 @@ def state(title, count, results):
         bad = [f"    not left out: {it}" for it in wanted if not any(line.startswith(it) for line in look.left_out) and not lacking]
         (pathlib.Path(results["images"]) / f"state-{list(STATES).index(title)}.image").write_bytes(look.image)
         rng = random.Random(title)
-        machine = Machine(f"{folder}/resolv.conf")
+        machine = Machine(f"{folder}/resolv.conf", room.WAIT)
         network = read_image(look.image)
         kinds = [it for it in NAMES if room.has(it)]
         refused, made = [], 0
@@ -171,7 +171,7 @@ def apart(title, count, images):
 def main(words):
     count, named = int(words[0]), words[1:]
     titles = [it for it in STATES if not named or any(word in it for word in named)]
-    images = tempfile.mkdtemp(prefix="states-", dir=".")
+    images = tempfile.mkdtemp(prefix="states-")
     failed = sum(bool(apart(it, count, images)) for it in titles)
     print(f"states: {len(titles) - failed} of {len(titles)}")
     return 1 if failed else 0
