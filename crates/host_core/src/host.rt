@@ -3,7 +3,7 @@ ghost use Rattle.std.specs.Prelude.{◌≡◌, ◌≢◌, ◌⊎◌, ◌<◌, �
 ghost use Rattle.host_core.specs.Bytes.{Torn, Written, Filled};
 ghost use Rattle.host_core.specs.Faults.{HasCause, HasFault};
 ghost use Rattle.host_core.specs.HostView.{HostView, HasCell, Accepts, Refuses, MaybeCalled, SameCell, SameKernel, Untouched, CellTorn, IsFirst, IsMade, MaybeMade, counted, refused, dumped, IsLawfulHost};
-ghost use Rattle.host_core.specs.Stops.{Steps, Stays};
+ghost use Rattle.host_core.specs.Stops.{Steps, Stays, Keeps};
 
 use crate::Failed;
 use net_core::Net;
@@ -128,11 +128,18 @@ pub trait Host {
         ensures stops { Steps (CellTorn at (length bytes.now)) (told self.old).stops (told self.new).stops }
         ensures cause { HasCause (told self.old).faults (told self.new).faults result };
 
-    /// After it no byte of the checkpoint area is in doubt. One that fails changes nothing.
+    /// After it no byte of the checkpoint area is in doubt. One that fails changes no byte that a read gives, and what a
+    /// stop may leave stays as it was before.
     fn cell_sync(&mut self) -> Result<(), Failed>
         ensures durable { OnOk result (tells → HasCell (told self.old).state.cell (told self.new)) }
         ensures untouched { Untouched tells (told self.old) (told self.new) }
+        ensures kept { tells → OnErr result (Keeps (told self.old).stops (told self.new).stops) }
         ensures cause { HasCause (told self.old).faults (told self.new).faults result };
+
+    /// Lets go of what keeps others off the state, until the next call. It changes nothing and can't fail.
+    fn release(&mut self)
+        ensures untouched { Untouched tells (told self.old) (told self.new) }
+        ensures faults { (told self.new).faults ≡ (told self.old).faults };
 
     /// An honest host tells what it holds.
     ghost honest_tells: { honest → tells };
