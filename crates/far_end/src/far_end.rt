@@ -139,4 +139,8 @@ impl<H: Host> Peer for FarEnd<H> {
     fn cell_sync(&mut self) -> Result<(), Failed> {
         self.host.cell_sync()
     }
+
+    fn release(&mut self) {
+        self.host.release()
+    }
 }

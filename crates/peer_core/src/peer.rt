@@ -1,9 +1,9 @@
 //! The peer.
-ghost use Rattle.std.specs.Prelude.{◌≡◌, ◌≤◌, ◌<◌, ◌+◌, ◌^◌, ℕ, List, Option, length, take, IfOk, OnOk};
+ghost use Rattle.std.specs.Prelude.{◌≡◌, ◌≤◌, ◌<◌, ◌+◌, ◌^◌, ℕ, List, Option, length, take, IfOk, OnOk, OnErr};
 ghost use Rattle.host_core.specs.Bytes.{Torn, Written, Filled};
 ghost use Rattle.host_core.specs.Faults.{HasCause};
 ghost use Rattle.host_core.specs.HostView.{SameNet, CellTorn};
-ghost use Rattle.host_core.specs.Stops.{Steps};
+ghost use Rattle.host_core.specs.Stops.{Steps, Keeps};
 ghost use Rattle.net_model.specs.declared.call.Call.{Call};
 ghost use Rattle.peer_core.specs.PeerView.{PeerView, IsLawfulPeer, Untouched, HasCell};
 ghost use Rattle.peer_core.specs.Protocol.{IsDump, IsRequest, answer_of, Dumped, Calls, Answered};
@@ -55,11 +55,18 @@ pub trait Peer {
         ensures stops { Steps (CellTorn at (length bytes.now)) (told self.old).stops (told self.new).stops }
         ensures cause { HasCause (told self.old).faults (told self.new).faults result };
 
-    /// After it no byte of the checkpoint area is in doubt. One that fails changes nothing.
+    /// After it no byte of the checkpoint area is in doubt. One that fails changes no byte that a read gives, and what a
+    /// stop may leave stays as it was before.
     fn cell_sync(&mut self) -> Result<(), Failed>
         ensures durable { OnOk result (tells → HasCell (told self.old).state.cell (told self.new)) }
         ensures untouched { Untouched tells (told self.old) (told self.new) }
+        ensures kept { tells → OnErr result (Keeps (told self.old).stops (told self.new).stops) }
         ensures cause { HasCause (told self.old).faults (told self.new).faults result };
+
+    /// Lets go of what keeps others off the checkpoint area, until the next call. It changes nothing and can't fail.
+    fn release(&mut self)
+        ensures untouched { Untouched tells (told self.old) (told self.new) }
+        ensures faults { (told self.new).faults ≡ (told self.old).faults };
 
     /// An honest peer tells what it holds.
     ghost honest_tells: { honest → tells };

@@ -189,4 +189,8 @@ impl<P: Peer> Host for PeerHost<P> {
     fn cell_sync(&mut self) -> Result<(), Failed> {
         self.peer.cell_sync()
     }
+
+    fn release(&mut self) {
+        self.peer.release()
+    }
 }

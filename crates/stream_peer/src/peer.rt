@@ -78,4 +78,8 @@ impl<D: Disk> Peer for StreamPeer<D> {
     fn cell_sync(&mut self) -> Result<(), Failed> {
         self.disk.sync(CHECKPOINT)
     }
+
+    fn release(&mut self) {
+        self.disk.release()
+    }
 }
