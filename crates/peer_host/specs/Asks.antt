@@ -1,5 +1,5 @@
 -- What a host over a peer asks, and what each answer is read as.
-use Rattle.std.specs.Prelude.{◌≡◌, ◌⊎◌, ℕ, List, Option, Some, None, Result, IfOk, OnOk, IsErrOf}
+use Rattle.std.specs.Prelude.{◌≡◌, ◌⊎◌, ℕ, List, Some, None, Result, IfOk, OnOk, IsErrOf}
 use Rattle.net_model.specs.NetData.{NetData}
 use Rattle.net_model.specs.declared.call.Call.{Call}
 use Rattle.net_image.specs.Image.{net_of}
