@@ -32,9 +32,7 @@ const HOST_FAULT: u8 = 5;
 fn not_begun(rt: &HostRuntime) -> ExitCode
     ensures { exit_status result ≡ 5 }
 {
-    let _ = rt
-        .stderr()
-        .write_all(b"error: host fault, not begun\n");
+    let _ = rt.stderr().write_all(b"error: host fault, not begun\n");
     ExitCode::from(HOST_FAULT)
 }
 

@@ -45,9 +45,7 @@ fn out_of_memory(rt: &HostRuntime) -> ExitCode
 fn not_begun(rt: &HostRuntime) -> ExitCode
     ensures { exit_status result ≡ 5 }
 {
-    let _ = rt
-        .stderr()
-        .write_all(b"error: host fault, not begun\n");
+    let _ = rt.stderr().write_all(b"error: host fault, not begun\n");
     ExitCode::from(HOST_FAULT)
 }
 
