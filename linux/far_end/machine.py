@@ -87,7 +87,7 @@ class Machine:
     # Running
 
     def run(self, lines, number, ipv6=False):
-        """Runs the lines of a call. Where one fails the call is refused with this number. Those behind it are run all the same, so what
+        """Runs the lines of a call. Where one fails the call is refused with this number. Those after it are run all the same, so what
         makes no sense without it belongs in a run of its own."""
         failed = self.ip.run(lines, ipv6)
         self.has_changed |= len(failed) < len(lines)
@@ -146,7 +146,7 @@ class Machine:
 
 
 def set_link(name, *words):
-    """A line that sets a link. Its name stands behind `dev`, since it may be a word of ip's."""
+    """A line that sets a link. Its name stands after `dev`, since it may be a word of ip's."""
     return ["link", "set", "dev", name, *words]
 
 

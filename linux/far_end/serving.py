@@ -31,7 +31,7 @@ def answer(machine, line):
 
 
 def framed(data):
-    """An answer behind its length."""
+    """An answer after its length."""
     return struct.pack(">I", len(data)) + data
 
 

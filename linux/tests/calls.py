@@ -103,7 +103,7 @@ def series(seed, count, results):
 
 
 def simulated(folder, program):
-    """What Linux had before and behind each series, beside the program's own step."""
+    """What Linux had before and after each series, beside the program's own step."""
     same, calls, paths = 0, 0, sorted(pathlib.Path(folder).glob("calls-*.json"))
     with tempfile.TemporaryDirectory() as state:
         for path in paths:

@@ -1,8 +1,8 @@
-"""Plans: calls that the shipped program plans between networks, made by the far end without a look in between, and compared behind each
+"""Plans: calls that the shipped program plans between networks, made by the far end without a look in between, and compared after each
 plan with what the model, and the program's `simulate`, say of the same lines.
 
 usage: plans.py draw FOLDER PROGRAM SERIES PLANS [SEED]   plans between drawn networks, those of the tasks in examples/ one after another,
-                                                          and those that are stopped behind each call and led back, as files of
+                                                          and those that are stopped after each call and led back, as files of
                                                           FOLDER; says of each whether simulate and the model agree
        plans.py recorded FOLDER                           the plans that the sessions in examples/ print, likewise
        plans.py others FOLDER                             keeps the network of links by other hands, for plans among them
@@ -65,7 +65,7 @@ def after(network, lines):
 
 
 def planned(program, network, document):
-    """The lines of a plan and the network behind them; none where the document can't be merged."""
+    """The lines of a plan and the network after them; none where the document can't be merged."""
     status, out, _ = program.ask(network, ["plan", "--batch"], document)
     if status:
         return None
@@ -110,7 +110,7 @@ def task_series(program, pair):
 
 
 def back_series(program, network, path):
-    """A plan that is stopped behind each of its calls in turn, each time with the plan back to what was before; as pairs of plans."""
+    """A plan that is stopped after each of its calls in turn, each time with the plan back to what was before; as pairs of plans."""
     found = planned(program, network, path.read_text(encoding="utf-8"))
     if found is None:
         return None
@@ -202,7 +202,7 @@ def one(path, results):
             room.ip_some(OTHERS.strip().splitlines())
         machine = Machine(f"{folder}/resolv.conf", room.WAIT)
         for at, plan in enumerate(series["plans"]):
-            if plan.get("anew"):                # as a far end that starts behind one that was killed
+            if plan.get("anew"):                # as a far end that starts after one that was killed
                 machine = Machine(f"{folder}/resolv.conf", room.WAIT)
             for line in plan["lines"]:
                 answer = serving.answer(machine, line)

@@ -36,7 +36,7 @@ class Case:
                                    stderr=subprocess.PIPE, text=True, env=env, start_new_session=True)
         _, self.errors = process.communicate(timeout=120)
         self.status = process.returncode
-        # What goes on behind a far end that was killed ends soon.
+        # What goes on after a far end that was killed ends soon.
         time.sleep(0.5 if self.status >= 0 else 1.5)
         self.heard = pathlib.Path(heard).read_text(encoding="ascii").split("\n")[:-1]
         self.left = left_behind()
@@ -150,7 +150,7 @@ def dead_batch(folder):
 
 
 STRANGE = {"empty": b"", "bytes": bytes(range(1, 10)) + bytes(range(128, 256)), "NUL": b"\0" + CALLS[0].encode(), "half a call": b"link add name br9",
-           "blank behind": b"dump ", "CR behind": b"dump\r", "blank before": b" " + CALLS[0].encode(), "two blanks": b"link set  dev eth1 up", "mtu no number": b"link set dev eth1 mtu x"}
+           "blank after": b"dump ", "CR after": b"dump\r", "blank before": b" " + CALLS[0].encode(), "two blanks": b"link set  dev eth1 up", "mtu no number": b"link set dev eth1 mtu x"}
 
 CASES = [
     *((f"the program is killed at request {at + 1}", lambda folder, at=at: killed_at(folder, at)) for at in range(6)),

@@ -1,4 +1,4 @@
-"""The proved program itself over a Linux: README's session, changes that are killed at each request and taken back, refusals, deadlines, a
+"""The proved program itself over a Linux: README's session, changes that are killed at each request and rolled back, refusals, deadlines, a
 service, and what is said of a folder that can't be worked with.
 
 usage: sessions.py PROGRAM [WORD..]       (the cases whose titles have one of the words)"""
@@ -26,7 +26,7 @@ BRIDGE = {"interfaces": [
      "ipv6": {"enabled": True, "address": [{"ip": "2001:db8:7::1", "prefix-length": 64}]}, "bridge": {"port": [{"name": "eth1"}, {"name": "eth2"}]}},
     {"name": "eth1", "type": "ethernet", "mtu": 1400}, {"name": "eth4", "type": "ethernet", "state": "down"}],
     "routes": {"config": [{"destination": "198.51.100.0/24", "next-hop-interface": "br7", "next-hop-address": "192.0.2.9"}]}}
-# What stands before: a machine that is in use.
+# What there is before: a machine that is in use.
 BEFORE = """
 link set eth3 up
 link set eth4 up
@@ -166,7 +166,7 @@ def bond_killed(s):
 
 
 def far_end_killed(s, document=None):
-    """Behind each run of lines, between the runs of a call too."""
+    """After each run of lines, between the runs of a call too."""
     before, path = shown(), document or s.file("bridge.json", BRIDGE)
     tools = f"{s.folder}/tools"
     os.mkdir(tools)
@@ -181,7 +181,7 @@ def far_end_killed(s, document=None):
         s.bad += [] if ran.returncode == -9 else [f"cut at {at}: status {ran.returncode} {ran.stderr}"]
         back = s.run("recover")
         s.bad += [] if back.stdout in ("restored\n", "nothing to recover\n") else [f"cut at {at}: {back.stdout} {back.stderr}"]
-        s.same(before, f"the far end killed behind run {at}, recover")
+        s.same(before, f"the far end killed after run {at}, recover")
         if s.bad:
             return
     print(f"       {at - 1} runs", flush=True)
@@ -250,8 +250,8 @@ def readme(s):
 CASES = {
     "an MTU, and nothing else": (one_mtu, ""), "what is shown is applied": (shown_again, ""), "a bridge, rolled back": (taken_back, ""),
     "a bond with a VLAN, rolled back": (bond_taken_back, "bond"), "a deadline": (due, ""), "killed at each request": (killed, ""),
-    "killed at each request, with a bond": (bond_killed, "bond"), "the far end killed behind each run": (far_end_killed, ""),
-    "the far end killed behind each run, with a bond": (bond_far_end_killed, "bond"), "a call refused": (refused, ""), "not verified": (not_verified, ""),
+    "killed at each request, with a bond": (bond_killed, "bond"), "the far end killed after each run": (far_end_killed, ""),
+    "the far end killed after each run, with a bond": (bond_far_end_killed, "bond"), "a call refused": (refused, ""), "not verified": (not_verified, ""),
     "a service": (service, ""), "folders of the state": (folders, ""), "README's session": (readme, "bond"),
 }
 
