@@ -1,6 +1,8 @@
 //! One command, at the prompt or as a step of a script.
-ghost use Rattle.std.specs.Prelude.{◌≡◌, true, false, map, string_bytes};
+ghost use Rattle.std.specs.Prelude.{◌≡◌, ℕ, true, false, Bool, List, String, map, string_bytes, IfOk};
+ghost use Rattle.std.specs.declared.alloc.Global.{Global};
 ghost use Rattle.command_words.specs.Words.{command_of};
+ghost use Rattle.host_core.specs.Clocks.{Ticks};
 ghost use Rattle.order_reading.specs.AsDefined.{as_defined, has_right_document};
 ghost use Rattle.top_model.specs.Answered.{Answered};
 ghost use Rattle.top_model.specs.Commands.{Promised, Commanded};
@@ -11,6 +13,7 @@ ghost use Rattle.command_laws.specs.Carried.{Carried};
 ghost use Rattle.command_laws.specs.First.{has_hardware};
 ghost use Rattle.command_laws.specs.Words.{RanWords};
 ghost use Rattle.command_laws.specs.Worked.{works_apart};
+ghost use Rattle.nmstate_top.specs.Read.{WasRead};
 
 use crate::generate::generate_run;
 use crate::script::run_file;
@@ -68,6 +71,28 @@ fn run_order<H: Host, S: Source, W: Sink>(
     }
 }
 
+// Answers what was read of the words.
+fn answer_read<H: Host, S: Source, W: Sink>(
+    alloc: Global,
+    read: Result<Order, Cause>,
+    host: &mut H,
+    out: &mut W,
+    err: &mut W,
+    now: u64,
+) -> Report
+    requires document { IfOk read (λ order. has_right_document order ≡ true) }
+    requires hardware { IfOk read (λ order. has_hardware order ≡ true) }
+    ensures answered { (words : List (String Global)) (in_script : Bool) (src after : S) → WasRead S.Source words in_script src after read
+        → Answered (run_of H.Host S.Source W.Sink words in_script now host.old host.new src after out.old out.new err.old err.new result) }
+    ensures apart { (words : List (String Global)) (in_script : Bool) (src after : S) → WasRead S.Source words in_script src after read
+        → StandsApart (run_of H.Host S.Source W.Sink words in_script now host.old host.new src after out.old out.new err.old err.new result) }
+{
+    match read {
+        Ok(order) => run_order::<H, S, W>(alloc, order, host, out, err, now),
+        Err(refusal) => tell_refused(b"", refusal, out, err),
+    }
+}
+
 // One command, at the prompt or as a step of a script.
 pub(crate) fn run_one<H: Host, S: Source, W: Sink>(
     alloc: Global,
@@ -84,10 +109,8 @@ pub(crate) fn run_one<H: Host, S: Source, W: Sink>(
     ensures apart { StandsApart (run_of H.Host S.Source W.Sink words.now.items in_script now
         host.old host.new src.old src.new out.old out.new err.old err.new result) }
 {
-    match read_order(alloc, words.as_slice(), in_script, src) {
-        Ok(order) => run_order::<H, S, W>(alloc, order, host, out, err, now),
-        Err(refusal) => tell_refused(b"", refusal, out, err),
-    }
+    let read = read_order(alloc, words.as_slice(), in_script, src);
+    answer_read::<H, S, W>(alloc, read, host, out, err, now)
 }
 
 /// Answers one command at a moment, in seconds, and tells the answer to the sinks. The words are those after the
@@ -107,8 +130,30 @@ pub fn run_at<H: Host, S: Source, W: Sink>(
     run_one(alloc, words, false, host, src, out, err, now)
 }
 
+// One command, at the moment at which its input has been read: whoever waits for a document answers at the moment at which it
+// came, and not at one before a change that others made meanwhile.
+fn run_clocked<H: Host, S: Source, W: Sink, C: Clock>(
+    alloc: Global,
+    words: &Vec<String>,
+    host: &mut H,
+    src: &mut S,
+    out: &mut W,
+    err: &mut W,
+    clock: &mut C,
+) -> Report
+    ensures { (now : ℕ) × (C.tells → Ticks (C.coming clock.old) now (C.coming clock.new))
+        × Answered (run_of H.Host S.Source W.Sink words.now.items false now
+        host.old host.new src.old src.new out.old out.new err.old err.new result)
+        × StandsApart (run_of H.Host S.Source W.Sink words.now.items false now
+        host.old host.new src.old src.new out.old out.new err.old err.new result) }
+{
+    let read = read_order(alloc, words.as_slice(), false, src);
+    let now = clock.now();
+    answer_read::<H, S, W>(alloc, read, host, out, err, now)
+}
+
 // The command of the words: `script` with this FILE, or another one.
-fn run_named<H: Host, S: Source, W: Sink>(
+fn run_named<H: Host, S: Source, W: Sink, C: Clock>(
     alloc: Global,
     script: &Option<Option<Str>>,
     words: &Vec<String>,
@@ -116,39 +161,25 @@ fn run_named<H: Host, S: Source, W: Sink>(
     src: &mut S,
     out: &mut W,
     err: &mut W,
-    now: u64,
+    clock: &mut C,
 ) -> Report
     requires { script.now ≡ file_of (command_of (map string_bytes words.now.items)) }
-    ensures { RanWords H.Host S.Source W.Sink words.now.items now
+    ensures { (now : ℕ) × (C.tells → Ticks (C.coming clock.old) now (C.coming clock.new))
+        × RanWords H.Host S.Source W.Sink words.now.items now
         host.old host.new src.old src.new out.old out.new err.old err.new result }
 {
     match script {
-        Some(file) => run_file(alloc, file, host, src, out, err),
-        None => run_one(alloc, words, false, host, src, out, err, now),
+        Some(file) => {
+            let _ = clock.now();
+            run_file(alloc, file, host, src, out, err)
+        }
+        None => run_clocked(alloc, words, host, src, out, err, clock),
     }
 }
 
-// The command of the words, which may be `script`.
-fn run_words<H: Host, S: Source, W: Sink>(
-    alloc: Global,
-    words: &Vec<String>,
-    host: &mut H,
-    src: &mut S,
-    out: &mut W,
-    err: &mut W,
-    now: u64,
-) -> Report
-    ensures { RanWords H.Host S.Source W.Sink words.now.items now
-        host.old host.new src.old src.new out.old out.new err.old err.new result }
-{
-    match script_file(alloc, words.as_slice()) {
-        Ok(script) => run_named(alloc, &script, words, host, src, out, err, now),
-        Err(OutOfMemory) => tell_refused(b"", Cause::OutOfMemory, out, err),
-    }
-}
-
-/// Does all that the program does, but for services and rollouts: asks the clock once, and is `run_at` at that moment for
-/// every command but `script`, whose lines have moments of their own. The words are those after the program's name.
+/// Does all that the program does, but for services and rollouts: asks the clock once, when the command's input has been
+/// read, and is `run_at` at that moment for every command but `script`, whose lines have moments of their own. The words are
+/// those after the program's name.
 pub fn run_command<H: Host, S: Source, W: Sink, C: Clock>(
     alloc: Global,
     words: &Vec<String>,
@@ -161,6 +192,11 @@ pub fn run_command<H: Host, S: Source, W: Sink, C: Clock>(
     ensures commanded { Commanded H.Host S.Source W.Sink C.Clock words.now.items clock.old clock.new
         host.old host.new src.old src.new out.old out.new err.old err.new result }
 {
-    let now = clock.now();
-    run_words(alloc, words, host, src, out, err, now)
+    match script_file(alloc, words.as_slice()) {
+        Ok(script) => run_named(alloc, &script, words, host, src, out, err, clock),
+        Err(OutOfMemory) => {
+            let _ = clock.now();
+            tell_refused(b"", Cause::OutOfMemory, out, err)
+        }
+    }
 }

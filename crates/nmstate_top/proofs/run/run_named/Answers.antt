@@ -11,18 +11,26 @@ none_some file e = cc
 
 pub returns-in-Some : goal.returns-in-Some
 returns-in-Some g c =
-    let named = sym c.requires ∙ c.in-Some.is in
-    record {
-      answered = λ none. absurd (some_none c.in-Some.file (sym c.in-Some.is ∙ (c.requires ∙ none)));
-      apart = λ none. absurd (some_none c.in-Some.file (sym c.in-Some.is ∙ (c.requires ∙ none)));
-      script = is_script _ _ (c.run_file.ensures c.args.words.now.items named);
-      ran = λ file is. c.run_file.ensures c.args.words.now.items named;
-    }
+    let named = sym c.requires ∙ c.in-Some.is in (
+      c.in_Some-now.result,
+      c.in_Some-now.ensures,
+      record {
+        answered = λ none. absurd (some_none c.in-Some.file (sym c.in-Some.is ∙ (c.requires ∙ none)));
+        apart = λ none. absurd (some_none c.in-Some.file (sym c.in-Some.is ∙ (c.requires ∙ none)));
+        script = is_script _ _ (c.run_file.ensures c.args.words.now.items named);
+        ran = λ file is. c.run_file.ensures c.args.words.now.items named;
+      },
+    )
 
 pub returns-in-None : goal.returns-in-None
-returns-in-None g c = record {
-  answered = λ none. c.run_one.ensures.answered;
-  apart = λ none. c.run_one.ensures.apart;
-  script = no_script _ _ (sym c.requires ∙ c.in-None.is);
-  ran = λ file is. absurd (none_some file (sym c.in-None.is ∙ (c.requires ∙ is)));
-}
+returns-in-None g c =
+    let e = c.run_clocked.ensures in (
+      e.0,
+      e.1,
+      record {
+        answered = λ none. e.2;
+        apart = λ none. e.3;
+        script = no_script _ _ (sym c.requires ∙ c.in-None.is);
+        ran = λ file is. absurd (none_some file (sym c.in-None.is ∙ (c.requires ∙ is)));
+      },
+    )
