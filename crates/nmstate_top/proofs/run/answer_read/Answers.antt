@@ -1,4 +1,4 @@
-use Rattle.std.proofs.Common.{◌≡◌, refl, sym, ap, subst, arith, List, Bool}
+use Rattle.std.proofs.Common.{◌≡◌, refl, sym, ap, subst, arith, true}
 use Rattle.std.specs.Prelude.{String, map, string_bytes, IfOk, Option, Some, Result, Ok, Err}
 use Rattle.std.specs.declared.alloc.Global.{Global}
 use Rattle.command_words.specs.Words.{command_of}

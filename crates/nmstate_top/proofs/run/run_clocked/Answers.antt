@@ -8,14 +8,14 @@ use Rattle.nmstate_top.proofs.Hardware.{read_right}
 use Rattle.nmstate_top.proofs.run.run_clocked.Goals as goal
 
 pub answer_read-requires-clause-hardware : goal.answer_read-requires-clause-hardware
-answer_read-requires-clause-hardware g c = read_right false c.as_slice.result.now g.S.Source.tells (g.S.Source.told c.args.src.now) (g.S.Source.told c.read_order.new.src) c.read_order.result c.read_order.ensures.order
+answer_read-requires-clause-hardware g c = read_right false c.as_slice.result.now g.S.Source.tells (g.S.Source.told c.args.src.now) (g.S.Source.told c.read_order-read.new.src) c.read_order-read.result c.read_order-read.ensures.order
 
 pub returns : goal.returns
 returns g c = (
-    c.now-now.result,
-    c.now-now.ensures,
-    subst (λ (words : List (String Global)). Answered (run_of g.H.Host g.S.Source g.W.Sink words false c.now-now.result c.args.host.now c.answer_read.new.host c.args.src.now c.read_order.new.src c.args.out.now c.answer_read.new.out c.args.err.now c.answer_read.new.err c.answer_read.result)) c.as_slice.ensures.value
-    (c.answer_read.ensures.answered c.as_slice.result.now false c.args.src.now c.read_order.new.src (record { order = c.read_order.ensures.order; source = c.read_order.ensures.source; taken = c.read_order.ensures.taken; fault = c.read_order.ensures.fault; memory = c.read_order.ensures.memory })),
-    subst (λ (words : List (String Global)). StandsApart (run_of g.H.Host g.S.Source g.W.Sink words false c.now-now.result c.args.host.now c.answer_read.new.host c.args.src.now c.read_order.new.src c.args.out.now c.answer_read.new.out c.args.err.now c.answer_read.new.err c.answer_read.result)) c.as_slice.ensures.value
-    (c.answer_read.ensures.apart c.as_slice.result.now false c.args.src.now c.read_order.new.src (record { order = c.read_order.ensures.order; source = c.read_order.ensures.source; taken = c.read_order.ensures.taken; fault = c.read_order.ensures.fault; memory = c.read_order.ensures.memory })),
+  c.now-now.result,
+  c.now-now.ensures,
+  subst (λ (words : List (String Global)). Answered (run_of g.H.Host g.S.Source g.W.Sink words false c.now-now.result c.args.host.now c.answer_read.new.host c.args.src.now c.read_order-read.new.src c.args.out.now c.answer_read.new.out c.args.err.now c.answer_read.new.err c.answer_read.result)) c.as_slice.ensures.value
+      (c.answer_read.ensures.answered c.as_slice.result.now false c.args.src.now c.read_order-read.new.src (record { order = c.read_order-read.ensures.order; source = c.read_order-read.ensures.source; taken = c.read_order-read.ensures.taken; fault = c.read_order-read.ensures.fault; memory = c.read_order-read.ensures.memory })),
+  subst (λ (words : List (String Global)). StandsApart (run_of g.H.Host g.S.Source g.W.Sink words false c.now-now.result c.args.host.now c.answer_read.new.host c.args.src.now c.read_order-read.new.src c.args.out.now c.answer_read.new.out c.args.err.now c.answer_read.new.err c.answer_read.result)) c.as_slice.ensures.value
+      (c.answer_read.ensures.apart c.as_slice.result.now false c.args.src.now c.read_order-read.new.src (record { order = c.read_order-read.ensures.order; source = c.read_order-read.ensures.source; taken = c.read_order-read.ensures.taken; fault = c.read_order-read.ensures.fault; memory = c.read_order-read.ensures.memory })),
 )

@@ -33,12 +33,16 @@ returns-in-Err g c =
     let t = c.tell_refused.ensures in
     let alone : lone (map string_bytes c.args.words.now.items) ≡ None = subst (λ (words : List (String Global)). lone (map string_bytes words) ≡ None) c.as_slice.ensures.value c.in-Err.ensures.memory in
     let of = λ (now : ℕ). run_of g.H.Host g.S.Source g.W.Sink c.args.words.now.items false now c.args.host.now c.args.host.now c.args.src.now c.args.src.now c.args.out.now c.tell_refused.new.out c.args.err.now c.tell_refused.new.err c.tell_refused.result in
-    let now = c.in_Err-now.result in
+    let now = c.now.result in
     record {
       commanded = record {
-        command = (now, c.in_Err-now.ensures, λ other. promised _
-          (ran_out (of now) refl (record { host = omega arith; source = omega arith; out = t.out; err = t.err; inputs = λ told. refl; takes = nothing_taken (of now) refl (told_of _ OutOfMemory _ _ _ _ _ _ c.tell_refused.result t.told) _; lawful = g.met.H.Host.lawful c.args.host.now; tells = g.met.H.Host.honest_tells }) alone t.told)
-          (λ count seed is. (refl, refl)));
+        command = (
+          now,
+          c.now.ensures,
+          λ other. promised _
+              (ran_out (of now) refl (record { host = omega arith; source = omega arith; out = t.out; err = t.err; inputs = λ told. refl; takes = nothing_taken (of now) refl (told_of _ OutOfMemory _ _ _ _ _ _ c.tell_refused.result t.told) _; lawful = g.met.H.Host.lawful c.args.host.now; tells = g.met.H.Host.honest_tells }) alone t.told)
+              (λ count seed is. (refl, refl)),
+        );
         script = script_ran_out (of 0) _ (may_want_words (of 0) alone) refl (told_refused (of 0) (Err OutOfMemory) OutOfMemory [] (inl refl) t.told);
         ran = λ file is. refused (of 0) _ file is refl OutOfMemory tt tt t.told;
       };

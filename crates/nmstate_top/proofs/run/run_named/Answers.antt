@@ -12,8 +12,8 @@ none_some file e = cc
 pub returns-in-Some : goal.returns-in-Some
 returns-in-Some g c =
     let named = sym c.requires ∙ c.in-Some.is in (
-      c.in_Some-now.result,
-      c.in_Some-now.ensures,
+      c.now.result,
+      c.now.ensures,
       record {
         answered = λ none. absurd (some_none c.in-Some.file (sym c.in-Some.is ∙ (c.requires ∙ none)));
         apart = λ none. absurd (some_none c.in-Some.file (sym c.in-Some.is ∙ (c.requires ∙ none)));
