@@ -1,5 +1,5 @@
-//! Calls as bytes, appended to others. Where memory is refused, a part of a call may stand behind the old bytes.
-ghost use Rattle.std.specs.Prelude.{◌≡◌, ◌++◌, ◌∷◌, [], true, OnOk};
+//! Calls as bytes, appended to others. Where memory is refused, the bytes are as they were.
+ghost use Rattle.std.specs.Prelude.{◌≡◌, ◌++◌, ◌∷◌, [], true, OnOk, OnErr};
 ghost use Rattle.net_image.specs.Form.{number};
 ghost use Rattle.net_image.specs.Fields.{name};
 ghost use Rattle.call_journal.specs.Calls.{call_form, HasBytes};
@@ -45,10 +45,9 @@ fn begin(number: u8, of: &Name, out: &mut Vec<u8>) -> Result<(), OutOfMemory>
     push_name(of, out)
 }
 
-/// Appends the bytes of a call. Settings of DNS have them where they have no more servers and search domains than a
-/// network may have, and every other call has them.
+// The bytes of a call; where memory is refused, a part of them may stand after the old ones.
 #[tactic(auto, unfolding(crate::specs::Calls::call_form))]
-pub fn write_call(call: &Call, out: &mut Vec<u8>) -> Result<(), OutOfMemory>
+fn push_call(call: &Call, out: &mut Vec<u8>) -> Result<(), OutOfMemory>
     requires { HasBytes call.now }
     ensures bytes { OnOk result (out.new.items ≡ out.old.items ++ call_form.write call.now) }
     ensures fits { OnOk result (call_form.fits call.now ≡ true) }
@@ -115,4 +114,18 @@ pub fn write_call(call: &Call, out: &mut Vec<u8>) -> Result<(), OutOfMemory>
             put_dns(dns, out)
         }
     }
+}
+
+/// Appends the bytes of a call. Settings of DNS have them where they have no more servers and search domains than a
+/// network may have, and every other call has them. Where memory runs out, `out` is as it was.
+pub fn write_call(call: &Call, out: &mut Vec<u8>) -> Result<(), OutOfMemory>
+    requires { HasBytes call.now }
+    ensures bytes { OnOk result (out.new.items ≡ out.old.items ++ call_form.write call.now) }
+    ensures fits { OnOk result (call_form.fits call.now ≡ true) }
+    ensures unchanged { OnErr result (out.new.items ≡ out.old.items) }
+{
+    let mut bytes = Vec::new(*out.allocator());
+    push_call(call, &mut bytes)?;
+    out.extend_from_slice(&bytes)?;
+    Ok(())
 }
