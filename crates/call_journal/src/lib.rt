@@ -1,6 +1,8 @@
 //! Kernel calls as bytes, and journals of calls.
 #![tactic(auto)]
 
+// How long a journal may grow.
+mod bounds;
 // Why bytes are no call, and no journal.
 mod fault;
 // What holds of calls as bytes, of journals and of kernel areas.
@@ -15,12 +17,16 @@ mod record;
 mod replaying;
 // The calls on addresses, routes, rules and DNS, behind their numbers.
 mod rest_call;
+// What the records of a journal weigh.
+mod weight;
 // Calls as bytes, appended to others.
 mod write;
 
 pub use base_model::OutOfMemory;
+pub use bounds::{SPARE, WIDE};
 pub use fault::{RecordFault, ReplayFault};
 pub use laws::{area_laws, call_laws, journal_laws};
 pub use read::read_call;
 pub use replaying::replay;
+pub use weight::record_weight;
 pub use write::write_call;
