@@ -78,8 +78,8 @@ module _ (laws : ImageLaws) where
       let all : replayed j.first (drop (4 + n) slot) ≡ Some (net, length recs) = ap (replayed j.first) behind ∙ records_read j.calls j.rest j.first net j.fits j.ends j.runs in
       let size : length slot ≡ (4 + n) + (length recs + length j.rest) = omega (arith, ap length behind, length-append recs j.rest, length-drop (4 + n) slot, has.inside) in
       elim (cases_lt ((4 + n) + length recs) (length slot)) [
-        | inl within ↦ ap net_held (journaled_held slot n first j.first has ∙ gate_held first n (length recs) slot j.first net all within)
-        | inr past ↦ ap net_held (journaled_held slot n first j.first has ∙ full_held first n (length recs) slot j.first net all past (whole_of j.rest (omega (arith, size, past)) j.whole))
+        | inl within ↦ ap net_held (journaled_held slot n first j.first has ∙ gate_held first (4 + n) (length recs) slot j.first net all within)
+        | inr past ↦ ap net_held (journaled_held slot n first j.first has ∙ full_held first (4 + n) (length recs) slot j.first net all past (whole_of j.rest (omega (arith, size, past)) j.whole))
       ]
     where
       whole_of : (rest : List ℕ) → length rest ≤ 0 → (rest ≢ []) ⊎ (length slot ≡ 1048576) → length slot ≡ 1048576

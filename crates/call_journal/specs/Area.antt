@@ -64,20 +64,20 @@ pub record HasImage (slot : List ℕ) (n : ℕ) (journal first : Bool) (image : 
   pub version : is_first (take n (drop 4 slot)) ≡ first
   pub is_image : net_of (take n (drop 4 slot)) ≡ Some image
 
--- A journal stands behind an image of this length. It ends at its first closed gate, or with the slot; a slot that is cut
+-- A journal that begins at this place of the slot. It ends at its first closed gate, or with the slot; a slot that is cut
 -- off before holds nothing.
 abbrev pub journal_held : Bool → ℕ → List ℕ → NetData → Option Held
-journal_held first n slot net =
+journal_held first from slot net =
     option_and_then (λ r.
-    if nat_lt (4 + n + r.1) (length slot) then Some (held first r.0 (Some (4 + n + r.1)) (spare_of n (journal_weight (drop (4 + n) slot))))
+    if nat_lt (from + r.1) (length slot) then Some (held first r.0 (Some (from + r.1)) (spare_of (journal_weight (drop from slot))))
     else if length slot == 1048576 then Some (held first r.0 None 0)
     else None)
-    (replayed net (drop (4 + n) slot))
+    (replayed net (drop from slot))
 
 -- what an image of this length holds, and the journal behind it, if there is one
 abbrev pub image_held : ℕ → List ℕ → Option Held
 image_held n slot =
-    option_and_then (λ net. if has_journal slot then journal_held (is_first (take n (drop 4 slot))) n slot net else Some (held (is_first (take n (drop 4 slot))) net None 0))
+    option_and_then (λ net. if has_journal slot then journal_held (is_first (take n (drop 4 slot))) (4 + n) slot net else Some (held (is_first (take n (drop 4 slot))) net None 0))
     (net_of (take n (drop 4 slot)))
 
 -- what the bytes of a slot hold: behind four bytes an image of at most 1,048,572 bytes, and perhaps a journal

@@ -1,10 +1,9 @@
--- What the records of a journal weigh: how dear they are to replay, beside the reading of an image byte by byte.
+-- What the records of a journal weigh: how dear they are to replay.
 use Rattle.std.specs.Prelude.{ℕ, zero, suc, ◌+◌, ◌-◌, Bool, true, false, List, length, if◌then◌else◌}
 use Rattle.std.specs.Option.{option_map_or}
 use Rattle.net_model.specs.declared.call.Call.{Call}
 use Rattle.net_model.specs.declared.call.Call.TheVariants.{DelLink, Down, SetMtu, DelAddress}
 use Rattle.call_journal.specs.Records.{open_record, is_open}
-use Rattle.call_journal.specs.declared.bounds.TheConstants.{WIDE, SPARE}
 
 -- the call may change more than the link that it names: what hangs on that, or the routes over it
 abbrev pub is_wide : Call → Bool
@@ -16,7 +15,7 @@ is_wide _ = false
 
 -- the record of a call, which has so many bytes: its length, or for a wide call always the same
 abbrev pub weight_of : Call → ℕ → ℕ
-weight_of call size = if is_wide call then WIDE else size
+weight_of call size = if is_wide call then 1024 else size
 
 -- the records up to the first gate that isn't open, or to an open gate without a whole record
 abbrev pub weight_in : ℕ → List ℕ → ℕ
@@ -27,6 +26,6 @@ weight_in (suc n) bytes = if is_open bytes then option_map_or (λ r. weight_of r
 unfoldable pub journal_weight : List ℕ → ℕ
 journal_weight bytes = weight_in (length bytes) bytes
 
--- how much more the journal behind an image of this length may weigh: no more than the image and some bytes
-abbrev pub spare_of : ℕ → ℕ → ℕ
-spare_of image weight = (image + SPARE) - weight
+-- how much more a journal of this weight may weigh before a call folds
+abbrev pub spare_of : ℕ → ℕ
+spare_of weight = 131072 - weight

@@ -1,8 +1,6 @@
 //! Kernel calls as bytes, and journals of calls.
 #![tactic(auto)]
 
-// How long a journal may grow.
-mod bounds;
 // Why bytes are no call, and no journal.
 mod fault;
 // What holds of calls as bytes, of journals and of kernel areas.
@@ -23,7 +21,6 @@ mod weight;
 mod write;
 
 pub use base_model::OutOfMemory;
-pub use bounds::{SPARE, WIDE};
 pub use fault::{RecordFault, ReplayFault};
 pub use laws::{area_laws, call_laws, journal_laws};
 pub use read::read_call;

@@ -2,8 +2,10 @@
 ghost use Rattle.std.specs.Prelude.{◌≡◌, ℕ};
 ghost use Rattle.call_journal.specs.Weight.{is_wide, weight_of};
 
-use crate::bounds::WIDE;
 use net_model::Call;
+
+// What the record of a wide call weighs: about as many bytes of others take as long to replay.
+const WIDE: u64 = 1024;
 
 // Whether a call may change more than the link that it names: what hangs on that, or the routes over it.
 fn is_wide(call: &Call) -> bool

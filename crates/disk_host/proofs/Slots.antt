@@ -7,7 +7,6 @@ use Rattle.std.proofs.lemmas.List.{get_or-take, drop-drop, take-take, drop-take,
 use Rattle.net_model.specs.NetData.{NetData}
 use Rattle.net_image.specs.Image.{net_of}
 use Rattle.host_core.specs.Bytes.{Torn, Written}
-use Rattle.call_journal.specs.declared.bounds.TheConstants.{SPARE}
 use Rattle.call_journal.specs.Area.{Held, held, is_first, slot_at, slot_of, selects, selector, slot_held, kernel_held, net_held, kernel_net, new_slot}
 use Rattle.call_journal.proofs.lemmas.Slots.{more_behind, new_held}
 use Rattle.disk_host.specs.Slots.{IsApart}
@@ -143,7 +142,7 @@ other_kept false n old new small chosen apart torn =
     (selects_kept old new (before_kept 1 n 1 old new torn (omega arith) (some_selects old chosen)) ∙ chosen, ap slot_held (back_kept n old new small torn) ∙ sym is)
 
 pub slot_written : (to : Bool) (image slot old mid : List ℕ) (net : NetData) → length image ≤ 864508 → is_first image ≡ false → net_of image ≡ Some net → slot ≡ new_slot image → length slot ≤ 1048576 → Written (slot_at to) slot old mid
-    → slot_held (slot_of to mid) ≡ Some (held false net (Some (4 + length image)) (length image + SPARE))
+    → slot_held (slot_of to mid) ≡ Some (held false net (Some (4 + length image)) 131072)
 slot_written to image slot old mid net small latest is spelled fits written =
     let rest = drop (length slot) (drop (slot_at to) mid) in
     let whole : drop (slot_at to) mid ≡ slot ++ rest = sym (take-append-drop (length slot) (drop (slot_at to) mid)) ∙ ap (λ (l : List ℕ). l ++ rest) written.stands in

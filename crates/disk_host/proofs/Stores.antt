@@ -13,7 +13,6 @@ use Rattle.host_core.specs.Stops.{Stops, Steps}
 use Rattle.host_core.proofs.lemmas.Moments.{weaken, follow}
 use Rattle.call_journal.specs.Records.{sized_call, open_record, is_open}
 use Rattle.call_journal.specs.Weight.{weight_of}
-use Rattle.call_journal.specs.declared.bounds.TheConstants.{SPARE}
 use Rattle.call_journal.specs.Area.{Held, held, is_first, slot_at, slot_of, selects, selector, slot_held, kernel_held, net_held, kernel_net, new_slot}
 use Rattle.disk_host.specs.Slots.{MaybeStored, IsApart}
 use Rattle.disk_host.proofs.Slots.{other_kept, slots_kept, one_of_both, selects_written}
@@ -41,12 +40,12 @@ module _ (to : Bool) (net : NetData) (image slot : List ℕ) (small : length ima
       record { cell = step.same; net = inl (ap (λ (b : Bool). net_held (slot_held (slot_of b s.kernel))) kept.0 ∙ ap net_held kept.1) }
 
   pub second_step : (q r s : Areas) → selects q.kernel ≡ not to → IsApart to q.kernel → AreaTorn 0 (slot_at to) (length slot) q r
-      → slot_held (slot_of to r.kernel) ≡ Some (held false net (Some (4 + length image)) (length image + SPARE)) → AreaTorn 0 0 1 r s → MaybeStored (Some net) q s
+      → slot_held (slot_of to r.kernel) ≡ Some (held false net (Some (4 + length image)) 131072) → AreaTorn 0 0 1 r s → MaybeStored (Some net) q s
   second_step q r s chosen some one stored two =
       let kept = other_kept to (length slot) q.kernel r.kernel fits chosen some one.torn in
       record {
         cell = two.same ∙ one.same;
-        net = either_net (kernel_held s.kernel) (slot_held (slot_of (not to) r.kernel)) (slot_held (slot_of to r.kernel)) (kernel_held q.kernel) false net (Some (4 + length image)) (length image + SPARE) (one_of_both to r.kernel s.kernel two.torn) kept.1 stored;
+        net = either_net (kernel_held s.kernel) (slot_held (slot_of (not to) r.kernel)) (slot_held (slot_of to r.kernel)) (kernel_held q.kernel) false net (Some (4 + length image)) 131072 (one_of_both to r.kernel s.kernel two.torn) kept.1 stored;
       }
 
   module _ (old : DiskView) (sure : HasArea 0 old.areas.kernel old) (chosen : selects old.areas.kernel ≡ not to) (some : IsApart to old.areas.kernel) where
@@ -61,14 +60,14 @@ module _ (to : Bool) (net : NetData) (image slot : List ℕ) (small : length ima
         (λ r s left step. first_step r s (chosen_of r left) (some_of r left) step)
 
     pub store_both : (mid : DiskView) (new : Stops Areas) → Steps (AreaTorn 0 (slot_at to) (length slot)) old.stops mid.stops
-        → HasArea 0 mid.areas.kernel mid → slot_held (slot_of to mid.areas.kernel) ≡ Some (held false net (Some (4 + length image)) (length image + SPARE))
+        → HasArea 0 mid.areas.kernel mid → slot_held (slot_of to mid.areas.kernel) ≡ Some (held false net (Some (4 + length image)) 131072)
         → Steps (AreaTorn 0 0 1) mid.stops new → Steps (MaybeStored (Some net)) old.stops new
     store_both mid new first sure_mid stored second =
         follow (AreaTorn 0 (slot_at to) (length slot)) (AreaTorn 0 0 1) (MaybeStored (Some net)) old.stops mid.stops new first second
         (λ r s left step. first_step r s (chosen_of r left) (some_of r left) step)
         (λ q r s was left one two. second_step q r s (chosen_of q was) (some_of q was) one (ap (λ (l : List ℕ). slot_held (slot_of to l)) (sure_mid r left) ∙ stored) two)
 
-  pub store_done : (mid new : List ℕ) → slot_held (slot_of to mid) ≡ Some (held false net (Some (4 + length image)) (length image + SPARE)) → Written 0 (selector to ∷ []) mid new → kernel_held new ≡ Some (held false net (Some (4 + length image)) (length image + SPARE))
+  pub store_done : (mid new : List ℕ) → slot_held (slot_of to mid) ≡ Some (held false net (Some (4 + length image)) 131072) → Written 0 (selector to ∷ []) mid new → kernel_held new ≡ Some (held false net (Some (4 + length image)) 131072)
   store_done mid new stored written =
       ap (λ (b : Bool). slot_held (slot_of b new)) (selects_written to mid new written) ∙ ap slot_held (slots_kept mid new written.torn to) ∙ stored
 

@@ -15,7 +15,6 @@ use Rattle.call_journal.specs.Replay.{replayed}
 use Rattle.call_journal.specs.Area.{Held, held, HasImage, is_first, has_journal, image_length, journal_held, image_held, slot_held, new_slot}
 use Rattle.call_journal.proofs.lemmas.Record.{Begins, begins_read}
 use Rattle.call_journal.specs.Weight.{weight_of, journal_weight, spare_of}
-use Rattle.call_journal.specs.declared.bounds.TheConstants.{SPARE}
 use Rattle.call_journal.proofs.lemmas.Weighing.{weight_closed, weight_opened, weight_along}
 use Rattle.call_journal.proofs.lemmas.Replaying.{shifted, along, at_end, goes_on, closed_there, within_bytes}
 
@@ -36,33 +35,33 @@ plain_held slot n first image is =
     rw (fits, found, is.bit) (ap (λ (b : Bool). Some (held b image None 0)) version)
 
 -- and one with a journal as its journal leads
-pub journaled_held : (slot : List ℕ) (n : ℕ) (first : Bool) (image : NetData) → HasImage slot n true first image → slot_held slot ≡ journal_held first n slot image
+pub journaled_held : (slot : List ℕ) (n : ℕ) (first : Bool) (image : NetData) → HasImage slot n true first image → slot_held slot ≡ journal_held first (4 + n) slot image
 unfolding slot_held
 journaled_held slot n first image is =
     let fits : (leb (image_length slot) 1048572 && leb (4 + image_length slot) (length slot)) ≡ true =
     and_from (leb (image_length slot) 1048572) (leb (4 + image_length slot) (length slot)) (le-leb (image_length slot) 1048572 (omega (arith, is.size, is.small))) (le-leb (4 + image_length slot) (length slot) (omega (arith, is.size, is.inside))) in
     let found : net_of (take (image_length slot) (drop 4 slot)) ≡ Some image = ap (λ (k : ℕ). net_of (take k (drop 4 slot))) is.size ∙ is.is_image in
     let version : is_first (take (image_length slot) (drop 4 slot)) ≡ first = ap (λ (k : ℕ). is_first (take k (drop 4 slot))) is.size ∙ is.version in
-    rw (fits, found, is.bit) (ap (λ (b : Bool). journal_held b (image_length slot) slot image) version ∙ ap (λ (k : ℕ). journal_held first k slot image) is.size)
+    rw (fits, found, is.bit) (ap (λ (b : Bool). journal_held b (4 + image_length slot) slot image) version ∙ ap (λ (k : ℕ). journal_held first (4 + k) slot image) is.size)
 
 -- ---- the journal
 
 -- a journal that ends at a closed gate
-pub gate_held : (first : Bool) (n place : ℕ) (slot : List ℕ) (image last : NetData) → replayed image (drop (4 + n) slot) ≡ Some (last, place) → (4 + n) + place < length slot
-    → journal_held first n slot image ≡ Some (held first last (Some ((4 + n) + place)) (spare_of n (journal_weight (drop (4 + n) slot))))
-gate_held first n place slot image last all within = rw (all, lt-ltb ((4 + n) + place) (length slot) within) refl
+pub gate_held : (first : Bool) (from place : ℕ) (slot : List ℕ) (image last : NetData) → replayed image (drop from slot) ≡ Some (last, place) → from + place < length slot
+    → journal_held first from slot image ≡ Some (held first last (Some (from + place)) (spare_of (journal_weight (drop from slot))))
+gate_held first from place slot image last all within = rw (all, lt-ltb (from + place) (length slot) within) refl
 
 -- and one that ends with the slot
-pub full_held : (first : Bool) (n place : ℕ) (slot : List ℕ) (image last : NetData) → replayed image (drop (4 + n) slot) ≡ Some (last, place) → length slot ≤ (4 + n) + place → length slot ≡ 1048576
-    → journal_held first n slot image ≡ Some (held first last None 0)
-full_held first n place slot image last all past whole = rw (all, le-ltb ((4 + n) + place) (length slot) past, eq-eqb (length slot) 1048576 whole) refl
+pub full_held : (first : Bool) (from place : ℕ) (slot : List ℕ) (image last : NetData) → replayed image (drop from slot) ≡ Some (last, place) → length slot ≤ from + place → length slot ≡ 1048576
+    → journal_held first from slot image ≡ Some (held first last None 0)
+full_held first from place slot image last all past whole = rw (all, le-ltb (from + place) (length slot) past, eq-eqb (length slot) 1048576 whole) refl
 
 -- ---- what is known of a slot that holds something
 
 -- an image alone; a journal that ends at a closed gate; a journal that ends with the slot
 pub data Holding (slot : List ℕ) (h : Held) : Type 0 where
   plain : (n : ℕ) (first : Bool) (image : NetData) → HasImage slot n false first image → h ≡ held first image None 0 → Holding slot h
-  gated : (n place : ℕ) (first : Bool) (image last : NetData) → HasImage slot n true first image → replayed image (drop (4 + n) slot) ≡ Some (last, place) → (4 + n) + place < length slot → h ≡ held first last (Some ((4 + n) + place)) (spare_of n (journal_weight (drop (4 + n) slot))) → Holding slot h
+  gated : (n place : ℕ) (first : Bool) (image last : NetData) → HasImage slot n true first image → replayed image (drop (4 + n) slot) ≡ Some (last, place) → (4 + n) + place < length slot → h ≡ held first last (Some ((4 + n) + place)) (spare_of (journal_weight (drop (4 + n) slot))) → Holding slot h
   full : (n place : ℕ) (first : Bool) (image last : NetData) → HasImage slot n true first image → replayed image (drop (4 + n) slot) ≡ Some (last, place) → length slot ≤ (4 + n) + place → length slot ≡ 1048576 → h ≡ held first last None 0 → Holding slot h
 
 same_some : {X : Type 0} (x y : X) → Some x ≡ Some y → y ≡ x
@@ -76,24 +75,24 @@ parts_of slot h is =
     let first = is_first (take n (drop 4 slot)) in
     let a = chosen (leb n 1048572 && leb (4 + n) (length slot)) (image_held n slot) h is in
     let fits = and_parts (leb n 1048572) (leb (4 + n) (length slot)) a.0 in
-    let b = bind_some (net_of (take n (drop 4 slot))) (λ (net : NetData). cond (has_journal slot) (journal_held first n slot net) (Some (held first net None 0))) h a.1 in
+    let b = bind_some (net_of (take n (drop 4 slot))) (λ (net : NetData). cond (has_journal slot) (journal_held first (4 + n) slot net) (Some (held first net None 0))) h a.1 in
     let has : (journal : Bool) → has_journal slot ≡ journal → HasImage slot n journal first b.0 =
     λ journal bit. record { size = refl; bit = bit; small = leb-true _ _ fits.0; inside = leb-true _ _ fits.1; version = refl; is_image = b.1 } in
     by_bit n first b.0 (has_journal slot) has refl b.2
   where
     by_end : (n : ℕ) (first : Bool) (image : NetData) → HasImage slot n true first image → (r : NetData × ℕ) → replayed image (drop (4 + n) slot) ≡ Some r → (t : Bool) → ltb ((4 + n) + r.1) (length slot) ≡ t
-        → cond t (Some (held first r.0 (Some ((4 + n) + r.1)) (spare_of n (journal_weight (drop (4 + n) slot))))) (cond (eqb (length slot) 1048576) (Some (held first r.0 None 0)) None) ≡ Some h → Holding slot h
+        → cond t (Some (held first r.0 (Some ((4 + n) + r.1)) (spare_of (journal_weight (drop (4 + n) slot))))) (cond (eqb (length slot) 1048576) (Some (held first r.0 None 0)) None) ≡ Some h → Holding slot h
     by_end n first image has r all true below e = gated n r.1 first image r.0 has all (ltb-true _ _ below) (same_some _ _ e)
     by_end n first image has r all false past e =
         let c = chosen (eqb (length slot) 1048576) (Some (held first r.0 None 0)) h e in
         full n r.1 first image r.0 has all (ltb-false _ _ past) (eqb-true _ _ c.0) (same_some _ _ c.1)
 
     by_bit : (n : ℕ) (first : Bool) (image : NetData) (t : Bool) → ((journal : Bool) → has_journal slot ≡ journal → HasImage slot n journal first image) → has_journal slot ≡ t
-        → cond t (journal_held first n slot image) (Some (held first image None 0)) ≡ Some h → Holding slot h
+        → cond t (journal_held first (4 + n) slot image) (Some (held first image None 0)) ≡ Some h → Holding slot h
     by_bit n first image false has bit e = plain n first image (has false bit) (same_some _ _ e)
     by_bit n first image true has bit e =
         let b = bind_some (replayed image (drop (4 + n) slot))
-        (λ (r : NetData × ℕ). cond (ltb ((4 + n) + r.1) (length slot)) (Some (held first r.0 (Some ((4 + n) + r.1)) (spare_of n (journal_weight (drop (4 + n) slot))))) (cond (eqb (length slot) 1048576) (Some (held first r.0 None 0)) None)) h e in
+        (λ (r : NetData × ℕ). cond (ltb ((4 + n) + r.1) (length slot)) (Some (held first r.0 (Some ((4 + n) + r.1)) (spare_of (journal_weight (drop (4 + n) slot))))) (cond (eqb (length slot) 1048576) (Some (held first r.0 None 0)) None)) h e in
         by_end n first image (has true bit) b.0 b.1 (ltb ((4 + n) + b.0.1) (length slot)) refl b.2
 
 -- ---- slots that are the same up to a place
@@ -151,8 +150,8 @@ gate_still slot other version net gate spare is same closed long = elim (parts_o
       journal_along slot other n place first image last has all upto (omega (arith, here)) ∙ ap (shifted place) ends ∙ (let z : place + 0 ≡ place = omega arith in ap (λ (k : ℕ). Some (last, k)) z) in
       let none : journal_weight (drop ((4 + n) + place) other) ≡ 0 = weight_closed (drop ((4 + n) + place) other) (sym (ap (λ (k : ℕ). is_open (drop k other)) g) ∙ closed) in
       let weight : journal_weight (drop (4 + n) other) ≡ journal_weight (drop (4 + n) slot) = (let more = weight_behind slot other n place image last all upto (omega (arith, here)) in omega (arith, more, none)) in
-      journaled_held other n first image (same_image slot other n true first image has front (omega (arith, here))) ∙ gate_held first n place other image last whole here
-      ∙ ap (λ (w : ℕ). Some (held first last (Some ((4 + n) + place)) (spare_of n w))) weight ∙ ap Some (sym e)
+      journaled_held other n first image (same_image slot other n true first image has front (omega (arith, here))) ∙ gate_held first (4 + n) place other image last whole here
+      ∙ ap (λ (w : ℕ). Some (held first last (Some ((4 + n) + place)) (spare_of w))) weight ∙ ap Some (sym e)
 ]
 
 -- what is known of the closed gate of a slot
@@ -212,16 +211,16 @@ record_added slot other version net next gate spare n call is same begins steppe
       journal_along slot other m place first image last has all upto (omega (arith, long, g)) ∙ ap (shifted place) here in
       let at : (4 + m) + (place + (3 + n)) ≡ gate + (3 + n) = omega (arith, g) in
       let is_version : first ≡ version = sym (ap (λ (h : Held). h.first_image) e) in
-      let spare_is : spare ≡ spare_of m (journal_weight (drop (4 + m) slot)) = ap (λ (h : Held). h.spare) e in
+      let spare_is : spare ≡ spare_of (journal_weight (drop (4 + m) slot)) = ap (λ (h : Held). h.spare) e in
       let none : journal_weight (drop (3 + n) (drop gate other)) ≡ 0 = weight_closed (drop (3 + n) (drop gate other)) (ap is_open (drop-drop (3 + n) gate other) ∙ closed) in
       let one_weight : journal_weight (drop gate other) ≡ weight_of call (3 + n) + journal_weight (drop (3 + n) (drop gate other)) =
       weight_opened (drop gate other) (drop (3 + n) (drop gate other)) call begins.opens (begins_read (drop gate other) n call begins)
       ∙ ap (λ (k : ℕ). weight_of call k + journal_weight (drop (3 + n) (drop gate other))) used in
       let weight : journal_weight (drop (4 + m) other) ≡ journal_weight (drop (4 + m) slot) + journal_weight (drop gate other) =
       weight_behind slot other m place image last all upto (omega (arith, long, g)) ∙ ap (λ (k : ℕ). journal_weight (drop (4 + m) slot) + journal_weight (drop k other)) (sym g) in
-      let left : spare_of m (journal_weight (drop (4 + m) other)) ≡ spare - weight_of call (3 + n) = omega (arith, weight, one_weight, none, spare_is) in
+      let left : spare_of (journal_weight (drop (4 + m) other)) ≡ spare - weight_of call (3 + n) = omega (arith, weight, one_weight, none, spare_is) in
       journaled_held other m first image (same_image slot other m true first image has front (omega (arith, long, g)))
-      ∙ gate_held first m (place + (3 + n)) other image next whole (omega (arith, long, g))
+      ∙ gate_held first (4 + m) (place + (3 + n)) other image next whole (omega (arith, long, g))
       ∙ ap (λ (w : ℕ). Some (held first next (Some ((4 + m) + (place + (3 + n)))) w)) left
       ∙ ap (λ (k : ℕ). Some (held first next (Some k) (spare - weight_of call (3 + n)))) at ∙ ap (λ (b : Bool). Some (held b next (Some (gate + (3 + n))) (spare - weight_of call (3 + n)))) is_version
 ]
@@ -234,7 +233,7 @@ more_behind slot other h is same within =
       | plain n first image has e ↦
           plain_held other n first image (same_image slot other n false first image has (front n has.inside) (omega (arith, long, has.inside))) ∙ ap Some (sym e)
       | gated n place first image last has all within2 e ↦
-          gate_kept slot other first last ((4 + n) + place) (spare_of n (journal_weight (drop (4 + n) slot))) (is ∙ ap Some e) (front_of (((4 + n) + place) + 1) (omega (arith, within2))) ∙ ap Some (sym e)
+          gate_kept slot other first last ((4 + n) + place) (spare_of (journal_weight (drop (4 + n) slot))) (is ∙ ap Some e) (front_of (((4 + n) + place) + 1) (omega (arith, within2))) ∙ ap Some (sym e)
       | full n place first image last has all past whole e ↦
           let e2 : other ≡ slot = sym (take_all (length slot) other (omega (arith, whole, within))) ∙ same in
           ap slot_held e2 ∙ is
@@ -248,7 +247,7 @@ more_behind slot other h is same within =
 
 -- an image with an empty journal
 pub new_held : (image rest : List ℕ) (first : Bool) (net : NetData) → length image ≤ 1048571 → is_first image ≡ first → net_of image ≡ Some net
-    → slot_held (new_slot image ++ rest) ≡ Some (held first net (Some (4 + length image)) (length image + SPARE))
+    → slot_held (new_slot image ++ rest) ≡ Some (held first net (Some (4 + length image)) 131072)
 unfolding new_slot
 new_held image rest first net small version is =
     let size = length image in
@@ -273,9 +272,9 @@ new_held image rest first net small version is =
     let none : replayed net (drop (4 + size) bytes) ≡ Some (net, 0) = ap (replayed net) journal ∙ at_end net (0 ∷ rest) refl in
     let at : (4 + size) + 0 ≡ 4 + size = omega arith in
     let light : journal_weight (drop (4 + size) bytes) ≡ 0 = ap journal_weight journal ∙ weight_closed (0 ∷ rest) refl in
-    let spare : spare_of size (journal_weight (drop (4 + size) bytes)) ≡ size + SPARE = omega (arith, light) in
-    ap slot_held regrouped ∙ journaled_held bytes size first net has ∙ gate_held first size 0 bytes net net none long
-    ∙ ap (λ (w : ℕ). Some (held first net (Some ((4 + size) + 0)) w)) spare ∙ ap (λ (k : ℕ). Some (held first net (Some k) (size + SPARE))) at
+    let spare : spare_of (journal_weight (drop (4 + size) bytes)) ≡ 131072 = omega (arith, light) in
+    ap slot_held regrouped ∙ journaled_held bytes size first net has ∙ gate_held first (4 + size) 0 bytes net net none long
+    ∙ ap (λ (w : ℕ). Some (held first net (Some ((4 + size) + 0)) w)) spare ∙ ap (λ (k : ℕ). Some (held first net (Some k) 131072)) at
   where
     low_bits : (n : ℕ) → n ≤ 1048571 → (2 ^ 31 + n) % 2 ^ 31 ≡ n
     low_bits n le = add-mod_left (2 ^ 31) n ∙ mod-eq_of_lt (omega arith)

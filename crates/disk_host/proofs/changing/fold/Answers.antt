@@ -1,6 +1,5 @@
 use Rattle.std.proofs.Common.{◌≡◌, ◌∙◌, ◌+◌, ℕ, List, length, Some, false, refl, rules, sym, ap, subst}
 use Rattle.net_image.specs.Image.{IsImage}
-use Rattle.call_journal.specs.declared.bounds.TheConstants.{SPARE}
 use Rattle.call_journal.specs.Area.{held}
 use Rattle.disk_host.proofs.Changes.{apart, selected, wrote_image}
 use Rattle.disk_host.proofs.Storing.{unwritten, stored, unstored}
@@ -14,11 +13,11 @@ store-requires-clause-apart g c = λ tells. apart c.args.call.now c.args.kept (g
 
 pub returns-in-Ok-store : goal.returns-in-Ok-store
 returns-in-Ok-store g c =
-    let long : length c.deref.result.now ≡ c.len-size.result = search rules in
+    let long : length c.deref.result.now ≡ c.len.result = search rules in
     stored g.D.Disk.tells c.args.call.now c.args.kept (g.D.Disk.told c.args.disk.now) (g.D.Disk.told c.store.new.disk) c.store.ensures.maybe c.store.ensures.stops c.store.ensures.stops_cell c.store.ensures.cause.later _
     (λ tells. record {
       second = c.in-Ok-store.ensures.selects tells;
-      held = c.in-Ok-store.ensures.held tells ∙ ap (λ (k : ℕ). Some (held false c.args.kept.net (Some (4 + k)) (k + SPARE))) long;
+      held = c.in-Ok-store.ensures.held tells ∙ ap (λ (k : ℕ). Some (held false c.args.kept.net (Some (4 + k)) 131072)) long;
     })
     refl c.in-Ok-store.ensures.sure
     (λ tells. wrote_image c.args.call.now c.args.kept (g.D.Disk.told c.args.disk.now).areas.kernel (c.requires.after tells) c.deref.result.now (g.D.Disk.told c.store.new.disk).areas.kernel c.requires.room

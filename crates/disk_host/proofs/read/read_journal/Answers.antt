@@ -64,8 +64,8 @@ returns-then-end-there-clause-held g c = λ tells.
     let size : length slot ≡ from + there = slot_size c.args.second from there c.in_ok-filled.filled area c.deref_mut.result.now c.read_at.new.buf le has.inside many long filled in
     let whole : c.deref.result.now ≡ drop from slot = c.deref.ensures.value ∙ take_at c.read_at.new.buf _ _ (omega (arith, c.deref_mut.ensures.len)) ∙ journal_is c.args.second from there c.in_ok-filled.filled area c.deref_mut.result.now c.read_at.new.buf le has.inside many long filled in
     let all : replayed image (drop from slot) ≡ Some (c.replay.new.net, c.in-Ok-replay.ended.0) = ap (replayed image) (sym whole) ∙ c.in-Ok-replay.ensures.replayed in
-    let spare : c.in-Ok-replay.ended.1 ≡ spare_of n (journal_weight (drop from slot)) = c.in-Ok-replay.ensures.weighed ∙ ap (λ (l : List ℕ). spare_of n (journal_weight l)) whole in
-    journaled_held slot n first image has ∙ gate_held first n c.in-Ok-replay.ended.0 slot image c.replay.new.net all (omega (arith, c.if-end-there.true, size))
+    let spare : c.in-Ok-replay.ended.1 ≡ spare_of (journal_weight (drop from slot)) = c.in-Ok-replay.ensures.weighed ∙ ap (λ (l : List ℕ). spare_of (journal_weight l)) whole in
+    journaled_held slot n first image has ∙ gate_held first from c.in-Ok-replay.ended.0 slot image c.replay.new.net all (omega (arith, c.if-end-there.true, size))
     ∙ ap (λ (w : ℕ). Some (held first c.replay.new.net (Some (from + c.in-Ok-replay.ended.0)) w)) (sym spare)
 
 pub returns-then-there-room-clause-damaged : goal.returns-then-there-room-clause-damaged
@@ -106,7 +106,7 @@ returns-clause-held g c = λ tells.
     let size : length slot ≡ from + there = slot_size c.args.second from there c.in_ok-filled.filled area c.deref_mut.result.now c.read_at.new.buf le has.inside many long filled in
     let whole : c.deref.result.now ≡ drop from slot = c.deref.ensures.value ∙ take_at c.read_at.new.buf _ _ (omega (arith, c.deref_mut.ensures.len)) ∙ journal_is c.args.second from there c.in_ok-filled.filled area c.deref_mut.result.now c.read_at.new.buf le has.inside many long filled in
     let all : replayed image (drop from slot) ≡ Some (c.replay.new.net, c.in-Ok-replay.ended.0) = ap (replayed image) (sym whole) ∙ c.in-Ok-replay.ensures.replayed in
-    journaled_held slot n first image has ∙ full_held first n c.in-Ok-replay.ended.0 slot image c.replay.new.net all (omega (arith, c.if-end-there.false, size)) (omega (arith, c.if-there-room.false, size, many, le))
+    journaled_held slot n first image has ∙ full_held first from c.in-Ok-replay.ended.0 slot image c.replay.new.net all (omega (arith, c.if-end-there.false, size)) (omega (arith, c.if-there-room.false, size, many, le))
 
 -- ---- what is touched
 
