@@ -3,3 +3,4 @@ pub mod Record
 pub mod Replaying
 pub mod Slots
 pub mod Versions
+pub mod Weighing

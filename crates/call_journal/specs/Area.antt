@@ -1,5 +1,5 @@
 -- What the bytes of a kernel area stand for: a selector, and two slots with an image and a journal of calls.
-use Rattle.std.specs.Prelude.{◌≡◌, ◌≢◌, ◌⊎◌, ◌≤◌, ℕ, ◌+◌, ◌%◌, ◌^◌, ◌==◌, ◌&&◌, nat_eq, nat_le, nat_lt, Bool, true, false, List, [], ◌∷◌, ◌++◌, length, take, drop, slice_index, Option, Some, None, option_map, option_and_then, if◌then◌else◌}
+use Rattle.std.specs.Prelude.{◌≡◌, ◌≢◌, ◌⊎◌, ◌≤◌, ℕ, ◌+◌, ◌%◌, ◌^◌, ◌==◌, ◌&&◌, ◌||◌, nat_eq, nat_le, nat_lt, Bool, true, false, List, [], ◌∷◌, ◌++◌, length, take, drop, slice_index, Option, Some, None, option_map, option_and_then, if◌then◌else◌}
 use Rattle.std.specs.List.{flat_map, list_all, starts_with}
 use Rattle.byteorder.specs.Endian.{big_bytes, big_number}
 use Rattle.net_model.specs.NetData.{NetData}
@@ -8,6 +8,7 @@ use Rattle.kernel_model.specs.Runs.{Runs}
 use Rattle.net_image.specs.Image.{IsAnyImage, version_1, net_of}
 use Rattle.call_journal.specs.Records.{open_record, is_open}
 use Rattle.call_journal.specs.Replay.{replayed}
+use Rattle.call_journal.specs.Weight.{journal_weight, spare_of}
 
 -- ---- slots
 
@@ -35,15 +36,16 @@ slot_of second bytes = take 1048576 (drop (slot_at second) bytes)
 abbrev pub is_first : List ℕ → Bool
 is_first image = starts_with nat_eq image version_1
 
--- what a slot holds: whether its image is of version 1, its network, and the place in it of the closed gate that ends its
--- journal, if it has one
+-- what a slot holds: whether its image is of version 1, its network, the place in it of the closed gate that ends its
+-- journal, if it has one, and how much more its journal may weigh
 pub record Held : Type 0 where
   pub first_image : Bool
   pub net : NetData
   pub gate : Option ℕ
+  pub spare : ℕ
 
-abbrev pub held : Bool → NetData → Option ℕ → Held
-held first net gate = record { first_image = first; net = net; gate = gate }
+abbrev pub held : Bool → NetData → Option ℕ → ℕ → Held
+held first net gate spare = record { first_image = first; net = net; gate = gate; spare = spare }
 
 -- the highest bit of the first four bytes says whether a journal follows the image, the others how long the image is
 abbrev pub has_journal : List ℕ → Bool
@@ -62,20 +64,20 @@ pub record HasImage (slot : List ℕ) (n : ℕ) (journal first : Bool) (image : 
   pub version : is_first (take n (drop 4 slot)) ≡ first
   pub is_image : net_of (take n (drop 4 slot)) ≡ Some image
 
--- A journal begins at this place of a slot. It ends at its first closed gate, or with the slot; a slot that is cut off
--- before holds nothing.
+-- A journal that begins at this place of the slot. It ends at its first closed gate, or with the slot; a slot that is cut
+-- off before holds nothing.
 abbrev pub journal_held : Bool → ℕ → List ℕ → NetData → Option Held
 journal_held first from slot net =
     option_and_then (λ r.
-    if nat_lt (from + r.1) (length slot) then Some (held first r.0 (Some (from + r.1)))
-    else if length slot == 1048576 then Some (held first r.0 None)
+    if nat_lt (from + r.1) (length slot) then Some (held first r.0 (Some (from + r.1)) (spare_of (journal_weight (drop from slot))))
+    else if length slot == 1048576 then Some (held first r.0 None 0)
     else None)
     (replayed net (drop from slot))
 
 -- what an image of this length holds, and the journal behind it, if there is one
 abbrev pub image_held : ℕ → List ℕ → Option Held
 image_held n slot =
-    option_and_then (λ net. if has_journal slot then journal_held (is_first (take n (drop 4 slot))) (4 + n) slot net else Some (held (is_first (take n (drop 4 slot))) net None))
+    option_and_then (λ net. if has_journal slot then journal_held (is_first (take n (drop 4 slot))) (4 + n) slot net else Some (held (is_first (take n (drop 4 slot))) net None 0))
     (net_of (take n (drop 4 slot)))
 
 -- what the bytes of a slot hold: behind four bytes an image of at most 1,048,572 bytes, and perhaps a journal
@@ -142,9 +144,10 @@ Stands bytes net = IsPlain (slot_of (selects bytes) bytes) net ⊎ IsJournaled (
 -- ---- what a kernel call writes
 
 -- the place in the slot of the closed gate at which a record of so many bytes is appended: what the slot holds has a
--- closed gate and isn't an image of version 1, and the record and one further gate fit in the slot
+-- closed gate and isn't an image of version 1, its journal may weigh more, and the record and one further gate fit in the
+-- slot
 abbrev pub room_for : Held → ℕ → Option ℕ
-room_for k size = if k.first_image then None else option_and_then (λ gate. if nat_le (gate + size + 1) 1048576 then Some gate else None) k.gate
+room_for k size = if k.first_image || k.spare == 0 then None else option_and_then (λ gate. if nat_le (gate + size + 1) 1048576 then Some gate else None) k.gate
 
 -- the same of the selected slot
 abbrev pub room_in : Option Held → ℕ → Option ℕ

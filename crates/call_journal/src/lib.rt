@@ -15,6 +15,8 @@ mod record;
 mod replaying;
 // The calls on addresses, routes, rules and DNS, behind their numbers.
 mod rest_call;
+// What the records of a journal weigh.
+mod weight;
 // Calls as bytes, appended to others.
 mod write;
 
@@ -23,4 +25,5 @@ pub use fault::{RecordFault, ReplayFault};
 pub use laws::{area_laws, call_laws, journal_laws};
 pub use read::read_call;
 pub use replaying::replay;
+pub use weight::record_weight;
 pub use write::write_call;

@@ -1,5 +1,5 @@
 -- What a kernel call needs before it writes, and what it wrote.
-use Rattle.std.proofs.Common.{◌≡◌, inl, ℕ, ◌+◌, ◌≤◌, Bool, true, false, cond, leb, List, [], ◌∷◌, ◌++◌, length, Option, Some, None, Ok, refl, sym, ap, subst, ◌∙◌, arith, length-append}
+use Rattle.std.proofs.Common.{◌≡◌, inl, ℕ, ◌+◌, ◌≤◌, Bool, true, false, cond, eqb, leb, List, [], ◌∷◌, ◌++◌, length, Option, Some, None, Ok, refl, sym, ap, subst, ◌∙◌, arith, length-append}
 use Rattle.std.specs.Prelude.{not, ◌||◌}
 use Rattle.std.specs.Option.{option_and_then}
 use Rattle.std.proofs.lemmas.Bool.{leb-true}
@@ -50,7 +50,7 @@ pub record HasRoom (k : Held) (n gate : ℕ) : Type 0 where
   pub fits : gate + n + 1 ≤ 1048576
 
 pub has_room : (k : Held) (n gate : ℕ) → room_for k n ≡ Some gate → HasRoom k n gate
-has_room k n gate is = by k.first_image k.gate refl is
+has_room k n gate is = by (k.first_image || eqb k.spare 0) k.gate refl is
   where
     by : (v : Bool) (g : Option ℕ) → k.gate ≡ g → cond v None (option_and_then (λ (x : ℕ). cond (leb (x + n + 1) 1048576) (Some x) None) g) ≡ Some gate → HasRoom k n gate
     by true g has e = absurd cc

@@ -7,6 +7,7 @@ use Rattle.kernel_model.specs.Kernel.{step}
 use Rattle.host_core.specs.Bytes.{Torn, Written}
 use Rattle.call_journal.specs.Calls.{call_form}
 use Rattle.call_journal.specs.Records.{sized_call, open_record, is_open}
+use Rattle.call_journal.specs.Weight.{weight_of}
 use Rattle.call_journal.specs.Area.{held, slot_at, slot_of, selects, slot_held, kernel_held}
 use Rattle.call_journal.proofs.lemmas.Record.{Begins, sized_written, sized_length, record_length}
 use Rattle.call_journal.proofs.lemmas.Slots.{HasGate, gate_still, gate_kept, has_gate, record_added}
@@ -20,12 +21,12 @@ closed_byte (suc k) = refl
 abbrev pub behind_gate : Call → List ℕ
 behind_gate call = sized_call.write call ++ 0 ∷ []
 
-module _ (b : Bool) (old : List ℕ) (version : Bool) (net : NetData) (gate : ℕ) (chosen : selects old ≡ b) (is : kernel_held old ≡ Some (held version net (Some gate))) where
-  pub slot_is : slot_held (slot_of b old) ≡ Some (held version net (Some gate))
+module _ (b : Bool) (old : List ℕ) (version : Bool) (net : NetData) (gate spare : ℕ) (chosen : selects old ≡ b) (is : kernel_held old ≡ Some (held version net (Some gate) spare)) where
+  pub slot_is : slot_held (slot_of b old) ≡ Some (held version net (Some gate) spare)
   slot_is = sym (ap (λ (c : Bool). slot_held (slot_of c old)) chosen) ∙ is
 
   pub gate_is : HasGate (slot_of b old) gate
-  gate_is = has_gate (slot_of b old) version net gate slot_is
+  gate_is = has_gate (slot_of b old) version net gate spare slot_is
 
   pub gate_within : (gate < 1048576) × (slot_at b + gate < length old)
   gate_within = within_area b old gate gate_is.inside
@@ -35,14 +36,14 @@ module _ (b : Bool) (old : List ℕ) (version : Bool) (net : NetData) (gate : �
   begins_at false = omega arith
 
   -- a write behind the gate, however it is torn, leaves what the slot holds
-  pub behind_kept : (n : ℕ) (new : List ℕ) → Torn (slot_at b + gate + 1) n old new → (selects new ≡ b) × (kernel_held new ≡ Some (held version net (Some gate)))
+  pub behind_kept : (n : ℕ) (new : List ℕ) → Torn (slot_at b + gate + 1) n old new → (selects new ≡ b) × (kernel_held new ≡ Some (held version net (Some gate) spare))
   behind_kept n new torn =
       let same : take (slot_at b + gate + 1) new ≡ take (slot_at b + gate + 1) old = before_kept (slot_at b + gate + 1) n (slot_at b + gate + 1) old new torn (omega arith) (omega (arith, gate_within.1)) in
       let regrouped : slot_at b + gate + 1 ≡ slot_at b + (gate + 1) = omega arith in
       let front : take (gate + 1) (slot_of b new) ≡ take (gate + 1) (slot_of b old) =
       slot_front b (gate + 1) old new (omega (arith, gate_within.0)) (sym (ap (λ (k : ℕ). take k new) regrouped) ∙ same ∙ ap (λ (k : ℕ). take k old) regrouped) in
       let selected : selects new ≡ b = selects_kept old new (before_kept (slot_at b + gate + 1) n 1 old new torn (omega arith) (omega (arith, gate_within.1))) ∙ chosen in
-      (selected, ap (λ (c : Bool). slot_held (slot_of c new)) selected ∙ gate_kept (slot_of b old) (slot_of b new) version net gate slot_is front)
+      (selected, ap (λ (c : Bool). slot_held (slot_of c new)) selected ∙ gate_kept (slot_of b old) (slot_of b new) version net gate spare slot_is front)
 
   module _ (new : List ℕ) (torn : Torn (slot_at b + gate) 1 old new) where
     pub still_selected : selects new ≡ b
@@ -55,15 +56,15 @@ module _ (b : Bool) (old : List ℕ) (version : Bool) (net : NetData) (gate : �
     open_in_slot = ap is_open (slot_behind b gate new (omega (arith, gate_within.0))) ∙ ap (λ (k : ℕ). eqb k 1) (get_or-take (1048576 - gate) (drop (slot_at b + gate) new) 0 0 (omega (arith, gate_within.0)))
 
     -- a gate that is still closed leaves it too
-    pub shut : is_open (drop (slot_at b + gate) new) ≡ false → kernel_held new ≡ Some (held version net (Some gate))
+    pub shut : is_open (drop (slot_at b + gate) new) ≡ false → kernel_held new ≡ Some (held version net (Some gate) spare)
     shut closed =
         ap (λ (c : Bool). slot_held (slot_of c new)) still_selected
-        ∙ gate_still (slot_of b old) (slot_of b new) version net gate slot_is front_same (open_in_slot ∙ closed) (let long = slot_length b new (gate + 1) (omega (arith, gate_within.0)) (omega (arith, gate_within.1, torn.no_shorter)) in omega arith)
+        ∙ gate_still (slot_of b old) (slot_of b new) version net gate spare slot_is front_same (open_in_slot ∙ closed) (let long = slot_length b new (gate + 1) (omega (arith, gate_within.0)) (omega (arith, gate_within.1, torn.no_shorter)) in omega arith)
 
     -- and one that is open brings the call
     pub opened : (next : NetData) (call : Call) → step call net ≡ Ok next → sized_call.fits call ≡ true → gate + length (open_record.write call) + 1 ≤ 1048576
         → take (length (behind_gate call)) (drop (slot_at b + gate + 1) old) ≡ behind_gate call → is_open (drop (slot_at b + gate) new) ≡ true
-        → kernel_held new ≡ Some (held version next (Some (gate + length (open_record.write call))))
+        → kernel_held new ≡ Some (held version next (Some (gate + length (open_record.write call))) (spare - weight_of call (length (open_record.write call))))
     opened next call stepped fits room stands opens =
         let n = length (call_form.write call) in
         let w = sized_call.write call in
@@ -90,8 +91,8 @@ module _ (b : Bool) (old : List ℕ) (version : Bool) (net : NetData) (gate : �
         ∙ sym (get_or-drop 1 (drop gate other) (2 + n) 0) ∙ ap (λ (l : List ℕ). get_or l (2 + n) 0) behind ∙ get_or-take (1048576 - gate - 1) (drop (p + 1) old) (2 + n) 0 (omega (arith, room, whole)) ∙ last_is) in
         let long : gate + (3 + n) + 1 ≤ length other = slot_length b new (gate + (3 + n) + 1) (omega (arith, room, whole)) (omega (arith, enough, torn.no_shorter)) in
         ap (λ (c : Bool). slot_held (slot_of c new)) still_selected
-        ∙ record_added (slot_of b old) other version net next gate n call slot_is front_same begins stepped next_gate (omega (arith, long))
-        ∙ ap (λ (k : ℕ). Some (held version next (Some (gate + k)))) (sym whole)
+        ∙ record_added (slot_of b old) other version net next gate spare n call slot_is front_same begins stepped next_gate (omega (arith, long))
+        ∙ ap (λ (k : ℕ). Some (held version next (Some (gate + k)) (spare - weight_of call k))) (sym whole)
 
 -- a byte that is written before what was written is one write with it
 pub one_write : (p byte : ℕ) (tail old mid new : List ℕ) → p < length old → Written (p + 1) tail old mid → Written p (byte ∷ []) mid new → Written p (byte ∷ tail) old new

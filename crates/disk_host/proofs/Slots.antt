@@ -142,7 +142,7 @@ other_kept false n old new small chosen apart torn =
     (selects_kept old new (before_kept 1 n 1 old new torn (omega arith) (some_selects old chosen)) ∙ chosen, ap slot_held (back_kept n old new small torn) ∙ sym is)
 
 pub slot_written : (to : Bool) (image slot old mid : List ℕ) (net : NetData) → length image ≤ 864508 → is_first image ≡ false → net_of image ≡ Some net → slot ≡ new_slot image → length slot ≤ 1048576 → Written (slot_at to) slot old mid
-    → slot_held (slot_of to mid) ≡ Some (held false net (Some (4 + length image)))
+    → slot_held (slot_of to mid) ≡ Some (held false net (Some (4 + length image)) 131072)
 slot_written to image slot old mid net small latest is spelled fits written =
     let rest = drop (length slot) (drop (slot_at to) mid) in
     let whole : drop (slot_at to) mid ≡ slot ++ rest = sym (take-append-drop (length slot) (drop (slot_at to) mid)) ∙ ap (λ (l : List ℕ). l ++ rest) written.stands in

@@ -23,13 +23,13 @@ pub record Folds (call : Call) (old new : List ℕ) : Type 0 where
   pub is_image : IsImage image net
   pub folded : IsFolded image old new
 
--- where there is room for the record at a closed gate of the selected slot, whose image isn't of version 1, it and a closed
--- gate are written there
+-- where there is room for the record at a closed gate of the selected slot, whose image isn't of version 1 and whose journal
+-- may weigh more, it and a closed gate are written there
 abbrev pub WritesAt : Option ℕ → Call → List ℕ → List ℕ → Type 0
 WritesAt (Some gate) call old new = Written (slot_at (selects old) + gate) (new_record call) old new
 WritesAt None call old new = Folds call old new
 
--- A call appends its record where the selected slot has room for it. Otherwise it folds.
+-- A call appends its record where the selected slot has room for it and its journal may weigh more. Otherwise it folds.
 abbrev pub Writes : Call → List ℕ → List ℕ → Type 0
 Writes call old new = WritesAt (room_in (kernel_held old) (length (open_record.write call))) call old new
 

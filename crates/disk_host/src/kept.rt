@@ -13,6 +13,8 @@ pub struct Kept {
     pub first_image: bool,
     /// The place in the slot of the closed gate that ends its journal, in bytes, if it has one.
     pub gate: Option<u64>,
+    /// How much more the journal may weigh: where it is 0, the next call folds.
+    pub spare: u64,
 }
 
 // By hand, so that a proof sees one call where one is dropped, and not a step for each part.
@@ -23,6 +25,7 @@ impl Drop for Kept {
             second: _,
             first_image: _,
             gate: _,
+            spare: _,
         } = self;
     }
 }
@@ -41,6 +44,7 @@ impl Kept {
                     second: _,
                     first_image: _,
                     gate: _,
+                    spare: _,
                 } = self;
                 (net, None)
             }

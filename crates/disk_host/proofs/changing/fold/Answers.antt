@@ -17,7 +17,7 @@ returns-in-Ok-store g c =
     stored g.D.Disk.tells c.args.call.now c.args.kept (g.D.Disk.told c.args.disk.now) (g.D.Disk.told c.store.new.disk) c.store.ensures.maybe c.store.ensures.stops c.store.ensures.stops_cell c.store.ensures.cause.later _
     (λ tells. record {
       second = c.in-Ok-store.ensures.selects tells;
-      held = c.in-Ok-store.ensures.held tells ∙ ap (λ (k : ℕ). Some (held false c.args.kept.net (Some (4 + k)))) long;
+      held = c.in-Ok-store.ensures.held tells ∙ ap (λ (k : ℕ). Some (held false c.args.kept.net (Some (4 + k)) 131072)) long;
     })
     refl c.in-Ok-store.ensures.sure
     (λ tells. wrote_image c.args.call.now c.args.kept (g.D.Disk.told c.args.disk.now).areas.kernel (c.requires.after tells) c.deref.result.now (g.D.Disk.told c.store.new.disk).areas.kernel c.requires.room

@@ -4,7 +4,8 @@ use Rattle.std.proofs.lemmas.List.{take_at}
 use Rattle.host_core.specs.DiskView.{Areas}
 use Rattle.host_core.specs.Bytes.{Filled}
 use Rattle.call_journal.specs.Replay.{replayed}
-use Rattle.call_journal.specs.Area.{slot_at, slot_of}
+use Rattle.call_journal.specs.Weight.{journal_weight, spare_of}
+use Rattle.call_journal.specs.Area.{held, slot_at, slot_of}
 use Rattle.call_journal.proofs.lemmas.Slots.{journaled_held, gate_held, full_held, bad_journal, cut_journal}
 use Rattle.disk_host.proofs.SlotReads.{all_there, slot_size, journal_is}
 use Rattle.disk_host.proofs.Twice.{untouched_twice, later_twice}
@@ -62,8 +63,10 @@ returns-then-end-there-clause-held g c = λ tells.
     let le : from ≤ 1048576 = omega (arith, c.requires.small) in
     let size : length slot ≡ from + there = slot_size c.args.second from there c.in_ok-filled.filled area c.deref_mut.result.now c.read_at.new.buf le has.inside many long filled in
     let whole : c.deref.result.now ≡ drop from slot = c.deref.ensures.value ∙ take_at c.read_at.new.buf _ _ (omega (arith, c.deref_mut.ensures.len)) ∙ journal_is c.args.second from there c.in_ok-filled.filled area c.deref_mut.result.now c.read_at.new.buf le has.inside many long filled in
-    let all : replayed image (drop from slot) ≡ Some (c.replay.new.net, c.in-Ok-replay.end) = ap (replayed image) (sym whole) ∙ c.in-Ok-replay.ensures.replayed in
-    journaled_held slot n first image has ∙ gate_held first from c.in-Ok-replay.end slot image c.replay.new.net all (omega (arith, c.if-end-there.true, size))
+    let all : replayed image (drop from slot) ≡ Some (c.replay.new.net, c.in-Ok-replay.ended.0) = ap (replayed image) (sym whole) ∙ c.in-Ok-replay.ensures.replayed in
+    let spare : c.in-Ok-replay.ended.1 ≡ spare_of (journal_weight (drop from slot)) = c.in-Ok-replay.ensures.weighed ∙ ap (λ (l : List ℕ). spare_of (journal_weight l)) whole in
+    journaled_held slot n first image has ∙ gate_held first from c.in-Ok-replay.ended.0 slot image c.replay.new.net all (omega (arith, c.if-end-there.true, size))
+    ∙ ap (λ (w : ℕ). Some (held first c.replay.new.net (Some (from + c.in-Ok-replay.ended.0)) w)) (sym spare)
 
 pub returns-then-there-room-clause-damaged : goal.returns-then-there-room-clause-damaged
 returns-then-there-room-clause-damaged g c = λ tells is.
@@ -82,8 +85,8 @@ returns-then-there-room-clause-damaged g c = λ tells is.
     let le : from ≤ 1048576 = omega (arith, c.requires.small) in
     let size : length slot ≡ from + there = slot_size c.args.second from there c.in_ok-filled.filled area c.deref_mut.result.now c.read_at.new.buf le has.inside many long filled in
     let whole : c.deref.result.now ≡ drop from slot = c.deref.ensures.value ∙ take_at c.read_at.new.buf _ _ (omega (arith, c.deref_mut.ensures.len)) ∙ journal_is c.args.second from there c.in_ok-filled.filled area c.deref_mut.result.now c.read_at.new.buf le has.inside many long filled in
-    let all : replayed image (drop from slot) ≡ Some (c.replay.new.net, c.in-Ok-replay.end) = ap (replayed image) (sym whole) ∙ c.in-Ok-replay.ensures.replayed in
-    cut_journal slot n c.in-Ok-replay.end first image c.replay.new.net has all (omega (arith, c.if-end-there.false, size)) (omega (arith, c.if-there-room.true, size))
+    let all : replayed image (drop from slot) ≡ Some (c.replay.new.net, c.in-Ok-replay.ended.0) = ap (replayed image) (sym whole) ∙ c.in-Ok-replay.ensures.replayed in
+    cut_journal slot n c.in-Ok-replay.ended.0 first image c.replay.new.net has all (omega (arith, c.if-end-there.false, size)) (omega (arith, c.if-there-room.true, size))
 
 pub returns-clause-held : goal.returns-clause-held
 returns-clause-held g c = λ tells.
@@ -102,8 +105,8 @@ returns-clause-held g c = λ tells.
     let le : from ≤ 1048576 = omega (arith, c.requires.small) in
     let size : length slot ≡ from + there = slot_size c.args.second from there c.in_ok-filled.filled area c.deref_mut.result.now c.read_at.new.buf le has.inside many long filled in
     let whole : c.deref.result.now ≡ drop from slot = c.deref.ensures.value ∙ take_at c.read_at.new.buf _ _ (omega (arith, c.deref_mut.ensures.len)) ∙ journal_is c.args.second from there c.in_ok-filled.filled area c.deref_mut.result.now c.read_at.new.buf le has.inside many long filled in
-    let all : replayed image (drop from slot) ≡ Some (c.replay.new.net, c.in-Ok-replay.end) = ap (replayed image) (sym whole) ∙ c.in-Ok-replay.ensures.replayed in
-    journaled_held slot n first image has ∙ full_held first from c.in-Ok-replay.end slot image c.replay.new.net all (omega (arith, c.if-end-there.false, size)) (omega (arith, c.if-there-room.false, size, many, le))
+    let all : replayed image (drop from slot) ≡ Some (c.replay.new.net, c.in-Ok-replay.ended.0) = ap (replayed image) (sym whole) ∙ c.in-Ok-replay.ensures.replayed in
+    journaled_held slot n first image has ∙ full_held first from c.in-Ok-replay.ended.0 slot image c.replay.new.net all (omega (arith, c.if-end-there.false, size)) (omega (arith, c.if-there-room.false, size, many, le))
 
 -- ---- what is touched
 

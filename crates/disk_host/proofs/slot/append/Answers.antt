@@ -1,10 +1,11 @@
-use Rattle.std.proofs.Common.{◌≡◌, ◌∙◌, ℕ, ◌+◌, ◌≤◌, true, List, [], ◌∷◌, ◌++◌, length, Some, Option, sym, ap, subst, arith}
+use Rattle.std.proofs.Common.{◌≡◌, ◌∙◌, ℕ, ◌+◌, ◌-◌, ◌≤◌, true, List, [], ◌∷◌, ◌++◌, length, Some, Option, sym, ap, subst, arith}
 use Rattle.std.proofs.lemmas.Result.{on_ok_weaker}
 use Rattle.net_model.specs.declared.call.Call.{Call}
 use Rattle.host_core.specs.Bytes.{Written}
 use Rattle.host_core.specs.DiskView.{Areas, AreaTorn}
 use Rattle.host_core.specs.Stops.{Stops, Steps}
 use Rattle.host_core.proofs.lemmas.Moments.{follow}
+use Rattle.call_journal.specs.Weight.{weight_of}
 use Rattle.call_journal.specs.Area.{held, slot_at, new_record}
 use Rattle.call_journal.specs.Records.{sized_call, open_record}
 use Rattle.call_journal.proofs.lemmas.Record.{record_is}
@@ -20,10 +21,10 @@ record_spelled : (call : Call) → new_record call ≡ 1 ∷ behind_gate call
 unfolding new_record
 record_spelled call = ap (λ (l : List ℕ). l ++ 0 ∷ []) (record_is call)
 
-at_gate : (call : Call) (kept : Kept) (gate : ℕ) (area : List ℕ) (after : IsAfter call kept area) → kept.gate ≡ Some gate → IsAt kept.second kept.first_image after.before gate area
+at_gate : (call : Call) (kept : Kept) (gate : ℕ) (area : List ℕ) (after : IsAfter call kept area) → kept.gate ≡ Some gate → IsAt kept.second kept.first_image after.before gate kept.spare area
 at_gate call kept gate area after is = record {
   chosen = after.is_kept.second;
-  holds = after.is_kept.held ∙ ap (λ (g : Option ℕ). Some (held kept.first_image after.before g)) is;
+  holds = after.is_kept.held ∙ ap (λ (g : Option ℕ). Some (held kept.first_image after.before g kept.spare)) is;
 }
 
 appended : (call : Call) (kept : Kept) (gate : ℕ) (area : List ℕ) (after : IsAfter call kept area) → sized_call.fits call ≡ true → gate + length (open_record.write call) + 1 ≤ 1048576 → IsAppended kept.second kept.first_image after.before kept.net gate call
@@ -49,7 +50,7 @@ returns-in_err-write_synced-clause-maybe g c = λ tells.
     let mid = g.D.Disk.told c.write_synced.new.disk in
     let kept = c.args.kept.now in
     let after = c.requires.after tells in
-    first_append kept.second kept.first_image after.before kept.net c.args.gate c.args.call.now (appended c.args.call.now kept c.args.gate old.areas.kernel after c.requires.fits c.requires.room)
+    first_append kept.second kept.first_image after.before kept.net c.args.gate kept.spare c.args.call.now (appended c.args.call.now kept c.args.gate old.areas.kernel after c.requires.fits c.requires.room)
     old.areas mid.areas (at_gate c.args.call.now kept c.args.gate old.areas.kernel after c.requires.gate)
     (first_torn c.place.result (slot_at kept.second) c.args.gate c.args.record_bytes.now (behind_gate c.args.call.now) old.areas mid.areas c.place.ensures c.requires.bytes (c.write_synced.ensures.torn tells))
 
@@ -59,7 +60,7 @@ returns-in_err-write_synced-clause-stops g c = λ tells.
     let mid = g.D.Disk.told c.write_synced.new.disk in
     let kept = c.args.kept.now in
     let after = c.requires.after tells in
-    append_first kept.second kept.first_image after.before kept.net c.args.gate c.args.call.now (appended c.args.call.now kept c.args.gate old.areas.kernel after c.requires.fits c.requires.room)
+    append_first kept.second kept.first_image after.before kept.net c.args.gate kept.spare c.args.call.now (appended c.args.call.now kept c.args.gate old.areas.kernel after c.requires.fits c.requires.room)
     old (c.requires.settled tells) (at_gate c.args.call.now kept c.args.gate old.areas.kernel after c.requires.gate) mid.stops
     (first_steps c.place.result (slot_at kept.second) c.args.gate c.args.record_bytes.now (behind_gate c.args.call.now) old.stops mid.stops c.place.ensures c.requires.bytes c.write_synced.ensures.stops)
 
@@ -71,7 +72,7 @@ returns-clause-maybe g c = λ tells.
     let kept = c.args.kept.now in
     let after = c.requires.after tells in
     let tail = behind_gate c.args.call.now in
-    second_append kept.second kept.first_image after.before kept.net c.args.gate c.args.call.now (appended c.args.call.now kept c.args.gate old.areas.kernel after c.requires.fits c.requires.room)
+    second_append kept.second kept.first_image after.before kept.net c.args.gate kept.spare c.args.call.now (appended c.args.call.now kept c.args.gate old.areas.kernel after c.requires.fits c.requires.room)
     old.areas mid.areas new.areas (at_gate c.args.call.now kept c.args.gate old.areas.kernel after c.requires.gate)
     (first_torn c.place.result (slot_at kept.second) c.args.gate c.args.record_bytes.now tail old.areas mid.areas c.place.ensures c.requires.bytes (c.write_synced.ensures.torn tells))
     (first_written c.place.result (slot_at kept.second) c.args.gate c.args.record_bytes.now tail old.areas.kernel mid.areas.kernel c.place.ensures c.requires.bytes (c.in_ok-write_synced.ensures.written tells).0).stands
@@ -85,7 +86,7 @@ returns-clause-stops g c = λ tells.
     let kept = c.args.kept.now in
     let after = c.requires.after tells in
     let tail = behind_gate c.args.call.now in
-    append_both kept.second kept.first_image after.before kept.net c.args.gate c.args.call.now (appended c.args.call.now kept c.args.gate old.areas.kernel after c.requires.fits c.requires.room)
+    append_both kept.second kept.first_image after.before kept.net c.args.gate kept.spare c.args.call.now (appended c.args.call.now kept c.args.gate old.areas.kernel after c.requires.fits c.requires.room)
     old (c.requires.settled tells) (at_gate c.args.call.now kept c.args.gate old.areas.kernel after c.requires.gate) mid new.stops
     (first_steps c.place.result (slot_at kept.second) c.args.gate c.args.record_bytes.now tail old.stops mid.stops c.place.ensures c.requires.bytes c.write_synced.ensures.stops)
     (c.in_ok-write_synced.ensures.written tells).1
@@ -98,10 +99,10 @@ returns-clause-stops_cell g c =
 
 -- what stands after both writes
 done : (call : Call) (kept : Kept) (at gate : ℕ) (record_bytes old mid new : List ℕ) (after : IsAfter call kept old) → at ≡ slot_at kept.second → kept.gate ≡ Some gate → record_bytes ≡ behind_gate call → sized_call.fits call ≡ true
-    → gate + length (open_record.write call) + 1 ≤ 1048576 → Written (at + gate + 1) record_bytes old mid → Written (at + gate) (1 ∷ []) mid new → IsAt kept.second kept.first_image kept.net (gate + length (open_record.write call)) new
+    → gate + length (open_record.write call) + 1 ≤ 1048576 → Written (at + gate + 1) record_bytes old mid → Written (at + gate) (1 ∷ []) mid new → IsAt kept.second kept.first_image kept.net (gate + length (open_record.write call)) (kept.spare - weight_of call (length (open_record.write call))) new
 done call kept at gate record_bytes old mid new after same has is fits room first second =
     let wrote = first_written at (slot_at kept.second) gate record_bytes (behind_gate call) old mid same is first in
-    append_done kept.second kept.first_image after.before kept.net gate call (appended call kept gate old after fits room) old mid new (at_gate call kept gate old after has)
+    append_done kept.second kept.first_image after.before kept.net gate kept.spare call (appended call kept gate old after fits room) old mid new (at_gate call kept gate old after has)
     wrote.torn wrote.stands (subst (λ (a : ℕ). Written (a + gate) (1 ∷ []) mid new) same second)
 
 pub returns-clause-selects : goal.returns-clause-selects
@@ -127,7 +128,7 @@ returns-clause-written g c =
     let kept = c.args.kept.now in
     let after = c.requires.after tells in
     let at = at_gate c.args.call.now kept c.args.gate old after c.requires.gate in
-    let within = gate_within kept.second old kept.first_image after.before c.args.gate at.chosen at.holds in
+    let within = gate_within kept.second old kept.first_image after.before c.args.gate kept.spare at.chosen at.holds in
     let first = first_written c.place.result (slot_at kept.second) c.args.gate c.args.record_bytes.now (behind_gate c.args.call.now) old mid c.place.ensures c.requires.bytes (c.in_ok-write_synced.ensures.written tells).0 in
     let one = one_write (slot_at kept.second + c.args.gate) 1 (behind_gate c.args.call.now) old mid new within.1 first (subst (λ (a : ℕ). Written (a + c.args.gate) (1 ∷ []) mid new) c.place.ensures (second tells).0) in
     subst (λ (bytes : List ℕ). Written (slot_at kept.second + c.args.gate) bytes old new) (sym (record_spelled c.args.call.now)) one)
