@@ -9,9 +9,10 @@ use Rattle.top_model.specs.Orders.{Text, Order, document_on, planning_policy, ap
 use Rattle.top_model.specs.Texts.{status_of, error_line, note_lines}
 use Rattle.top_model.specs.Runs.{Run, SinkRose}
 use Rattle.top_model.specs.Grounds.{Grounds}
+use Rattle.engine_model.specs.declared.Left.TheVariants.{RolledBack}
 use Rattle.top_model.specs.declared.report.Report.{Report}
 use Rattle.top_model.specs.declared.report.Cause.{Cause}
-use Rattle.top_model.specs.declared.report.Cause.TheVariants.{Done, DocRefused, MergeRefused, Pending, ReadFault, WriteFault, InDoubt, NotVerified, OutOfMemory}
+use Rattle.top_model.specs.declared.report.Cause.TheVariants.{Done, DocRefused, MergeRefused, Pending, ReadFault, WriteFault, InDoubt, KernelRefused, NotVerified, OutOfMemory}
 
 -- what is said, or why it is refused
 abbrev pub Answer : Type 0
@@ -54,13 +55,14 @@ PlanErr on p OutOfMemory text = (text ≡ error_line OutOfMemory) ⊎ NotedOn on
 PlanErr on p cause text = text ≡ error_line cause
 
 -- So is an apply, before it makes its change: an input that isn't read, a change that waits and a policy that is refused have no notes. Done,
--- and what only a document can bring, comes behind that; every other cause before it or behind it.
+-- and what only the change of a document can bring, comes behind that; every other cause before it or behind it.
 abbrev pub ApplyErr : (NetData → Type 0) → PolicyData → Cause → Text → Type 0
 ApplyErr on p ReadFault text = text ≡ error_line ReadFault
 ApplyErr on p (Pending deadline) text = text ≡ error_line (Pending deadline)
 ApplyErr on p (DocRefused fault) text = text ≡ error_line (DocRefused fault)
 ApplyErr on p Done text = NotedOn on p Done text
 ApplyErr on p (MergeRefused refused) text = NotedOn on p (MergeRefused refused) text
+ApplyErr on p (KernelRefused k n RolledBack) text = NotedOn on p (KernelRefused k n RolledBack) text
 ApplyErr on p (NotVerified found left) text = NotedOn on p (NotVerified found left) text
 ApplyErr on p InDoubt text = NotedOn on p InDoubt text
 ApplyErr on p cause text = (text ≡ error_line cause) ⊎ NotedOn on p cause text

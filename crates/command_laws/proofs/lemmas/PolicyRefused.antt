@@ -5,6 +5,8 @@ use Rattle.net_model.specs.NetData.{NetData}
 use Rattle.document_model.specs.declared.Doc.{Doc}
 use Rattle.policy_model.specs.Values.{PolicyData}
 use Rattle.host_core.specs.HostView.{HostView}
+use Rattle.engine_model.specs.Faults.{BackSays}
+use Rattle.engine_model.specs.declared.Left.TheVariants.{NotBegun, RolledBack, Pending}
 use Rattle.engine_model.specs.declared.Recovered.{Recovered}
 use Rattle.engine_model.specs.declared.BackFault.{BackFault}
 use Rattle.engine_model.specs.declared.BackFault.TheVariants as ba
@@ -35,14 +37,23 @@ pub told_plain : (r : Run) (order : Result Order Cause) (c named : Cause) → c 
     → Spoken r.sinks_tell c [] ([] ++ error_line c) r.out r.out_after r.err r.err_after r.report → Told r order (Err named)
 told_plain r order c named is plain spoken = told_refused r order named [] plain (subst (λ (x : Cause). Spoken r.sinks_tell x [] ([] ++ error_line x) r.out r.out_after r.err r.err_after r.report) is spoken)
 
+rolled_pending : RolledBack ≡ Pending → ⊥
+rolled_pending e = cc
+
+-- a recovery never tells a refused call as rolled back
+pub never_rolled : (tells : Type 0) (machine : Result Recovered BackFault) (old new : HostView) (fault : BackFault) → BackSays tells machine old new (Err fault) → (k n : ℕ) → fault ≡ ba.KernelRefused k n RolledBack → ⊥
+never_rolled tells machine old new fault says k n is = rolled_pending (subst (λ (f : BackFault). BackSays tells machine old new (Err f)) is says).0
+
 module _ (on : NetData → Type 0) (p : PolicyData) (opts : ApplyOpts) where
-  pub recovery_err : (fault : BackFault) → ErrTextOn on (Ok (applying_policy p opts)) (recovery_cause fault) (error_line (recovery_cause fault))
-  recovery_err ba.NoCheckpoint = inl refl
-  recovery_err (ba.HostFault left) = inl refl
-  recovery_err (ba.KernelRefused k n left) = inl refl
-  recovery_err (ba.Damaged area) = inl refl
-  recovery_err (ba.HardwareDiffers names) = inl refl
-  recovery_err ba.OutOfMemory = inl refl
+  pub recovery_err : (fault : BackFault) → ((k n : ℕ) → fault ≡ ba.KernelRefused k n RolledBack → ⊥) → ErrTextOn on (Ok (applying_policy p opts)) (recovery_cause fault) (error_line (recovery_cause fault))
+  recovery_err ba.NoCheckpoint never = inl refl
+  recovery_err (ba.HostFault left) never = inl refl
+  recovery_err (ba.KernelRefused k n NotBegun) never = inl refl
+  recovery_err (ba.KernelRefused k n RolledBack) never = absurd (never k n refl)
+  recovery_err (ba.KernelRefused k n Pending) never = inl refl
+  recovery_err (ba.Damaged area) never = inl refl
+  recovery_err (ba.HardwareDiffers names) never = inl refl
+  recovery_err ba.OutOfMemory never = inl refl
 
   pub look_err : (done : Recovered) (fault : DumpFault) → ErrTextOn on (Ok (applying_policy p opts)) (look_cause done fault) (error_line (look_cause done fault))
   look_err done du.Failed = inl refl

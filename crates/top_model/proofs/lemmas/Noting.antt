@@ -8,8 +8,9 @@ use Rattle.top_model.specs.Machine.{ground_of}
 use Rattle.top_model.specs.Runs.{Run, reads}
 use Rattle.top_model.specs.Grounds.{Grounds}
 use Rattle.top_model.specs.Told.{NotedOn, PlanErr, ApplyErr, ErrText, ErrTextOn}
+use Rattle.engine_model.specs.declared.Left.TheVariants.{RolledBack}
 use Rattle.top_model.specs.declared.report.Cause.{Cause}
-use Rattle.top_model.specs.declared.report.Cause.TheVariants.{Done, DocRefused, MergeRefused, Pending, ReadFault, InDoubt, NotVerified, OutOfMemory}
+use Rattle.top_model.specs.declared.report.Cause.TheVariants.{Done, DocRefused, MergeRefused, Pending, ReadFault, InDoubt, KernelRefused, NotVerified, OutOfMemory}
 
 module _ (on more : NetData → Type 0) (wider : (net : NetData) → on net → more net) where
   module _ (p : PolicyData) (text : Text) where
@@ -29,6 +30,7 @@ module _ (on more : NetData → Type 0) (wider : (net : NetData) → on net → 
     apply_wider (DocRefused fault) is = is
     apply_wider Done is = noted_wider Done is
     apply_wider (MergeRefused refused) is = noted_wider (MergeRefused refused) is
+    apply_wider (KernelRefused k n RolledBack) is = noted_wider (KernelRefused k n RolledBack) is
     apply_wider (NotVerified found left) is = noted_wider (NotVerified found left) is
     apply_wider InDoubt is = noted_wider InDoubt is
     apply_wider cause (inl is) = inl is
