@@ -37,7 +37,7 @@ use Rattle.top_model.specs.Orders.{Text, Inputs, Order, document_on, applying_po
 use Rattle.top_model.specs.Machine.{told_of, apply_cause, apply_read, apply_on, apply_after, apply_policy, ground_after, machine_of}
 use Rattle.top_model.specs.Texts.{error_line, note_lines}
 use Rattle.top_model.specs.Runs.{Run, MayRead, HostRose, HostRoseTwice, entry, reads, left_at_exit}
-use Rattle.top_model.specs.Grounds.{Grounds, IsGround, IsDocumentOf}
+use Rattle.top_model.specs.Grounds.{Grounds, IsGround, IsDocumentOf, TakesFirst}
 use Rattle.top_model.specs.Told.{NotedOn, ErrTextOn, Told}
 use Rattle.top_model.specs.Causes.{MayWant, Comes, Expects, ExactlyOf, expected}
 use Rattle.top_model.specs.Counts.{PolicyCounted}
@@ -155,10 +155,12 @@ module _ (r : Run) (p : PolicyData) (opts : ApplyOpts) (doc : Doc) (done : Recov
     written = written r (Ok said) text (notes ++ error_line cause.Done) spoken;
   }
 
-  fault_err : (fault : ApplyFault) (notes : Text) → notes ≡ note_lines doc.notes → ErrTextOn (Grounds r (Ok order)) (Ok order) (apply_cause fault) (fault_notes fault notes ++ error_line (apply_cause fault))
+  fault_err : (fault : ApplyFault) (notes : Text) → notes ≡ note_lines doc.notes → ErrTextOn (TakesFirst r) (Grounds r (Ok order)) (Ok order) (apply_cause fault) (fault_notes fault notes ++ error_line (apply_cause fault))
   fault_err (Pending deadline) notes is = refl
   fault_err (MergeRefused refused) notes is = noted_on (cause.MergeRefused refused) notes is
-  fault_err (HostFault left) notes is = inr (noted_on (cause.HostFault left) notes is)
+  fault_err (HostFault sides.NotBegun) notes is = inr (noted_on (cause.HostFault sides.NotBegun) notes is)
+  fault_err (HostFault sides.RolledBack) notes is = inr (noted_on (cause.HostFault sides.RolledBack) notes is)
+  fault_err (HostFault sides.Pending) notes is = inr (noted_on (cause.HostFault sides.Pending) notes is)
   fault_err (KernelRefused k n sides.NotBegun) notes is = inr (noted_on (cause.KernelRefused k n sides.NotBegun) notes is)
   fault_err (KernelRefused k n sides.RolledBack) notes is = noted_on (cause.KernelRefused k n sides.RolledBack) notes is
   fault_err (KernelRefused k n sides.Pending) notes is = inr (noted_on (cause.KernelRefused k n sides.Pending) notes is)

@@ -27,7 +27,7 @@ use Rattle.top_model.specs.Orders.{Text, Order, evaluating, planning_policy, com
 use Rattle.top_model.specs.Machine.{said_plan, plan_to, plan_read, say_value}
 use Rattle.top_model.specs.Texts.{error_line, note_lines}
 use Rattle.top_model.specs.Runs.{Run}
-use Rattle.top_model.specs.Grounds.{IsGround, Grounds}
+use Rattle.top_model.specs.Grounds.{IsGround, Grounds, TakesFirst}
 use Rattle.top_model.specs.Told.{Answer, Told, NotedOn, PlanErr, ErrTextOn, cause_of}
 use Rattle.top_model.specs.Causes.{MayWant, MayAnswer, Comes, Expects, ExactlyOf, IsLate, HasNoValue}
 use Rattle.top_model.specs.Answered.{Answered}
@@ -472,7 +472,7 @@ module _ (r : Run) (p : PolicyData) (in_batch : Bool) where
     out = t.out_text;
     err = t.err_text;
     is_out = t.is_out;
-    is_err = err_wider (λ n. n ≡ net) (Grounds r (Ok order)) (λ n same. subst (IsGround r order) (sym same) (ground_plan r net found p in_batch)) (Ok order) (cause_of t.answer) t.err_text t.is_err;
+    is_err = err_wider (λ n. n ≡ net) (Grounds r (Ok order)) (λ n same. subst (IsGround r order) (sym same) (ground_plan r net found p in_batch)) (TakesFirst r) (TakesFirst r) (λ e. e) (Ok order) (cause_of t.answer) t.err_text t.is_err;
     written = written r t.answer t.out_text t.err_text t.spoken;
   }
 
@@ -483,7 +483,7 @@ module _ (r : Run) (p : PolicyData) (in_batch : Bool) where
   looked_none OutOfMemory f = tt
   looked_none cause f = absurd f
 
-  none_line : (cause : Cause) → Finds r.host_tells r.honest r.host r.host_after (Err cause) → ErrTextOn (Grounds r (Ok order)) (Ok order) cause (error_line cause)
+  none_line : (cause : Cause) → Finds r.host_tells r.honest r.host r.host_after (Err cause) → ErrTextOn (TakesFirst r) (Grounds r (Ok order)) (Ok order) cause (error_line cause)
   none_line (HostFault left.NotBegun) f = refl
   none_line (Damaged area) f = refl
   none_line OutOfMemory f = inl refl

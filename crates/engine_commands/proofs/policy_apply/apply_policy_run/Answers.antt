@@ -2,7 +2,7 @@ use Rattle.std.specs.Prelude.{Ok}
 use Rattle.policy_lang.specs.Held.{data_of}
 use Rattle.top_model.specs.Orders.{applying_policy}
 use Rattle.top_model.specs.Runs.{run_of}
-use Rattle.top_model.specs.Grounds.{Grounds}
+use Rattle.top_model.specs.Grounds.{Grounds, TakesFirst}
 use Rattle.top_model.specs.Answered.{GoesOn}
 use Rattle.top_model.proofs.lemmas.Taken.{takes_only}
 use Rattle.command_laws.proofs.lemmas.EndsEarly.{recovery_cause, failed_recovering}
@@ -20,5 +20,6 @@ returns-in-Err g c = λ words in_script src src_after asked.
     let order = applying_policy (data_of c.args.policy.now) c.args.opts.now in
     let goes_on : GoesOn r = record { host = c.in-Err.ensures.later; source = asked.later; out = c.tell_refused.ensures.out; err = c.tell_refused.ensures.err; inputs = asked.same; takes = takes_only r _ asked.takes; lawful = g.met.H.Host.lawful c.args.host.now; tells = g.met.H.Host.honest_tells } in
     failed_recovering r (data_of c.args.policy.now) c.args.opts.now asked.inputs asked.may_read asked.is c.in-Err.fault (record { says = c.in-Err.ensures.says; counts = c.in-Err.ensures.counts; unmade = c.in-Err.ensures.unmade; answer = c.in-Err.ensures.answer; exact = c.in-Err.ensures.exact; exit = c.in-Err.ensures.exit; reads = c.in-Err.ensures.reads; kept = c.in-Err.ensures.kept; set_there = c.in-Err.ensures.set_there; nothing = c.in-Err.ensures.nothing; waiting = c.in-Err.ensures.waiting; restored = c.in-Err.ensures.restored; cleared = c.in-Err.ensures.cleared; idle = c.in-Err.ensures.idle; unbegun = c.in-Err.ensures.unbegun; after = c.in-Err.ensures.after; begun = c.in-Err.ensures.begun; waits = c.in-Err.ensures.waits; moment = c.in-Err.ensures.moment; later = c.in-Err.ensures.later }) goes_on
-    (told_plain r (Ok order) c.settling_cause.result (recovery_cause c.in-Err.fault) c.settling_cause.ensures (recovery_err (Grounds r (Ok order)) (data_of c.args.policy.now) c.args.opts.now c.in-Err.fault
-    (never_rolled g.H.Host.tells (recover c.args.now (standing (g.H.Host.told c.args.host.now).state)).answer (g.H.Host.told c.args.host.now) (g.H.Host.told c.recover.new.host) c.in-Err.fault c.in-Err.ensures.says)) c.tell_refused.ensures.told)
+    (told_plain r (Ok order) c.settling_cause.result (recovery_cause c.in-Err.fault) c.settling_cause.ensures (recovery_err (TakesFirst r) (Grounds r (Ok order)) (data_of c.args.policy.now) c.args.opts.now c.in-Err.fault
+    (never_rolled g.H.Host.tells (recover c.args.now (standing (g.H.Host.told c.args.host.now).state)).answer (g.H.Host.told c.args.host.now) (g.H.Host.told c.recover.new.host) c.in-Err.fault c.in-Err.ensures.says)
+    (λ other t. c.in-Err.ensures.begun t other)) c.tell_refused.ensures.told)
