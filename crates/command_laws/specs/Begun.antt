@@ -14,6 +14,7 @@ use Rattle.engine_model.specs.Machine.{recover}
 use Rattle.engine_model.specs.Sound.{Sound}
 use Rattle.engine_model.specs.Answers.{IsBefore, IsClear}
 use Rattle.engine_model.specs.Stations.{Only, Kept, at, entry_of, left_by}
+use Rattle.engine_model.specs.Compared.{WaitsAsBefore}
 use Rattle.engine_model.specs.Exit.{BackExit}
 use Rattle.engine_model.specs.Refusals.{BackCounts}
 use Rattle.engine_model.specs.Failing.{IsUnbegun}
@@ -49,6 +50,7 @@ pub record Recovers (tells honest : Type 0) (now : ℕ) (old new : HostView) (re
   pub unbegun : IfErr result (λ fault. IsBefore fault → IsUnbegun tells old new)
   pub after : honest → OnOk result (standing new.state ≡ (recover now (standing old.state)).after)
   pub begun : tells → IfErr result (λ fault. (IsBefore fault → ⊥) → HasTaken now (standing old.state).cell)
+  pub waits : tells → WaitsAsBefore old new
   pub moment : old.stops.moment ≤ new.stops.moment
   pub later : old.faults ≤ new.faults
 
@@ -59,6 +61,7 @@ pub record Looks (tells honest : Type 0) (old new : HostView) (result : Result N
   pub damaged : tells → IsErrOf result du.Damaged → old.state.net ≡ None
   pub state : tells → new.state ≡ old.state
   pub stops : Steps Stays old.stops new.stops
+  pub fresh : tells → IfOk result (λ net. new.fresh ≡ Some net)
   pub calls : OnOk result (new.kernel ≡ dumped old.kernel)
   pub kernel : OnErr result (new.kernel ≡ old.kernel)
   pub cause : HasFault old.faults new.faults du.Failed result

@@ -12,7 +12,9 @@ use Rattle.merge_model.specs.MergedNet.{merge}
 use Rattle.engine_model.specs.Machine.{Asked, Outcome, asked, apply, recover}
 use Rattle.engine_model.specs.Sound.{Fit, Sound}
 use Rattle.engine_model.specs.Answers.{IsClear}
-use Rattle.engine_model.specs.Stations.{Stands, Entry, Only, Settled, Either, Kept, entry_of, at}
+use Rattle.engine_model.specs.Stations.{Stands, Entry, Only, Settled, Either, Kept, entry_of, at, left_by}
+use Rattle.engine_model.specs.Compared.{WaitsAsBefore, Compared}
+use Rattle.engine_model.proofs.lemmas.Comparing.{waits_on, waits_stays, waits_as}
 use Rattle.engine_model.specs.Exit.{ApplyExit}
 use Rattle.engine_model.specs.Refusals.{NoCallMade, ApplyCounts}
 use Rattle.engine_model.specs.Failing.{IsUnbegun, ApplyIdle}
@@ -35,12 +37,12 @@ use Rattle.top_model.specs.Orders.{Text, Inputs, Order, document_on, applying_po
 use Rattle.top_model.specs.Machine.{told_of, apply_cause, apply_read, apply_on, apply_after, apply_policy, ground_after, machine_of}
 use Rattle.top_model.specs.Texts.{error_line, note_lines}
 use Rattle.top_model.specs.Runs.{Run, MayRead, HostRose, HostRoseTwice, entry, reads, left_at_exit}
-use Rattle.top_model.specs.Grounds.{Grounds, IsGround, IsDocumentOf}
+use Rattle.top_model.specs.Grounds.{Grounds, IsGround, IsDocumentOf, TakesFirst}
 use Rattle.top_model.specs.Told.{NotedOn, ErrTextOn, Told}
 use Rattle.top_model.specs.Causes.{MayWant, Comes, Expects, ExactlyOf, expected}
 use Rattle.top_model.specs.Counts.{PolicyCounted}
 use Rattle.top_model.specs.Tried.{HasExcuse}
-use Rattle.top_model.specs.Exits.{PolicyLeaves}
+use Rattle.top_model.specs.Exits.{PolicyLeaves, Compares}
 use Rattle.top_model.specs.Undisturbed.{Spares}
 use Rattle.top_model.specs.Answered.{GoesOn, Answered}
 use Rattle.top_model.specs.declared.report.Cause.{Cause}
@@ -153,11 +155,15 @@ module _ (r : Run) (p : PolicyData) (opts : ApplyOpts) (doc : Doc) (done : Recov
     written = written r (Ok said) text (notes ++ error_line cause.Done) spoken;
   }
 
-  fault_err : (fault : ApplyFault) (notes : Text) → notes ≡ note_lines doc.notes → ErrTextOn (Grounds r (Ok order)) (Ok order) (apply_cause fault) (fault_notes fault notes ++ error_line (apply_cause fault))
+  fault_err : (fault : ApplyFault) (notes : Text) → notes ≡ note_lines doc.notes → ErrTextOn (TakesFirst r) (Grounds r (Ok order)) (Ok order) (apply_cause fault) (fault_notes fault notes ++ error_line (apply_cause fault))
   fault_err (Pending deadline) notes is = refl
   fault_err (MergeRefused refused) notes is = noted_on (cause.MergeRefused refused) notes is
-  fault_err (HostFault left) notes is = inr (noted_on (cause.HostFault left) notes is)
-  fault_err (KernelRefused k n left) notes is = inr (noted_on (cause.KernelRefused k n left) notes is)
+  fault_err (HostFault sides.NotBegun) notes is = inr (noted_on (cause.HostFault sides.NotBegun) notes is)
+  fault_err (HostFault sides.RolledBack) notes is = inr (noted_on (cause.HostFault sides.RolledBack) notes is)
+  fault_err (HostFault sides.Pending) notes is = inr (noted_on (cause.HostFault sides.Pending) notes is)
+  fault_err (KernelRefused k n sides.NotBegun) notes is = inr (noted_on (cause.KernelRefused k n sides.NotBegun) notes is)
+  fault_err (KernelRefused k n sides.RolledBack) notes is = noted_on (cause.KernelRefused k n sides.RolledBack) notes is
+  fault_err (KernelRefused k n sides.Pending) notes is = inr (noted_on (cause.KernelRefused k n sides.Pending) notes is)
   fault_err (NotVerified found left) notes is = noted_on (cause.NotVerified found left) notes is
   fault_err InDoubt notes is = noted_on cause.InDoubt notes is
   fault_err (Damaged area) notes is = inr (noted_on (cause.Damaged area) notes is)
@@ -258,6 +264,7 @@ module _ (r : Run) (p : PolicyData) (opts : ApplyOpts) (doc : Doc) (done : Recov
       (exits : r.honest → Sound mid → ApplyExit Ask (entry_of mid) (left_at_exit r) (Rose mid.faults r.host_after.faults) (RoseTwice mid.faults r.host_after.faults) result)
       (read_exits : r.honest → Sound mid → ApplyExit Ask (at (standing mid.state)) (Only (standing r.host_after.state)) (Rose mid.faults r.host_after.faults) (RoseTwice mid.faults r.host_after.faults) result)
       (kept : r.honest → Sound mid → Kept (Either (Settled r.now (entry_of mid)) (Only (apply Ask (standing mid.state)).after)) mid r.host_after)
+      (looked : r.honest → Sound mid → Compared Ask mid r.host_after)
       (calm : r.honest → Sound mid → (from to : NetData) → standing mid.state ≡ restored_to from → merge from doc ≡ Ok to → (Rose mid.faults r.host_after.faults → ⊥) → result ≢ Err OutOfMemory
       → (since : ℕ) → since ≤ mid.stops.moment → CalmSince from to since mid → CalmSince from to since r.host_after)
       (damaged : r.host_tells → UpToNow mid (λ since. (area : ℕ) → IsErrOf result (Damaged area) → DamagedSince since area r.host_after)) where
@@ -333,6 +340,15 @@ module _ (r : Run) (p : PolicyData) (opts : ApplyOpts) (doc : Doc) (done : Recov
           (at (reads r)) (at (standing mid.state)) refl refl refl (λ x is. record { station = standing mid.state; is = refl; like = alike_is (standing mid.state) x (sym is) })
           (Only (standing r.host_after.state)) unrestored (λ is. same is (tells_of h)) result (answers h kept_mid.sound) (read_exits h kept_mid.sound)
 
+      -- a change that waits could be left at the entry, or was compared
+      compares : Compares r (Ok order)
+      compares verifies s left waits =
+          let first : WaitsAsBefore r.host mid = waits_on r.host between mid (seen.begun.recovers.waits (tells_of h)) (waits_stays between mid seen.looks.stops) in
+          elim (looked h kept_mid.sound verifies s left waits) as (λ v. left_by r.host (standing s) ⊎ (r.host_after.fresh ≡ (machine_of r.now (Ok order) (reads r)).after.net)) [
+            | inl was ↦ let before = first was.0 was.1 (waits_as was.0 s was.2 waits) in inl (before.0, before.1, before.2 ∙ was.2)
+            | inr fresh ↦ inr (fresh ∙ ap (λ (o : Outcome Applied ApplyFault). o.after.net) (sym (begins h)) ∙ ap (λ (x : Standing). x.net) (sym (leads h)))
+          ]
+
       spares : Spares r (Ok order) (answer_of told_result)
       spares other from to stood has merges no_fault no_memory =
           let nothing : (recover r.now (reads r)).answer ≡ given Nothing = ap (λ (x : Standing). (recover r.now x).answer) stood in
@@ -363,6 +379,7 @@ module _ (r : Run) (p : PolicyData) (opts : ApplyOpts) (doc : Doc) (done : Recov
           reads_as = λ a. policy_leaves a.honest (at (reads r)) refl (Only (standing r.host_after.state)) (HostRose r) (HostRoseTwice r) told_result (read_exits_all a.honest a.sound);
           kept = λ a. policy_kept a.honest (kept_all a.honest a.sound);
           spares = λ a. spares a.honest a.sound;
+          compares = λ a. compares a.honest a.sound;
           looks = tt;
           unbegun = unbegun r p opts back mid (never_pending done) none idle taken result last never_waits unhurt_all;
           waits = λ t waiting. absurd (never_clear r.host_tells r.honest r.now r.host between done clear seen.begun.recovers t waiting.0 waiting.1);

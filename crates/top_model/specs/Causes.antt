@@ -400,9 +400,10 @@ abbrev pub BrokeRule : Run → Order → Refused → Type 0
 BrokeRule r (generating devices first second) refused = expected r (Ok (generating devices first second)) ≡ Err (MergeRefused refused)
 BrokeRule r order refused = (r.host_tells → BreaksRule r (Ok order) refused) × LooksOnly r order
 
--- the policy is refused on the network that was dumped
+-- the policy is refused on the network that was dumped, which the host tells as its last dump
 pub record WasLate {A : Type 0} (r : Run) (order : Order) (read : NetData → Result A Cause) (fault : DocFault) : Type 0 where
   pub net : NetData
+  pub fresh : r.host_tells → r.host_after.fresh ≡ Some net
   pub is_ground : IsGround r order net
   pub refused : read net ≡ Err (DocRefused fault)
 

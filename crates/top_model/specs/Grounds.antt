@@ -3,6 +3,7 @@ use Rattle.std.specs.Prelude.{◌≡◌, Some, Result, Ok, Err}
 use Rattle.net_model.specs.NetData.{NetData}
 use Rattle.document_model.specs.declared.Doc.{Doc}
 use Rattle.policy_model.specs.Values.{PolicyData}
+use Rattle.engine_model.specs.Faults.{HasTaken}
 use Rattle.top_model.specs.Orders.{Order, document_on, applying_policy}
 use Rattle.top_model.specs.Machine.{ground}
 use Rattle.top_model.specs.Runs.{Run, reads}
@@ -22,6 +23,10 @@ pub record IsGround (r : Run) (order : Order) (net : NetData) : Type 0 where
 abbrev pub Grounds : Run → Result Order Cause → NetData → Type 0
 Grounds r (Ok order) net = IsGround r order net
 Grounds r (Err refusal) net = ⊥
+
+-- a change was to be taken back first, as a host reads that tells its content
+abbrev pub TakesFirst : Run → Type 0
+TakesFirst r = r.host_tells → HasTaken r.now (reads r).cell
 
 -- the policy of an order is this document on such a network
 pub record IsDocumentOf (r : Run) (order : Order) (p : PolicyData) (doc : Doc) : Type 0 where

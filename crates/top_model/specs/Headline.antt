@@ -8,10 +8,11 @@ use Rattle.document_model.specs.declared.Doc.{Doc}
 use Rattle.document_model.specs.declared.Refused.{Refused}
 use Rattle.host_core.specs.HostView.{State, HasNet}
 use Rattle.checkpoint_cell.specs.declared.Phase.TheVariants.{Waiting}
-use Rattle.checkpoint_cell.specs.Cell.{Checkpoint, is_due}
+use Rattle.checkpoint_cell.specs.Cell.{Checkpoint, cell_of, is_due}
 use Rattle.checkpoint_cell.specs.Settled.{Standing, standing, settled, restored_to}
 use Rattle.merge_model.specs.MergedNet.{merge}
 use Rattle.engine_model.specs.Machine.{asked, changed, committed, deadline_of}
+use Rattle.engine_model.specs.Compared.{IsWaiting}
 use Rattle.engine_model.specs.Sound.{Sound}
 use Rattle.engine_model.specs.Stations.{Near, Within, Only, Before, Either}
 use Rattle.engine_model.specs.declared.ApplyOpts.{ApplyOpts}
@@ -70,6 +71,12 @@ abbrev pub Failed : Run → Doc → ApplyOpts → NetData → Type 0
 Failed r doc opts from = (to : NetData) → merge from doc ≡ Ok to → (left : Left) → (r.report.cause ≡ HostFault left) ⊎ (r.report.cause ≡ OutOfMemory)
     → Within (left_at_exit r) (Either (Before (entry r)) (Either (Only (restored_to from)) (λ s. (opts.no_commit ≡ true) × (s ≡ after r doc opts from to))))
 
+-- where it verifies, a change that a stop leaves to wait then could be left at the entry; or the last dump gave the merged network, and no
+-- kernel call came after that dump
+abbrev pub LeftToWait : Run → Doc → ApplyOpts → NetData → Type 0
+LeftToWait r doc opts from = (to : NetData) → merge from doc ≡ Ok to → opts.no_verify ≡ false → (s : State) → r.host_after.stops.may_leave s → IsWaiting (cell_of s.cell)
+    → Before (entry r) (standing s) ⊎ (r.host_after.fresh ≡ Some to)
+
 -- it expired: a change that waits goes back to the checkpointed network
 abbrev pub Expired : Run → Doc → ApplyOpts → NetData → Type 0
 Expired r doc opts from = (to : NetData) (moment : ℕ) → opts.no_commit ≡ true → is_due r.now (deadline_of (asked doc opts r.now)) moment ≡ true
@@ -123,6 +130,7 @@ pub record OfApply (r : Run) (doc : Doc) (opts : ApplyOpts) (from : NetData) : T
   pub refused : RefusedByRule r doc opts from
   pub reached : Reached r doc opts from
   pub failed : Failed r doc opts from
+  pub left_to_wait : LeftToWait r doc opts from
   pub expired : Expired r doc opts from
   pub stopped : Stopped r doc opts from
   pub merged : Merged r doc opts from

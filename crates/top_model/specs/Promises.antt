@@ -12,7 +12,7 @@ use Rattle.top_model.specs.Orders.{Text, Order, applying}
 use Rattle.top_model.specs.Machine.{machine_of}
 use Rattle.top_model.specs.Texts.{status_of}
 use Rattle.top_model.specs.Runs.{Run, Asks, AsksApply, Alone, Quiet, Acknowledged, SinkRose, reads, reads_after}
-use Rattle.top_model.specs.Grounds.{Grounds}
+use Rattle.top_model.specs.Grounds.{Grounds, TakesFirst}
 use Rattle.top_model.specs.Told.{Told, ErrTextOn}
 use Rattle.top_model.specs.Causes.{expected}
 use Rattle.top_model.specs.Answered.{Rests}
@@ -72,7 +72,7 @@ pub record IsWritten (r : Run) (order : Result Order Cause) : Type 0 where
   pub err : Text
   pub to_out : r.sinks_tell → Appends out r.out r.out_after
   pub to_err : r.sinks_tell → Appends err r.err r.err_after
-  pub is_err : ErrTextOn (Grounds r order) order r.report.cause err
+  pub is_err : ErrTextOn (TakesFirst r) (Grounds r order) order r.report.cause err
   pub silent : r.report.cause ≢ Done → out ≡ []
   -- on a host that is asked for no more than it promises, it says what the machine says
   pub says : Rests r order → r.report.cause ≡ Done → (said : Said) × (expected r order ≡ Ok said) × Says said out
@@ -88,7 +88,7 @@ pub record IsCutOff (r : Run) (order : Result Order Cause) (status : ℕ) : Type
   pub err : Text
   pub to_out : r.sinks_tell → AppendsSome out r.out r.out_after
   pub to_err : r.sinks_tell → AppendsSome err r.err r.err_after
-  pub is_err : ErrTextOn (Grounds r order) order cause err
+  pub is_err : ErrTextOn (TakesFirst r) (Grounds r order) order cause err
   pub silent : cause ≢ Done → out ≡ []
   -- after a write that fails nothing more is written
   pub stops : (r.sinks_tell → Appends [] r.out r.out_after) ⊎ (r.sinks_tell → Appends err r.err r.err_after)

@@ -8,10 +8,11 @@ use Rattle.top_model.specs.Said.{Said, Says}
 use Rattle.top_model.specs.Orders.{Text, Order, document_on, planning_policy, applying_policy, notes_of}
 use Rattle.top_model.specs.Texts.{status_of, error_line, note_lines}
 use Rattle.top_model.specs.Runs.{Run, SinkRose}
-use Rattle.top_model.specs.Grounds.{Grounds}
+use Rattle.top_model.specs.Grounds.{Grounds, TakesFirst}
+use Rattle.engine_model.specs.declared.Left.TheVariants as side
 use Rattle.top_model.specs.declared.report.Report.{Report}
 use Rattle.top_model.specs.declared.report.Cause.{Cause}
-use Rattle.top_model.specs.declared.report.Cause.TheVariants.{Done, DocRefused, MergeRefused, Pending, ReadFault, WriteFault, InDoubt, NotVerified, OutOfMemory}
+use Rattle.top_model.specs.declared.report.Cause.TheVariants.{Done, DocRefused, MergeRefused, Pending, ReadFault, WriteFault, HostFault, InDoubt, KernelRefused, NotVerified, OutOfMemory}
 
 -- what is said, or why it is refused
 abbrev pub Answer : Type 0
@@ -54,22 +55,27 @@ PlanErr on p OutOfMemory text = (text ≡ error_line OutOfMemory) ⊎ NotedOn on
 PlanErr on p cause text = text ≡ error_line cause
 
 -- So is an apply, before it makes its change: an input that isn't read, a change that waits and a policy that is refused have no notes. Done,
--- and what only a document can bring, comes behind that; every other cause before it or behind it.
-abbrev pub ApplyErr : (NetData → Type 0) → PolicyData → Cause → Text → Type 0
-ApplyErr on p ReadFault text = text ≡ error_line ReadFault
-ApplyErr on p (Pending deadline) text = text ≡ error_line (Pending deadline)
-ApplyErr on p (DocRefused fault) text = text ≡ error_line (DocRefused fault)
-ApplyErr on p Done text = NotedOn on p Done text
-ApplyErr on p (MergeRefused refused) text = NotedOn on p (MergeRefused refused) text
-ApplyErr on p (NotVerified found left) text = NotedOn on p (NotVerified found left) text
-ApplyErr on p InDoubt text = NotedOn on p InDoubt text
-ApplyErr on p cause text = (text ≡ error_line cause) ⊎ NotedOn on p cause text
+-- and what only the change of a document can bring, comes after that. A host fault that isn't told as not begun, and a refused call, come
+-- before it only where a change was to be taken back first (early); every other cause before it or after it.
+abbrev pub ApplyErr : Type 0 → (NetData → Type 0) → PolicyData → Cause → Text → Type 0
+ApplyErr early on p ReadFault text = text ≡ error_line ReadFault
+ApplyErr early on p (Pending deadline) text = text ≡ error_line (Pending deadline)
+ApplyErr early on p (DocRefused fault) text = text ≡ error_line (DocRefused fault)
+ApplyErr early on p Done text = NotedOn on p Done text
+ApplyErr early on p (MergeRefused refused) text = NotedOn on p (MergeRefused refused) text
+ApplyErr early on p (HostFault side.RolledBack) text = (early × (text ≡ error_line (HostFault side.RolledBack))) ⊎ NotedOn on p (HostFault side.RolledBack) text
+ApplyErr early on p (HostFault side.Pending) text = (early × (text ≡ error_line (HostFault side.Pending))) ⊎ NotedOn on p (HostFault side.Pending) text
+ApplyErr early on p (KernelRefused k n side.RolledBack) text = NotedOn on p (KernelRefused k n side.RolledBack) text
+ApplyErr early on p (KernelRefused k n side.Pending) text = (early × (text ≡ error_line (KernelRefused k n side.Pending))) ⊎ NotedOn on p (KernelRefused k n side.Pending) text
+ApplyErr early on p (NotVerified found left) text = NotedOn on p (NotVerified found left) text
+ApplyErr early on p InDoubt text = NotedOn on p InDoubt text
+ApplyErr early on p cause text = (text ≡ error_line cause) ⊎ NotedOn on p cause text
 
 -- what is written to the errors, where a policy is evaluated on such a network
-abbrev pub ErrTextOn : (NetData → Type 0) → Result Order Cause → Cause → Text → Type 0
-ErrTextOn on (Ok (planning_policy p in_batch)) cause text = PlanErr on p cause text
-ErrTextOn on (Ok (applying_policy p opts)) cause text = ApplyErr on p cause text
-ErrTextOn on order cause text = ErrText order cause text
+abbrev pub ErrTextOn : Type 0 → (NetData → Type 0) → Result Order Cause → Cause → Text → Type 0
+ErrTextOn early on (Ok (planning_policy p in_batch)) cause text = PlanErr on p cause text
+ErrTextOn early on (Ok (applying_policy p opts)) cause text = ApplyErr early on p cause text
+ErrTextOn early on order cause text = ErrText order cause text
 
 abbrev pub report_of : Cause → Report
 report_of cause = record { status = status_of cause; cause = cause }
@@ -95,5 +101,5 @@ pub record Told (r : Run) (order : Result Order Cause) (answer : Answer) : Type 
   pub out : Text
   pub err : Text
   pub is_out : OutText answer out
-  pub is_err : ErrTextOn (Grounds r order) order (cause_of answer) err
+  pub is_err : ErrTextOn (TakesFirst r) (Grounds r order) order (cause_of answer) err
   pub written : IsWhole r answer out err ⊎ IsCut r answer out err

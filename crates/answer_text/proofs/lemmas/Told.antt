@@ -6,7 +6,7 @@ use Rattle.net_model.specs.NetData.{NetData}
 use Rattle.top_model.specs.Orders.{Text, Order, planning_policy, applying_policy, notes_of}
 use Rattle.top_model.specs.Texts.{error_line, note_lines}
 use Rattle.top_model.specs.Runs.{Run}
-use Rattle.top_model.specs.Grounds.{Grounds}
+use Rattle.top_model.specs.Grounds.{Grounds, TakesFirst}
 use Rattle.top_model.specs.Told.{Answer, cause_of, noted, ErrText, ErrTextOn, IsWhole, IsCut, Told}
 use Rattle.top_model.specs.declared.report.Cause.{Cause}
 use Rattle.top_model.specs.declared.report.Cause.TheVariants.{Done, DocRefused, MergeRefused, Usage, BadLine, BatchLine, BatchLarge, CallRefused, FolderFault, Halted, Pending, NoCheckpoint, Unfinished, Expired, Exists, NoSuchName, ReadFault, WriteFault, HostFault, InDoubt, KernelRefused, NotVerified, Damaged, HardwareDiffers, OutOfMemory}
@@ -48,19 +48,19 @@ err_noted order OutOfMemory other = inr refl
 
 -- the errors of an order that evaluates no policy, or whose policy has no notes
 abbrev pub Plain : Run → Result Order Cause → Type 0
-Plain r order = (cause : Cause) (text : Text) → ErrText order cause text → ErrTextOn (Grounds r order) order cause text
+Plain r order = (cause : Cause) (text : Text) → ErrText order cause text → ErrTextOn (TakesFirst r) (Grounds r order) order cause text
 
 -- an input that isn't read has no notes
-pub unread_line : (on : NetData → Type 0) (order : Result Order Cause) → ErrTextOn on order ReadFault (error_line ReadFault)
-unread_line on (Ok (planning_policy p in_batch)) = refl
-unread_line on (Ok (applying_policy p opts)) = refl
-unread_line on order = refl
+pub unread_line : (early : Type 0) (on : NetData → Type 0) (order : Result Order Cause) → ErrTextOn early on order ReadFault (error_line ReadFault)
+unread_line early on (Ok (planning_policy p in_batch)) = refl
+unread_line early on (Ok (applying_policy p opts)) = refl
+unread_line early on order = refl
 
 -- memory may run out before the notes
-pub starved_line : (on : NetData → Type 0) (order : Result Order Cause) → ErrTextOn on order OutOfMemory (error_line OutOfMemory)
-starved_line on (Ok (planning_policy p in_batch)) = inl refl
-starved_line on (Ok (applying_policy p opts)) = inl refl
-starved_line on order = inl refl
+pub starved_line : (early : Type 0) (on : NetData → Type 0) (order : Result Order Cause) → ErrTextOn early on order OutOfMemory (error_line OutOfMemory)
+starved_line early on (Ok (planning_policy p in_batch)) = inl refl
+starved_line early on (Ok (applying_policy p opts)) = inl refl
+starved_line early on order = inl refl
 
 -- a command that is done was told
 pub told_done : (r : Run) (order : Result Order Cause) → Plain r order → (said : Said) (text notes : Text) → Says said text → notes ≡ note_lines (notes_of order)
@@ -74,7 +74,7 @@ told_done r order plain said text notes says same spoken = record {
 }
 
 -- a refusal was told: its text is the line with the notes, or the line alone where that may come
-pub told_refused : (r : Run) (order : Result Order Cause) (cause : Cause) (notes : Text) → ErrTextOn (Grounds r order) order cause (notes ++ error_line cause)
+pub told_refused : (r : Run) (order : Result Order Cause) (cause : Cause) (notes : Text) → ErrTextOn (TakesFirst r) (Grounds r order) order cause (notes ++ error_line cause)
     → Spoken r.sinks_tell cause [] (notes ++ error_line cause) r.out r.out_after r.err r.err_after r.report → Told r order (Err cause)
 told_refused r order cause notes is_err spoken = record {
   out = [];

@@ -10,6 +10,7 @@ use Rattle.merge_model.specs.MergedNet.{merge}
 use Rattle.engine_model.specs.Machine.{Asked, asked, apply, recover}
 use Rattle.engine_model.specs.Sound.{Sound}
 use Rattle.engine_model.specs.Stations.{Stands, Entry, Only, Settled, Either, Kept, at}
+use Rattle.engine_model.specs.Compared.{Compared}
 use Rattle.engine_model.specs.Exit.{ApplyExit}
 use Rattle.engine_model.specs.Refusals.{ApplyCounts}
 use Rattle.engine_model.specs.Failing.{ApplyIdle, ApplyIntact, ApplyWaits}
@@ -175,6 +176,7 @@ module _ (r : Run) (doc : Doc) (opts : ApplyOpts) where
       (exits : r.honest → Sound r.host → ApplyExit Ask (entry r) (left_at_exit r) (HostRose r) (HostRoseTwice r) result)
       (read_exits : r.honest → Sound r.host → ApplyExit Ask (at (reads r)) (Only (standing r.host_after.state)) (HostRose r) (HostRoseTwice r) result)
       (kept : r.honest → Sound r.host → Kept (Either (Settled r.now (entry r)) (Only (apply Ask (reads r)).after)) r.host r.host_after)
+      (seen : r.honest → Sound r.host → Compared Ask r.host r.host_after)
       (undisturbed : r.honest → Sound r.host → (from to : NetData) → reads r ≡ restored_to from → merge from doc ≡ Ok to → (HostRose r → ⊥) → result ≢ Err OutOfMemory
       → (s : State) → r.host_after.stops.left_since r.host.stops.moment s → (net : NetData) × (s.net ≡ Some net) × IsUndisturbed from to net) where
     wants : MayWant r
@@ -197,6 +199,7 @@ module _ (r : Run) (doc : Doc) (opts : ApplyOpts) where
       reads_as = λ a. leaves Ask (at (reads r)) (Only (standing r.host_after.state)) (HostRose r) (HostRoseTwice r) result (read_exits a.honest a.sound);
       kept = λ a. kept a.honest a.sound;
       spares = λ a from to stood merges quiet other. undisturbed a.honest a.sound from to stood merges quiet (λ memory. other (ap answer_of memory));
+      compares = λ a. seen a.honest a.sound;
       looks = tt;
       unbegun = unbegun result idle intact;
       waits = λ t waiting. unchanged r (waits t waiting.0 waiting.1);

@@ -236,6 +236,7 @@ module _ (r : Run) (nothing : ChangesNothing r.host_tells r.host r.host_after) w
       reads_as = λ a. read_exit (goes_on.tells a.honest) result;
       kept = λ a. kept_stays _ r.host r.host_after a.sound nothing.stops;
       spares = λ a. tt;
+      compares = λ a never. absurd never;
       looks = record { state = nothing.state; stops = nothing.stops };
       unbegun = tt;
       waits = tt;

@@ -393,6 +393,7 @@ module _ (r : Run) (p : PolicyData) (opts : ApplyOpts) where
               (taken (at (reads r)) refl a) (first.reads a.honest a.sound);
           kept = λ a. back_kept goes_on a r.host_after (first.kept a.honest a.sound);
           spares = λ a. fault_spares fault never first.says (first.answer a.honest a.sound);
+          compares = λ a verifies s left waits. inl (first.waits (goes_on.tells a.honest) s left waits);
         }
 
     -- a change waits
@@ -416,4 +417,5 @@ module _ (r : Run) (p : PolicyData) (opts : ApplyOpts) where
       reads_as = λ a x there. near_wider (Only (recover r.now (reads r)).after) (Settled r.now (at (reads r))) (back_settled goes_on a) x (first.reads a.honest a.sound x there);
       kept = λ a. back_kept goes_on a r.host_after (first.kept a.honest a.sound);
       spares = λ a doc from to stood has merges quiet other. absurd (never_waits r.now (reads r) from deadline stood (first.exact a.honest));
+      compares = λ a verifies s left waits. inl (first.waits (goes_on.tells a.honest) s left waits);
     }

@@ -15,6 +15,8 @@ use Rattle.engine_model.specs.Answers.{IsClear}
 use Rattle.engine_model.specs.Stations.{Stands, Entry, Within, Before, Settled, Only, Kept, at, left_by}
 use Rattle.engine_model.specs.Refusals.{NoCallMade}
 use Rattle.engine_model.specs.Failing.{IsUnbegun}
+use Rattle.engine_model.specs.Compared.{WaitsAsBefore}
+use Rattle.engine_model.proofs.lemmas.Comparing.{waits_on, waits_stays}
 use Rattle.engine_model.specs.Faults.{LeftSays, HasTaken, SettlesOnly}
 use Rattle.engine_model.specs.declared.ApplyOpts.{ApplyOpts}
 use Rattle.engine_model.specs.declared.Recovered.{Recovered}
@@ -137,6 +139,10 @@ module _ (r : Run) (p : PolicyData) (opts : ApplyOpts) (inputs : Inputs) (may_re
   abbrev Refused : Cause → Answer
   Refused cause = Err cause
 
+  -- a change that waits could be left at the entry
+  waits_back : GoesOn r → Steps Stays mid.stops r.host_after.stops → Alone r → WaitsAsBefore r.host r.host_after
+  waits_back goes_on steps a = waits_on r.host mid r.host_after (first.waits (goes_on.tells a.honest)) (waits_stays mid r.host_after steps)
+
   -- memory ran out
   halted : (r.host_tells → r.host_after.state ≡ mid.state) → Steps Stays mid.stops r.host_after.stops → NoCallMade mid.kernel r.host_after.kernel → GoesOn r
       → Told r (Ok (applying_policy p opts)) (Refused OutOfMemory) → Answered r
@@ -161,6 +167,7 @@ module _ (r : Run) (p : PolicyData) (opts : ApplyOpts) (inputs : Inputs) (may_re
         reads_as = λ a. inr (inr (tt, λ x there. near_wider (Settled r.now (at (reads r))) _ (λ y back. inl back) x (settled_reads r p opts goes_on done clear mid first state steps a x there)));
         kept = λ a. kept_back r p opts goes_on done clear mid first state steps a;
         spares = λ a doc from to stood has merges quiet other. absurd (other refl);
+        compares = λ a verifies s left waits. inl (waits_back goes_on steps a s left waits);
       }
 
   -- the dump failed
@@ -189,6 +196,7 @@ module _ (r : Run) (p : PolicyData) (opts : ApplyOpts) (inputs : Inputs) (may_re
             (λ nothing. unbegun_reads r p opts goes_on done clear mid first state steps nothing (goes_on.tells a.honest)) (settled_reads r p opts goes_on done clear mid first state steps a);
         kept = λ a. kept_back r p opts goes_on done clear mid first state steps a;
         spares = λ a doc from to stood has merges quiet other. absurd (quiet rose);
+        compares = λ a verifies s left waits. inl (waits_back goes_on steps a s left waits);
       }
 
   -- there is no network
@@ -227,6 +235,7 @@ module _ (r : Run) (p : PolicyData) (opts : ApplyOpts) (inputs : Inputs) (may_re
         leaves = λ a. unrestored r p opts done clear (unbegun_exit r p opts goes_on done clear mid first look.state look.stops) (unrestored_net a.honest);
         reads_as = λ a. unrestored r p opts done clear (λ nothing. unbegun_reads r p opts goes_on done clear mid first look.state look.stops nothing (goes_on.tells a.honest)) (unrestored_net a.honest);
         kept = λ a. kept_back r p opts goes_on done clear mid first look.state look.stops a;
+        compares = λ a verifies s left waits. inl (waits_back goes_on look.stops a s left waits);
         spares = λ a doc from to stood has merges quiet other.
             absurd (none_some from (sym (none (goes_on.tells a.honest)) ∙ spared_net r p opts goes_on done clear mid first look.state look.stops a.honest from stood));
       }
@@ -257,6 +266,7 @@ module _ (r : Run) (p : PolicyData) (opts : ApplyOpts) (inputs : Inputs) (may_re
         comes = (
           record {
             net = net;
+            fresh = look.fresh;
             is_ground = record { dumped = λ once. absurd once; stood = λ honest. ground_clear p opts r.now (reads r) done clear (first.exact honest) ∙ there honest };
             refused = is_refused;
           },
@@ -279,6 +289,7 @@ module _ (r : Run) (p : PolicyData) (opts : ApplyOpts) (inputs : Inputs) (may_re
         leaves = λ a. settled_exit r p opts goes_on done clear mid first look.state look.stops a;
         reads_as = λ a. settled_reads r p opts goes_on done clear mid first look.state look.stops a;
         kept = λ a. kept_back r p opts goes_on done clear mid first look.state look.stops a;
+        compares = λ a verifies s left waits. inl (waits_back goes_on look.stops a s left waits);
         spares = λ a doc from to stood has merges quiet other.
             let same : from ≡ net = same_some from net (sym (spared_net r p opts goes_on done clear mid first look.state look.stops a.honest from stood) ∙ look.net a.honest) in
             absurd (ok_err doc (DocRefused fault) (sym has ∙ ap (document_on p) same ∙ is_refused));

@@ -27,7 +27,7 @@ use Rattle.top_model.specs.Orders.{Text, Order, evaluating, planning_policy, com
 use Rattle.top_model.specs.Machine.{said_plan, plan_to, plan_read, say_value}
 use Rattle.top_model.specs.Texts.{error_line, note_lines}
 use Rattle.top_model.specs.Runs.{Run}
-use Rattle.top_model.specs.Grounds.{IsGround, Grounds}
+use Rattle.top_model.specs.Grounds.{IsGround, Grounds, TakesFirst}
 use Rattle.top_model.specs.Told.{Answer, Told, NotedOn, PlanErr, ErrTextOn, cause_of}
 use Rattle.top_model.specs.Causes.{MayWant, MayAnswer, Comes, Expects, ExactlyOf, IsLate, HasNoValue}
 use Rattle.top_model.specs.Answered.{Answered}
@@ -187,7 +187,7 @@ module _ (r : Run) (p : PolicyData) (nothing : ChangesNothing r.host_tells r.hos
   value_comes lawful want (Ok said) l =
       let v = says_value (value_on p l.0) said l.2 in
       record { net = l.0; tree = v.0; is_ground = ground_value r l.0 l.1 p; value = v.1; is_said = v.2 }
-  value_comes lawful want (Err (DocRefused fault)) l = (record { net = l.0; is_ground = ground_value r l.0 l.1 p; refused = refuses_value (value_on p l.0) (DocRefused fault) l.2 }, same_reads r nothing)
+  value_comes lawful want (Err (DocRefused fault)) l = (record { net = l.0; fresh = l.1.fresh; is_ground = ground_value r l.0 l.1 p; refused = refuses_value (value_on p l.0) (DocRefused fault) l.2 }, same_reads r nothing)
   value_comes lawful want (Err (MergeRefused refused)) l = absurd (not_so l.0 (MergeRefused refused) (λ never. never) l.2)
   value_comes lawful want (Err (CallRefused n k)) l = absurd (not_so l.0 (CallRefused n k) (λ never. never) l.2)
   value_comes lawful want (Err (HostFault left.NotBegun)) l = (l, (nothing.state, not_rolled))
@@ -235,6 +235,7 @@ module _ (r : Run) (p : PolicyData) (nothing : ChangesNothing r.host_tells r.hos
         reads_as = λ a. reads_before r nothing (ran.goes_on.tells a.honest);
         kept = λ a. kept_stays _ r.host r.host_after a.sound nothing.stops;
         spares = λ a. tt;
+        compares = λ a never. absurd never;
         looks = record { state = nothing.state; stops = nothing.stops };
         unbegun = tt;
         waits = tt;
@@ -309,7 +310,7 @@ module _ (r : Run) (p : PolicyData) (in_batch : Bool) (nothing : ChangesNothing 
       let v = says_read in_batch l.0 (document_on p l.0) said l.2 in
       record { doc = v.doc; plans = record { from = l.0; to = v.to; dumped = l.1.fresh; merges = v.merges; is_said = v.is_said }; is_ground = ground_plan r l.0 l.1 p in_batch; reads = v.reads }
   plan_comes lawful want (Err (DocRefused fault)) l =
-      (record { net = l.0; is_ground = ground_plan r l.0 l.1 p in_batch; refused = refuses_read in_batch l.0 (document_on p l.0) fault l.2 }, same_reads r nothing)
+      (record { net = l.0; fresh = l.1.fresh; is_ground = ground_plan r l.0 l.1 p in_batch; refused = refuses_read in_batch l.0 (document_on p l.0) fault l.2 }, same_reads r nothing)
   plan_comes lawful want (Err (MergeRefused refused)) l =
       let b = breaks_read in_batch l.0 (document_on p l.0) refused (document_refusal p l.0) l.2 in (
         λ t. record { doc = b.0; net = l.0; is_doc = record { net = l.0; is_ground = ground_plan r l.0 l.1 p in_batch; reads = b.1 }; dumped = l.1.fresh t; broken = b.2 },
@@ -362,6 +363,7 @@ module _ (r : Run) (p : PolicyData) (in_batch : Bool) (nothing : ChangesNothing 
         reads_as = λ a. reads_before r nothing (ran.goes_on.tells a.honest);
         kept = λ a. kept_stays _ r.host r.host_after a.sound nothing.stops;
         spares = λ a. tt;
+        compares = λ a never. absurd never;
         looks = record { state = nothing.state; stops = nothing.stops };
         unbegun = tt;
         waits = tt;
@@ -470,7 +472,7 @@ module _ (r : Run) (p : PolicyData) (in_batch : Bool) where
     out = t.out_text;
     err = t.err_text;
     is_out = t.is_out;
-    is_err = err_wider (λ n. n ≡ net) (Grounds r (Ok order)) (λ n same. subst (IsGround r order) (sym same) (ground_plan r net found p in_batch)) (Ok order) (cause_of t.answer) t.err_text t.is_err;
+    is_err = err_wider (λ n. n ≡ net) (Grounds r (Ok order)) (λ n same. subst (IsGround r order) (sym same) (ground_plan r net found p in_batch)) (TakesFirst r) (TakesFirst r) (λ e. e) (Ok order) (cause_of t.answer) t.err_text t.is_err;
     written = written r t.answer t.out_text t.err_text t.spoken;
   }
 
@@ -481,7 +483,7 @@ module _ (r : Run) (p : PolicyData) (in_batch : Bool) where
   looked_none OutOfMemory f = tt
   looked_none cause f = absurd f
 
-  none_line : (cause : Cause) → Finds r.host_tells r.honest r.host r.host_after (Err cause) → ErrTextOn (Grounds r (Ok order)) (Ok order) cause (error_line cause)
+  none_line : (cause : Cause) → Finds r.host_tells r.honest r.host r.host_after (Err cause) → ErrTextOn (TakesFirst r) (Grounds r (Ok order)) (Ok order) cause (error_line cause)
   none_line (HostFault left.NotBegun) f = refl
   none_line (Damaged area) f = refl
   none_line OutOfMemory f = inl refl

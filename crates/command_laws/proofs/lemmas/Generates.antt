@@ -132,6 +132,7 @@ module _ (r : Run) (devices : List Link) (first second : Doc) where
           reads_as = λ a. reads_before r nothing (ran.goes_on.tells a.honest);
           kept = λ a. kept_stays _ r.host r.host_after a.sound nothing.stops;
           spares = λ a. tt;
+          compares = λ a never. absurd never;
           looks = untouched;
           unbegun = tt;
           waits = tt;

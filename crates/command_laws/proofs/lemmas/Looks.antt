@@ -248,6 +248,7 @@ module _ (r : Run) (only : Option Text) (json : Bool) (nothing : ChangesNothing 
         reads_as = λ a. reads_before r nothing (ran.goes_on.tells a.honest);
         kept = λ a. kept_stays _ r.host r.host_after a.sound nothing.stops;
         spares = λ a. tt;
+        compares = λ a never. absurd never;
         looks = record { state = nothing.state; stops = nothing.stops };
         unbegun = tt;
         waits = tt;
@@ -329,6 +330,7 @@ module _ (r : Run) (doc : Doc) (in_batch : Bool) (nothing : ChangesNothing r.hos
         reads_as = λ a. reads_before r nothing (ran.goes_on.tells a.honest);
         kept = λ a. kept_stays _ r.host r.host_after a.sound nothing.stops;
         spares = λ a. tt;
+        compares = λ a never. absurd never;
         looks = record { state = nothing.state; stops = nothing.stops };
         unbegun = tt;
         waits = tt;

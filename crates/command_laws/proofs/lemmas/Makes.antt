@@ -286,6 +286,7 @@ module _ (r : Run) (links : List Link) where
         reads_as = λ honest. leaves r links (ran.goes_on.tells honest) (at (reads r)) (Only (standing r.host_after.state)) (read r links (ran.goes_on.tells honest) result m) result m;
         kept = λ honest. kept r links (ran.goes_on.tells honest) result m;
         spares = λ honest. tt;
+        compares = λ a never. absurd never;
         looks = tt;
         unbegun = unbegun result m;
         waits = tt;

@@ -193,6 +193,7 @@ module _ (r : Run) where
       reads_as = λ a. leaves (recover r.now (reads r)).after (at (reads r)) (Only (standing r.host_after.state)) result (read_exits a.honest a.sound);
       kept = λ a. kept a.honest a.sound;
       spares = λ a. tt;
+      compares = λ a never. absurd never;
       looks = tt;
       unbegun = unbegun result idle before;
       waits = waits result done begun idle before;

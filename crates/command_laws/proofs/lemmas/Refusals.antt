@@ -28,7 +28,7 @@ module _ (r : Run) (untouched : r.untouched) (goes_on : GoesOn (still r)) where
 
   -- memory ran out for words that are no single ones
   pub ran_out : lone r.words ≡ None → Told r OutOfMemory → Answered (still r)
-  ran_out none told = out_of_memory r untouched goes_on order (r.source.inputs, λ t. refl, refl) (may_want_words r none) (told_refused (still r) order OutOfMemory [] (starved_line _ order) told)
+  ran_out none told = out_of_memory r untouched goes_on order (r.source.inputs, λ t. refl, refl) (may_want_words r none) (told_refused (still r) order OutOfMemory [] (starved_line _ _ order) told)
 
   pub refusing : (c : Cause) → Reads as_defined (λ inputs. order_of r.in_script inputs r.words) r.source_tells r.source r.source_after (failed c)
       → (IsErrOf (failed c) ReadFault → IsSome (file_read r.in_script (command_of r.words))) → (IsErrOf (failed c) OutOfMemory → lone r.words ≡ None)
@@ -46,6 +46,6 @@ module _ (r : Run) (untouched : r.untouched) (goes_on : GoesOn (still r)) where
       refused r untouched goes_on BatchLarge reads refl (record { answer = refl; after = refl }) (told_refused (still r) (Err BatchLarge) BatchLarge [] refl told)
   refusing ReadFault reads file memory told =
       unread r untouched goes_on order (r.source.inputs, λ t. refl, refl) reads.0 (reads_input r.in_script r.source.inputs (command_of r.words) (file refl)) (reads.1 r.source.inputs)
-      (told_refused (still r) order ReadFault [] (unread_line _ order) told)
+      (told_refused (still r) order ReadFault [] (unread_line _ _ order) told)
   refusing OutOfMemory reads file memory told = ran_out (memory refl) told
   refusing c reads file memory told = absurd reads

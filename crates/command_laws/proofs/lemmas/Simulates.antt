@@ -175,6 +175,7 @@ module _ (r : Run) (calls : List Call) (nothing : ChangesNothing r.host_tells r.
         reads_as = λ a. reads_before r nothing (ran.goes_on.tells a.honest);
         kept = λ a. kept_stays _ r.host r.host_after a.sound nothing.stops;
         spares = λ a. tt;
+        compares = λ a never. absurd never;
         looks = record { state = nothing.state; stops = nothing.stops };
         unbegun = tt;
         waits = tt;

@@ -449,6 +449,7 @@ module _ (r : Run) (untouched : r.untouched) (goes_on : GoesOn (still r)) where
     reads_as = λ rests. exit_memory r.now (at (reads r)) (Only (standing r.host.state)) (λ s is. near_same (Before (at (reads r))) s is) (HostRose (still r)) (HostRoseTwice (still r)) order;
     kept = λ rests. kept r order OutOfMemory (rests_still r order rests);
     spares = λ rests. spares r order (Err OutOfMemory) goes_on.lawful goes_on.tells (rests_still r order rests);
+    compares = λ rests verifies s left waits. inl (s, left, refl);
     looks = looks r untouched order;
     unbegun = unbegun_memory r order;
     waits = waiting_still r order;
@@ -472,6 +473,7 @@ module _ (r : Run) (untouched : r.untouched) (goes_on : GoesOn (still r)) where
     reads_as = λ rests. exit_unread r.now (at (reads r)) (Only (standing r.host.state)) (λ s is. near_same (Before (at (reads r))) s is) (HostRose (still r)) (HostRoseTwice (still r)) order file;
     kept = λ rests. kept r order ReadFault (rests_still r order rests);
     spares = λ rests. spares r order (Err ReadFault) goes_on.lawful goes_on.tells (rests_still r order rests);
+    compares = λ rests verifies s left waits. inl (s, left, refl);
     looks = looks r untouched order;
     unbegun = unbegun_unread r order;
     waits = waiting_still r order;
@@ -495,6 +497,7 @@ module _ (r : Run) (untouched : r.untouched) (goes_on : GoesOn (still r)) where
     reads_as = λ rests s is. near_same (Before (at (reads r))) s is;
     kept = λ rests. kept r (Err c) c (rests_still r (Err c) rests);
     spares = λ rests. tt;
+    compares = λ rests verifies s left waits. inl (s, left, refl);
     looks = tt;
     unbegun = tt;
     waits = tt;

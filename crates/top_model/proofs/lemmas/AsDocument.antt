@@ -22,7 +22,7 @@ use Rattle.top_model.specs.Orders.{Text, Order, AppliesTo, document_on, applying
 use Rattle.top_model.specs.Machine.{told, told_of, apply_cause, ground_settling, apply_policy}
 use Rattle.top_model.specs.Texts.{note_lines, error_line}
 use Rattle.top_model.specs.Runs.{Run, Alone, Asks, Quiet, reads}
-use Rattle.top_model.specs.Grounds.{Grounds}
+use Rattle.top_model.specs.Grounds.{Grounds, TakesFirst}
 use Rattle.top_model.specs.Told.{Answer, Told, cause_of, noted, NotedOn, ApplyErr, ErrText}
 use Rattle.top_model.specs.Causes.{expected}
 use Rattle.top_model.specs.Answered.{Answered}
@@ -94,7 +94,7 @@ module _ (r : Run) (p : PolicyData) (doc : Doc) (opts : ApplyOpts) (from : NetDa
       n.is ∙ ap (λ (d : Doc). note_lines d.notes ++ error_line cause) same
 
   -- told of one, with these errors, it is told of the other
-  told_so : (answer : Answer) → ((text : Text) → ApplyErr On p (cause_of answer) text → ErrText Stated (cause_of answer) text) → Told r Evaluated answer → Told r Stated answer
+  told_so : (answer : Answer) → ((text : Text) → ApplyErr (TakesFirst r) On p (cause_of answer) text → ErrText Stated (cause_of answer) text) → Told r Evaluated answer → Told r Stated answer
   told_so answer errors t = record { out = t.out; err = t.err; is_out = t.is_out; is_err = errors t.err t.is_err; written = t.written }
 
   told_memory : Told r Evaluated (Err OutOfMemory) → Told r Stated (Err OutOfMemory)
@@ -102,7 +102,7 @@ module _ (r : Run) (p : PolicyData) (doc : Doc) (opts : ApplyOpts) (from : NetDa
       (λ text e. elim e as (λ v. ErrText Stated OutOfMemory text) [ inl line ↦ inl line | inr notes ↦ inr (noted_is OutOfMemory text notes) ]) t
 
   abbrev Errors : Outcome Applied ApplyFault → Type 0
-  Errors outcome = (text : Text) → ApplyErr On p (cause_of (answer_of outcome)) text → ErrText Stated (cause_of (answer_of outcome)) text
+  Errors outcome = (text : Text) → ApplyErr (TakesFirst r) On p (cause_of (answer_of outcome)) text → ErrText Stated (cause_of (answer_of outcome)) text
 
   of_made : (a : Asked) (to : NetData) (no_commit : Bool) → Errors (made a from to no_commit)
   of_made a to true text e = noted_is Done text e

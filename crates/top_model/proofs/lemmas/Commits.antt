@@ -104,6 +104,7 @@ module _ (r : Run) (is : command_of r.words ≡ Some Commit) (tells_if : r.hones
       reads_as = λ a. leaves (at (reads r)) (Only (standing r.host_after.state)) result (read_exits (tells_if a.honest) a.sound);
       kept = λ a. kept (tells_if a.honest) a.sound;
       spares = λ a. tt;
+      compares = λ a never. absurd never;
       looks = tt;
       unbegun = idle;
       waits = tt;

@@ -5,10 +5,12 @@ use Rattle.net_model.specs.NetData.{NetData}
 use Rattle.document_model.specs.declared.Refused.{Refused}
 use Rattle.merge_model.specs.MergedNet.{merge}
 use Rattle.document_model.specs.declared.Doc.{Doc}
-use Rattle.checkpoint_cell.specs.Cell.{Checkpoint}
+use Rattle.host_core.specs.HostView.{State}
+use Rattle.checkpoint_cell.specs.Cell.{Checkpoint, cell_of}
 use Rattle.checkpoint_cell.specs.Settled.{Standing, standing, restored_to, settled}
 use Rattle.engine_model.specs.Machine.{Asked, Outcome, asked, waiting, merged_as, apply, rollback, recover, deadline_of}
-use Rattle.engine_model.specs.Stations.{Stands, Entry, Near, Within, Only, Before, Settled, Either}
+use Rattle.engine_model.specs.Stations.{Stands, Entry, Near, Within, Only, Before, Settled, Either, left_by}
+use Rattle.engine_model.specs.Compared.{IsWaiting, Compared}
 use Rattle.engine_model.specs.Exit.{OnWay, Marked}
 use Rattle.engine_model.specs.Stations.{Kept as KeptOn}
 use Rattle.policy_model.specs.Values.{PolicyData}
@@ -27,9 +29,9 @@ use Rattle.top_model.specs.Texts.{status_of}
 use Rattle.top_model.specs.Runs.{Run, Asks, Alone, Quiet, HostRose, HostRoseTwice, SourceRose, reads, entry, left_at_exit}
 use Rattle.top_model.specs.Told.{Answer, cause_of}
 use Rattle.top_model.specs.Causes.{expected, Expects}
-use Rattle.top_model.specs.Exits.{ApplyLeaves, PolicyLeaves, BackLeaves, Leaves, KeptBy}
+use Rattle.top_model.specs.Exits.{ApplyLeaves, PolicyLeaves, BackLeaves, Leaves, KeptBy, Compares}
 use Rattle.top_model.specs.Answered.{Answered}
-use Rattle.top_model.specs.Headline.{IsApply, after, IsHindered, Leaves as Leaving, RanOut, RefusedByRule, Reached, Accepted, Failed, Expired, Stopped, Merged, OfApply, Headline}
+use Rattle.top_model.specs.Headline.{IsApply, after, IsHindered, Leaves as Leaving, RanOut, RefusedByRule, Reached, Accepted, Failed, LeftToWait, Expired, Stopped, Merged, OfApply, Headline}
 use Rattle.top_model.specs.declared.report.Cause.{Cause}
 use Rattle.top_model.specs.declared.report.Cause.TheVariants.{Done, DocRefused, MergeRefused, Pending, ReadFault, WriteFault, HostFault, InDoubt, KernelRefused, NotVerified, Damaged, OutOfMemory}
 use Rattle.top_model.proofs.lemmas.Leaving.{wider, on_the_way}
@@ -201,6 +203,7 @@ record AsDocument (r : Run) (answer : Answer) (doc : Doc) (opts : ApplyOpts) : T
   expects : Expects r (Ok (applying doc opts)) answer
   leaves : ApplyLeaves (asked doc opts r.now) (entry r) (left_at_exit r) (HostRose r) (HostRoseTwice r) answer
   kept : KeptOn (Either (Settled r.now (entry r)) (Only (apply (asked doc opts r.now) (reads r)).after)) r.host r.host_after
+  compared : Compared (asked doc opts r.now) r.host r.host_after
 
 -- of a policy
 module _ (r : Run) (answer : Answer) (p : PolicyData) (doc : Doc) (opts : ApplyOpts)
@@ -228,20 +231,30 @@ module _ (r : Run) (answer : Answer) (p : PolicyData) (doc : Doc) (opts : ApplyO
       → KeptOn (Either (Settled r.now (entry r)) (Only (apply As (reads r)).after)) r.host r.host_after
   kept_document k = subst (λ (s : Standing). KeptOn (Either (Settled r.now (entry r)) (Only s)) r.host r.host_after) same_after k
 
+  compared_document : Compares r (Ok (applying_policy p opts)) → Compared As r.host r.host_after
+  compared_document seen = subst (λ (x : Standing). opts.no_verify ≡ false → (s : State) → r.host_after.stops.may_leave s → IsWaiting (cell_of s.cell) → left_by r.host (standing s) ⊎ (r.host_after.fresh ≡ x.net)) same_after seen
+
 -- of the order that was answered
 module _ (r : Run) (order : Result Order Cause) (answer : Answer) (doc : Doc) (opts : ApplyOpts) (from : NetData) (fit : Fit r.host.state) (stands : settled r.now (reads r) ≡ Some (restored_to from)) where
-  as_document : AppliesTo from order doc opts → Expects r order answer → Leaves r order answer → KeptBy r order answer → AsDocument r answer doc opts
-  as_document (inl is) expects leaves kept =
+  as_document : AppliesTo from order doc opts → Expects r order answer → Leaves r order answer → KeptBy r order answer → Compares r order → AsDocument r answer doc opts
+  as_document (inl is) expects leaves kept compares =
+      let C : Result Order Cause → Type 0 = λ o. Compares r o in
       let L : Result Order Cause → Type 0 = λ o. Leaves r o answer in
       let K : Result Order Cause → Type 0 = λ o. KeptBy r o answer in
-      record { expects = subst (λ o. Expects r o answer) is expects; leaves = subst L is leaves; kept = subst K is kept }
-  as_document (inr policy) expects leaves kept =
+      record { expects = subst (λ o. Expects r o answer) is expects; leaves = subst L is leaves; kept = subst K is kept; compared = subst C is compares }
+  as_document (inr policy) expects leaves kept compares =
+      let C : Result Order Cause → Type 0 = λ o. Compares r o in
       let p = policy.0 in
       let L : Result Order Cause → Type 0 = λ o. Leaves r o answer in
       let K : Result Order Cause → Type 0 = λ o. KeptBy r o answer in
       let same = policy_is p opts r.now from doc policy.2 r.host.state fit stands in
       let x = expects_document r answer p doc opts same (subst (λ o. Expects r o answer) policy.1 expects) in
-      record { expects = x; leaves = leaves_document r answer p doc opts same x (subst L policy.1 leaves); kept = kept_document r answer p doc opts same (subst K policy.1 kept) }
+      record { expects = x; leaves = leaves_document r answer p doc opts same x (subst L policy.1 leaves); kept = kept_document r answer p doc opts same (subst K policy.1 kept); compared = compared_document r answer p doc opts same (subst C policy.1 compares) }
+
+-- whether it is to wait or not, a change leaves its network
+changed_net : (a : Asked) (from to : NetData) (b : Bool) → (changed_when a from to b).after.net ≡ Some to
+changed_net a from to true = refl
+changed_net a from to false = refl
 
 -- ---- an apply of a document, at which no change waits
 
@@ -254,7 +267,7 @@ module _ (r : Run) (a : Answered r) (doc : Doc) (opts : ApplyOpts) (from : NetDa
 
   document : AsDocument r a.answer doc opts
   document = let rest = rests r a.order i.nobody_else in
-      as_document r a.order a.answer doc opts from fit_here i.stands (subst (λ (o : Result Order Cause). AppliesTo from o doc opts) (sym (order_is r a i.asks.0 i.asks.2)) i.asks.1) (a.expects rest) (a.leaves rest) (a.kept rest)
+      as_document r a.order a.answer doc opts from fit_here i.stands (subst (λ (o : Result Order Cause). AppliesTo from o doc opts) (sym (order_is r a i.asks.0 i.asks.2)) i.asks.1) (a.expects rest) (a.leaves rest) (a.kept rest) (a.compares rest)
 
   expects : Expects r (Ok (applying doc opts)) a.answer
   expects = document.expects
@@ -376,8 +389,14 @@ module _ (r : Run) (a : Answered r) (doc : Doc) (opts : ApplyOpts) (from : NetDa
       let done = is_done r a.order a.answer a.comes (reported r a) acknowledged in
       subst (Leaving r) (ap (λ b. (changed_when Ask from to b).after) plain) (done_leaves to ok done.0 done.1)
 
+  left_to_wait : LeftToWait r doc opts from
+  left_to_wait to ok verifies s left waits = elim (document.compared verifies s left waits) as (λ v. Before (entry r) (standing s) ⊎ (r.host_after.fresh ≡ Some to)) [
+    | inl was ↦ inl was
+    | inr fresh ↦ inr (fresh ∙ ap (λ (x : Standing). x.net) (after_is (Ok to) ok) ∙ changed_net Ask from to opts.no_commit)
+  ]
+
   pub of_apply : OfApply r doc opts from
-  of_apply = record { refused = refused; reached = reached; failed = failed; expired = expired; stopped = stopped; merged = merged }
+  of_apply = record { refused = refused; reached = reached; failed = failed; left_to_wait = left_to_wait; expired = expired; stopped = stopped; merged = merged }
 
 -- ---- a recovery or a rollback without a fault
 

@@ -6,7 +6,7 @@ use Rattle.top_model.specs.Said.{Said, Says}
 use Rattle.top_model.specs.Orders.{Text, Order}
 use Rattle.top_model.specs.Texts.{error_line}
 use Rattle.top_model.specs.Runs.{Run}
-use Rattle.top_model.specs.Grounds.{Grounds}
+use Rattle.top_model.specs.Grounds.{Grounds, TakesFirst}
 use Rattle.top_model.specs.Told.{Told, ErrTextOn}
 use Rattle.top_model.specs.Telling.{Tells}
 use Rattle.top_model.specs.declared.report.Report.{Report}
@@ -25,7 +25,7 @@ none_of_it : (text : Text) (old new : SinkView) → new ≡ old → AppendsSome 
 none_of_it text old new same = (0, omega arith, ap (λ (v : SinkView). v.written) same ∙ with_nothing old.written)
 
 -- done, by an order without notes
-pub told_done : (r : Run) (order : Result Order Cause) (said : Said) (text : Text) → Says said text → ErrTextOn (Grounds r order) order Done []
+pub told_done : (r : Run) (order : Result Order Cause) (said : Said) (text : Text) → Says said text → ErrTextOn (TakesFirst r) (Grounds r order) order Done []
     → Tells r.sinks_tell text Done r.out r.out_after r.report → r.err_after ≡ r.err → Told r order (Ok said)
 told_done r order said text says none (inl t) same = record {
   out = text;
@@ -43,7 +43,7 @@ told_done r order said text says none (inr t) same = record {
 }
 
 -- refused, by an order without notes
-pub told_refused : (r : Run) (order : Result Order Cause) (cause : Cause) → ErrTextOn (Grounds r order) order cause (error_line cause)
+pub told_refused : (r : Run) (order : Result Order Cause) (cause : Cause) → ErrTextOn (TakesFirst r) (Grounds r order) order cause (error_line cause)
     → Tells r.sinks_tell (error_line cause) cause r.err r.err_after r.report → r.out_after ≡ r.out → Told r order (Err cause)
 told_refused r order cause is_err (inl t) same = record {
   out = [];

@@ -5,7 +5,7 @@ use Rattle.top_model.specs.Said.{Said, Says}
 use Rattle.top_model.specs.Orders.{Text, Order}
 use Rattle.top_model.specs.Texts.{status_of}
 use Rattle.top_model.specs.Runs.{Run, Asks, SinkRose}
-use Rattle.top_model.specs.Grounds.{Grounds}
+use Rattle.top_model.specs.Grounds.{Grounds, TakesFirst}
 use Rattle.top_model.specs.Told.{Answer, cause_of, OutText, ErrTextOn, Told}
 use Rattle.top_model.specs.Causes.{expected, Comes, Expects}
 use Rattle.top_model.specs.Answered.{Rests, Answered}
@@ -54,7 +54,7 @@ module _ (r : Run) (a : Answered r) where
         err = told.err;
         to_out = whole.to_out;
         to_err = whole.to_err;
-        is_err = subst (λ c. ErrTextOn (Grounds r order) order c told.err) (sym cause) told.is_err;
+        is_err = subst (λ c. ErrTextOn (TakesFirst r) (Grounds r order) order c told.err) (sym cause) told.is_err;
         silent = λ other. silent a.answer told.out told.is_out (λ done. other (cause ∙ done));
         says = λ rests done. says rests (sym cause ∙ done);
       }
