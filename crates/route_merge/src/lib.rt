@@ -1,7 +1,7 @@
 //! The merge of routes, rules and DNS, over merged links.
 #![tactic(auto)]
 
-// Which routes and rules an entry matches, and which routes are the same.
+// Which rules an entry matches, and which routes are the same.
 mod matching;
 // Links with an index by name.
 mod devices;
@@ -9,6 +9,8 @@ mod devices;
 mod keys;
 // The rules of the merge that look at stated routes.
 mod broken;
+// The absent entries of routes, to find whether one of them matches a route.
+mod absent_routes;
 // The merged routes.
 mod routes;
 // Merged rules with an index, and the numbers of those without a priority.
