@@ -1,5 +1,5 @@
-mod Absent
 mod AbsentRoutes
+mod AbsentRules
 mod ByName
 mod Indexed
 mod Narrowed

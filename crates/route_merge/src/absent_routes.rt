@@ -87,7 +87,7 @@ fn has_shape(shapes: &[StatedRoute], stated: &StatedRoute) -> bool
 }
 
 // One more, unless one that states the same fields is there.
-#[tactic(auto, using(crate::proofs::AbsentRoutes::shape_passed, crate::proofs::AbsentRoutes::shape_kept, crate::proofs::AbsentRoutes::shape_pushed))]
+#[tactic(auto, using(crate::proofs::AbsentRoutes::shape_passed, crate::proofs::AbsentRoutes::shape_pushed))]
 fn push_shape(shapes: &mut Vec<StatedRoute>, entry: &RouteEntry) -> Result<(), AllocError>
     ensures { OnOk result ((es : List RouteEntry) → HasShapes shapes.old.items es → HasShapes shapes.new.items (es ++ entry.now ∷ [])) }
 {

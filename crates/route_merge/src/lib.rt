@@ -1,7 +1,7 @@
 //! The merge of routes, rules and DNS, over merged links.
 #![tactic(auto)]
 
-// Which rules an entry matches, and which routes are the same.
+// Which routes are the same.
 mod matching;
 // Links with an index by name.
 mod devices;
@@ -15,6 +15,8 @@ mod absent_routes;
 mod routes;
 // Merged rules with an index, and the numbers of those without a priority.
 mod taken;
+// The absent entries of rules, to find whether one of them matches a rule.
+mod absent_rules;
 // The merged rules.
 mod rules;
 // The merged settings of DNS.
