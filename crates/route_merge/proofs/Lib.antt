@@ -1,4 +1,6 @@
-mod Absent
+mod AbsentRoutes
+mod AbsentRules
 mod ByName
 mod Indexed
+mod Narrowed
 mod SameKeys

@@ -20,13 +20,13 @@ use Rattle.merge_model.proofs.lemmas.Equal.{one_block, same_of, one_route}
 use Rattle.route_merge.specs.Keys.{key_of, key_cmp, whole_cmp, HasKeys, HasRoutes, HasFirsts}
 use Rattle.route_merge.proofs.Indexed.{any_more}
 
-five : (a b c d e : Bool) → ((((a && b) && c) && d) && e) ≡ (a && (b && (c && (d && e))))
+pub five : (a b c d e : Bool) → ((((a && b) && c) && d) && e) ≡ (a && (b && (c && (d && e))))
 five true true true d e = refl
 five true true false d e = refl
 five true false c d e = refl
 five false b c d e = refl
 
-options_tie : {X : Type 0} (E : X → X → Bool) (R : X → X → Ordering) → ((x y : X) → E x y ≡ is_eq (R x y)) → (a b : Option X) → option_eq E a b ≡ is_eq (option_cmp R a b)
+pub options_tie : {X : Type 0} (E : X → X → Bool) (R : X → X → Ordering) → ((x y : X) → E x y ≡ is_eq (R x y)) → (a b : Option X) → option_eq E a b ≡ is_eq (option_cmp R a b)
 options_tie E R tie None None = refl
 options_tie E R tie None (Some y) = refl
 options_tie E R tie (Some x) None = refl

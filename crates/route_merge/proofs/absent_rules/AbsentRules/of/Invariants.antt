@@ -1,0 +1,7 @@
+use Rattle.std.proofs.Common.{take}
+use Rattle.route_merge.specs.AbsentRules.{HasShapes, HasStated}
+use Rattle.route_merge.proofs.absent_rules.AbsentRules.of.Given as goal
+
+-- the index of those so far
+abbrev pub invariant-loop-entry : goal.invariant-loop-entry
+invariant-loop-entry l = HasShapes l.shapes.items (take l.entry-index l.entries) × HasStated l.stated (take l.entry-index l.entries)
