@@ -46,7 +46,7 @@ grouped true true false d e f g h = refl
 grouped true false c d e f g h = refl
 grouped false b c d e f g h = refl
 
-bools_tie : (a b : Bool) → bool_eq a b ≡ is_eq (bool_cmp a b)
+pub bools_tie : (a b : Bool) → bool_eq a b ≡ is_eq (bool_cmp a b)
 bools_tie true true = refl
 bools_tie true false = refl
 bools_tie false true = refl

@@ -3,6 +3,8 @@
 
 // Which routes are the same.
 mod matching;
+// The connected subnets of links, to find whether one of them holds a gateway.
+mod connected;
 // Links with an index by name.
 mod devices;
 // Sets of routes and of their keys.
