@@ -113,6 +113,7 @@ applies_done honest tells doc now old new x a = record {
   exit = a.exit;
   reads = a.reads;
   kept = a.kept;
+  seen = a.seen;
   undisturbed = λ h s from to reads merges quiet memory. a.undisturbed h s from to reads merges quiet (λ e. cc);
   tries = a.tries;
   twice = a.twice;

@@ -12,6 +12,7 @@ use Rattle.merge_model.specs.MergedNet.{merge}
 use Rattle.engine_model.specs.Machine.{Asked, asked, apply, recover}
 use Rattle.engine_model.specs.Sound.{Sound, WhereSound}
 use Rattle.engine_model.specs.Stations.{Only, Settled, Either, Kept, at, entry_of, left_by}
+use Rattle.engine_model.specs.Compared.{Compared}
 use Rattle.engine_model.specs.Exit.{ApplyExit}
 use Rattle.engine_model.specs.Refusals.{ApplyCounts}
 use Rattle.engine_model.specs.Failing.{ApplyIdle, ApplyIntact, ApplyWaits}
@@ -83,6 +84,8 @@ pub record Applies (honest tells : Type 0) (a : Asked) (old new : HostView) (res
   pub exit : WhereSound honest old (ApplyExit a (entry_of old) (left_by new) (Rose old.faults new.faults) (RoseTwice old.faults new.faults) result)
   pub reads : WhereSound honest old (ApplyExit a (at (standing old.state)) (Only (standing new.state)) (Rose old.faults new.faults) (RoseTwice old.faults new.faults) result)
   pub kept : WhereSound honest old (Kept (Either (Settled a.now (entry_of old)) (Only (apply a (standing old.state)).after)) old new)
+  -- what is left to wait was compared
+  pub seen : WhereSound honest old (Compared a old new)
   -- where no checkpoint stood and nothing failed, each link that the change needn't touch is left alone on the way
   pub undisturbed : honest → Sound old → (from to : NetData) → standing old.state ≡ restored_to from → merge from a.doc ≡ Ok to
       → (Rose old.faults new.faults → ⊥) → result ≢ Err ap.OutOfMemory

@@ -11,6 +11,7 @@ use Rattle.engine_model.specs.Machine.{Asked, apply, commit, rollback, recover}
 use Rattle.engine_model.specs.Checks.{check, CheckSays, CheckAnswers, CheckExit}
 use Rattle.engine_model.specs.Sound.{WhereSound}
 use Rattle.engine_model.specs.Stations.{Only, Settled, Either, Kept, at, entry_of, left_by}
+use Rattle.engine_model.specs.Compared.{Compared}
 use Rattle.engine_model.specs.Exit.{ApplyExit, CommitExit, BackExit}
 use Rattle.engine_model.specs.Answers.{IsBefore}
 use Rattle.engine_model.specs.Refusals.{ApplyCounts, BackCounts}
@@ -42,6 +43,8 @@ module _ (tells honest : Type 0) (old new : HostView) where
     pub exit : WhereSound honest old (ApplyExit a (entry_of old) (left_by new) (Rose old.faults new.faults) (RoseTwice old.faults new.faults) answer)
     pub reads : WhereSound honest old (ApplyExit a (at (standing old.state)) (Only (standing new.state)) (Rose old.faults new.faults) (RoseTwice old.faults new.faults) answer)
     pub kept : WhereSound honest old (Kept (Either (Settled a.now (entry_of old)) (Only (apply a (standing old.state)).after)) old new)
+    -- what is left to wait was compared
+    pub seen : WhereSound honest old (Compared a old new)
     -- where no checkpoint stood and nothing failed, each link that the change needn't touch is left alone on the way
     pub undisturbed : WhereSound honest old ((from to : NetData) → standing old.state ≡ restored_to from → merge from a.doc ≡ Ok to → (Rose old.faults new.faults → ⊥) → answer ≢ Err ap.OutOfMemory
         → (s : State) → new.stops.left_since old.stops.moment s → (net : NetData) × (s.net ≡ Some net) × IsUndisturbed from to net)

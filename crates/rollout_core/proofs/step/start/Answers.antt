@@ -24,6 +24,7 @@ returns g c =
           exit = done.exit;
           reads = done.reads;
           kept = done.kept;
+          seen = done.seen;
           undisturbed = done.undisturbed;
           tries = done.tries;
           twice = done.twice;
