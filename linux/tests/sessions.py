@@ -6,6 +6,7 @@ import fcntl
 import json
 import os
 import pathlib
+import pty
 import re
 import shlex
 import subprocess
@@ -300,6 +301,17 @@ def folders(s):
     s.wants(s.run("apply", path), 0, "applied\n")
 
 
+def terminal(s):
+    """On a terminal an error line is followed by what it means and what to write instead; elsewhere it isn't."""
+    path = s.file("eth9.json", {"interfaces": [{"name": "eth9", "mtu": 9000}]})
+    s.bad += [] if s.run("apply", path).stderr == "error: merge rule 2 NoType at eth9\n" else ["more than the line without a terminal"]
+    ours, theirs = pty.openpty()
+    ran = subprocess.run([*s.command(), "--state", s.state, "apply", path], stdout=subprocess.DEVNULL, stderr=theirs, check=False, timeout=300)
+    os.close(theirs)
+    said = os.read(ours, 65536).decode()
+    s.bad += [] if ran.returncode == 1 and said.startswith("error: merge rule 2 NoType at eth9\r\n  there is no link eth9; ") and "write instead: a name that show prints" in said else [said]
+
+
 def readme(s):
     """README's first session as it is printed there, but for `init`: a machine has its network."""
     block = re.search(r"(?m)^    \$ nmstatectl init .*\n(?:    .*\n)*", README.read_text(encoding="utf-8")).group()
@@ -319,7 +331,7 @@ CASES = {
     "a bond with a VLAN, rolled back": (bond_taken_back, "bond"), "a deadline": (due, ""), "killed at each request": (killed, ""),
     "killed at each request, with a bond": (bond_killed, "bond"), "the far end killed after each run": (far_end_killed, ""),
     "the far end killed after each run, with a bond": (bond_far_end_killed, "bond"), "a hang-up": (hung_up, ""), "the pipes are cut": (cut, ""), "a call refused": (refused, ""), "not verified": (not_verified, ""),
-    "a service": (service, ""), "folders of the state": (folders, ""), "README's session": (readme, "bond"),
+    "a service": (service, ""), "folders of the state": (folders, ""), "on a terminal": (terminal, ""), "README's session": (readme, "bond"),
 }
 
 
