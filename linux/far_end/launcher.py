@@ -21,13 +21,15 @@ REQUESTS, ANSWERS = 3, 4
 # Statuses of our own: beside those of the program, which docs/COMMANDS.md lists.
 USAGE, NOT_STARTED = 2, 70
 HOST_FAULTS = (4, 5, 10)
+# The longest --wait.
+MOST_SECONDS = 86400
 # Descriptors above those that the program takes.
 HIGH = 10
 
 HELP = """\
 nmstatectl-linux [OPTIONS] COMMAND...      the network of this machine, by the proved program over its kernel
 
-Options, before the command:
+Options, before the command, `--state DIR` among them in any order:
   --netns NAME     the network namespace NAME in place of the machine's own
   --resolv FILE    the resolv.conf that is read and written (/etc/resolv.conf, or /etc/netns/NAME/resolv.conf)
   --wait SECONDS   how long an ip may take for its answer (30)
@@ -35,19 +37,20 @@ Options, before the command:
   --verbose        each ip command before it is run, on standard error
   --help, --version
 
-Commands are those of nmstatectl (docs/COMMANDS.md); `--state DIR` is the folder of the checkpoint:
+Commands are those of nmstatectl (docs/COMMANDS.md); `--state DIR` is the folder of the checkpoint, else the current one:
   show [IFNAME] [--json]       nmstatectl-linux show eth0
   plan [FILE] [--batch]        nmstatectl-linux plan change.yml
   policy [FILE]                nmstatectl-linux policy policy.yml
   simulate [FILE]              nmstatectl-linux plan --batch change.yml | nmstatectl-linux simulate
   apply [FILE] [--no-commit] [--no-verify] [--timeout N]
-                               nmstatectl-linux --state /var/lib/nmstatectl apply --no-commit --timeout 120 change.yml
-  commit                       nmstatectl-linux --state /var/lib/nmstatectl commit
-  rollback                     nmstatectl-linux --state /var/lib/nmstatectl rollback
-  recover                      nmstatectl-linux --state /var/lib/nmstatectl recover
-  check                        nmstatectl-linux --state /var/lib/nmstatectl check
+                               nmstatectl-linux --state /var/lib/nmstatectl-linux apply --no-commit --timeout 120 change.yml
+  commit                       nmstatectl-linux --state /var/lib/nmstatectl-linux commit
+  rollback                     nmstatectl-linux --state /var/lib/nmstatectl-linux rollback
+  recover                      nmstatectl-linux --state /var/lib/nmstatectl-linux recover
+  check                        nmstatectl-linux --state /var/lib/nmstatectl-linux check
   script [FILE]                nmstatectl-linux script lines.txt
-  service FOLDER               nmstatectl-linux --state /var/lib/nmstatectl service /etc/nmstatectl.d
+  service FOLDER               nmstatectl-linux --state /var/lib/nmstatectl-linux service /etc/nmstatectl.d
+  generate N SEED              nmstatectl-linux generate 2 1        (in memory alone)
 `init` makes nothing here, since a machine has its network, and `rollout` knows no nodes.
 """
 
@@ -66,12 +69,14 @@ class Usage(Exception):
 
 
 def read_options(words):
-    """The options before the command, and the command's own words."""
-    options, rest = Options(), list(words)
-    while rest and rest[0].startswith("--") and rest[0] != "--state":
+    """The options before the command, and the words of the program: its own option comes first there."""
+    options, rest, state = Options(), list(words), []
+    while rest and rest[0].startswith("--"):
         key = rest.pop(0)[2:]
         if key == "verbose":
             options.verbose = True
+        elif key == "state" and rest:
+            state = ["--state", rest.pop(0)]
         elif key in ("netns", "resolv", "program", "wait") and rest:
             setattr(options, key, rest.pop(0))
         else:
@@ -80,12 +85,16 @@ def read_options(words):
         options.wait = float(options.wait)
     except ValueError:
         raise Usage("--wait") from None
-    return options, rest
+    if not 0 < options.wait <= MOST_SECONDS:
+        raise Usage("--wait")
+    return options, [*state, *rest]
 
 
 def version():
+    files = [HERE / "VERSION", HERE.parent / "VERSION"]
+    number = next((it.read_text(encoding="utf-8").strip() for it in files if it.exists()), "of no number")
     ip = subprocess.run(["ip", "-V"], capture_output=True, text=True, check=False).stdout.strip()
-    return f"nmstatectl-linux, not released; {ip}; {platform.system()} {platform.release()}"
+    return f"nmstatectl-linux {number}; {ip}; {platform.system()} {platform.release()}"
 
 
 def find_program(named):

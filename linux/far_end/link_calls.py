@@ -49,6 +49,8 @@ def add_link(machine, link):
 def del_link(machine, name):
     network = machine.network
     link, ports = network.links[name], network.ports_of(name)
+    if link.kind == "ethernet":                 # that of a container is a veth, and Linux would delete it
+        raise Refused(3, f"{name} is a device")
     ends = [name, link.peer] if link.kind == "veth" else [name]
     gone = ends + network.over(ends)
     machine.spare_in_deleting(ends)

@@ -133,7 +133,11 @@ class Draw:
         ends = [read_prefix(f"2001:db8:{r.randrange(3)}::/48" if is_ipv6 else f"10.{r.randrange(3)}.0.0/16") if r.random() < 0.5 else None for _ in range(2)]
         mark, mask = r.choice(((0, 0), (0, 0), (5, 0xFFFFFFFF), (5, 0xFF), (0, 0xFF)))
         action = r.choice((0, 0, 0, 1, 2, 3))
-        return model.add_rule, Rule(r.randrange(100, 104), is_ipv6, *ends, r.choice((None, None, "eth1", "x9")), mark, mask, action, 0 if action else r.choice((100, 254)))
+        iif = r.choice((None, None, "eth1", "x9"))
+        # A rule that lets no lookup through keeps Linux from finding gateways.
+        if action and not any(ends) and not iif and not mark:
+            return None
+        return model.add_rule, Rule(r.randrange(100, 104), is_ipv6, *ends, iif, mark, mask, action, 0 if action else r.choice((100, 254)))
 
     def del_rule(self):
         found = sorted((it for those in self.network.rules.values() for it in those), key=repr)

@@ -5,13 +5,15 @@ usage: plans.py draw FOLDER PROGRAM SERIES PLANS [SEED]   plans between drawn ne
                                                           and those that are stopped after each call and led back, as files of
                                                           FOLDER; says of each whether simulate and the model agree
        plans.py recorded FOLDER                           the plans that the sessions in examples/ print, likewise
-       plans.py others FOLDER                             keeps the network of links by other hands, for plans among them
-       plans.py run FOLDER                                makes them here, in namespaces of their own"""
+       plans.py others FOLDER                             keeps the network of links by other hands, for plans among them, and
+                                                          which kinds of links this kernel has
+       plans.py run FOLDER                                makes them here, in namespaces of their own, but for those with other kinds"""
 import copy
 import itertools
 import json
 import pathlib
 import random
+import re
 import subprocess
 import sys
 import tempfile
@@ -25,7 +27,7 @@ from far_end.machine import Machine                             # noqa: E402
 from far_end.profile import Link, Network, default_mac          # noqa: E402
 from tests import model, room                                   # noqa: E402
 from tests.calls import OTHERS, difference                      # noqa: E402
-from tests.draw import Draw                                     # noqa: E402
+from tests.draw import NAMES, Draw                              # noqa: E402
 from tests.images import read_image, store                      # noqa: E402
 
 TASKS = pathlib.Path(__file__).resolve().parents[2] / "examples" / "tasks"
@@ -77,10 +79,10 @@ def planned(program, network, document):
     return lines, then
 
 
-def drawn_document(program, rng, network):
+def drawn_document(program, rng, network, kinds):
     """A network some calls away, as a document; what isn't there is absent."""
     target = copy.deepcopy(network)
-    draw = Draw(rng, target)
+    draw = Draw(rng, target, kinds)
     for _ in range(CALLS_A_PLAN):
         draw.call()
     document = json.loads(program.ask(target, ["show", "--json"])[1])
@@ -88,10 +90,10 @@ def drawn_document(program, rng, network):
     return json.dumps(document)
 
 
-def drawn_series(program, seed, count, start):
+def drawn_series(program, seed, count, start, kinds):
     rng, network, plans = random.Random(seed), copy.deepcopy(start), []
     while len(plans) < count:
-        found = planned(program, network, drawn_document(program, rng, network))
+        found = planned(program, network, drawn_document(program, rng, network, kinds))
         if found and found[0]:
             plans.append({"lines": found[0], "image": image_of(found[1]).hex()})
             network = found[1]
@@ -172,11 +174,12 @@ def draw(folder, path, count, plans, first=0):
     folder = pathlib.Path(folder)
     folder.mkdir(exist_ok=True)
     others = read_image(bytes.fromhex((folder / "others.hex").read_text())) if (folder / "others.hex").exists() else None
+    kinds = kinds_of(folder)
     with tempfile.TemporaryDirectory() as room_folder:
         program = Program(path, room_folder)
         for seed in range(int(first), int(first) + int(count)):
             by_others = bool(seed % 2 and others)
-            found = drawn_series(program, seed, int(plans), others if by_others else bare())
+            found = drawn_series(program, seed, int(plans), others if by_others else bare(), kinds)
             (folder / f"plans-{seed}.json").write_text(json.dumps({"others": by_others, "plans": found}), encoding="utf-8")
         tasks = sorted(it for it in TASKS.glob("*.yml") if it.name != "hardware.yml")
         drawn = 0
@@ -222,20 +225,37 @@ def one(path, results):
     return 1 if bad else 0
 
 
+def kinds_of(folder):
+    """The kinds of links that the kernel has on which the plans are to be made."""
+    path = pathlib.Path(folder) / "kinds"
+    return path.read_text(encoding="ascii").split() if path.exists() else list(NAMES)
+
+
+def needs(path):
+    """The kinds of links that a series makes."""
+    return set(re.findall(r"type ([a-z]+)", path.read_text(encoding="utf-8")))
+
+
 def run(folder):
-    told = {}
+    told, kinds, skipped = {}, set(kinds_of(folder)), 0
     for path in sorted(pathlib.Path(folder).glob("*-*.json")):
+        if not needs(path) <= kinds:
+            skipped += 1
+            continue
         results = path.with_suffix(".told")
         room.apart(one, path, results)
         told.setdefault(path.name.partition("-")[0], []).append(json.loads(results.read_text(encoding="utf-8")) if results.exists() else [0, 0, 0, True])
     for kind, rows in told.items():
         plans, calls, refused, bad = (sum(it) for it in zip(*rows))
         print(f"{kind}: {len(rows)} series, {plans} plans, {calls} calls, {refused} refused, {bad} series with a difference")
+    if skipped:
+        print(f"skipped: {skipped} series with kinds of links that this kernel lacks")
     return 1 if any(row[3] for rows in told.values() for row in rows) else 0
 
 
 def others(folder):
-    """Keeps the network of links by other hands, for plans among them."""
+    """Keeps the network of links by other hands, for plans among them, and the kinds of links of this kernel."""
+    (pathlib.Path(folder) / "kinds").write_text(" ".join(it for it in NAMES if room.has(it)), encoding="ascii")
     room.ip_some(OTHERS.strip().splitlines())
     with tempfile.TemporaryDirectory() as it:
         (pathlib.Path(folder) / "others.hex").write_text(Machine(f"{it}/resolv.conf", room.WAIT).dump().hex(), encoding="ascii")

@@ -116,6 +116,11 @@ def long_line(folder):
     return check(Case("long_line", folder), heard=[FAULT, DONE, *IP_REFUSED], made=1)
 
 
+def device_deleted(folder):
+    """Of a container it is a veth, which Linux would delete."""
+    return check(Case("device_deleted", folder), heard=[DONE, "2d03", DONE], made=2)
+
+
 def hung_up(folder):
     case = Case("hung_up", folder)
     return check(case, heard=[DONE, DONE, *case.heard[2:]], made=2) + ([] if case.heard[2:][0].startswith("3d") else ["no dump"])
@@ -159,7 +164,7 @@ CASES = [
     ("an answer longer than a pipe holds", long_answer), ("nobody hears the answer", nobody_hears),
     ("no request: 2 MB", long_line),
     *((f"no request: {name}", lambda folder, data=data: said(folder, data)) for name, data in STRANGE.items()),
-    ("SIGHUP to all", hung_up), ("SIGINT to all", interrupted), ("SIGTERM to the far end", terminated),
+    ("a device that is to be deleted", device_deleted), ("SIGHUP to all", hung_up), ("SIGINT to all", interrupted), ("SIGTERM to the far end", terminated),
     ("an ip gives no answer", late_call), ("the ip that stays gives no answer", late_batch), ("the ip that stays dies", dead_batch),
     *((f"a dump: {name}", lambda folder, mode=mode: bad_dump(folder, mode)) for name, mode in (
         ("it hangs", "hang json"), ("it is no JSON", "garbage json"), ("it is cut off", "half json"), ("a part of it fails", "fail rule"))),

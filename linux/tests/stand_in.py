@@ -114,6 +114,12 @@ def many_at_once(talk):
         talk.hear()
 
 
+def device_deleted(talk):
+    talk.ask(CALLS[0])
+    talk.ask("link del dev eth1")
+    talk.ask(CALLS[1])
+
+
 def hung_up(talk):
     talk.ask(CALLS[0])
     os.killpg(os.getpgid(0), signal.SIGHUP)
@@ -185,7 +191,7 @@ def dead_batch(talk):
 
 
 CASES = {"killed_at": killed_at, "far_end_killed_after": far_end_killed_after, "without_end": without_end, "in_pieces": in_pieces,
-         "long_answer": long_answer, "nobody_hears": nobody_hears, "said": said, "long_line": long_line, "many_at_once": many_at_once, "hung_up": hung_up,
+         "long_answer": long_answer, "nobody_hears": nobody_hears, "said": said, "long_line": long_line, "many_at_once": many_at_once, "device_deleted": device_deleted, "hung_up": hung_up,
          "interrupted": interrupted, "terminated": terminated, "late_call": late_call, "late_batch": late_batch, "bad_dump": bad_dump,
          "dead_batch": dead_batch}
 
