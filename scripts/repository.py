@@ -58,9 +58,9 @@ class Released:
 
     def __init__(self):
         lines = (RELEASE / "RELEASE").read_text(encoding="utf-8").splitlines()
-        said = dict(line.split(" ", 1) for line in lines)
-        if tuple(said) != self.LINES:
-            raise ValueError(f"release/RELEASE has other lines than {', '.join(self.LINES)}")
+        said = dict(line.partition(" ")[::2] for line in lines)
+        if tuple(said) != self.LINES or not all(said.values()):
+            raise ValueError(f"release/RELEASE hasn't the lines {', '.join(self.LINES)}")
         self.version, self.machine, self.kit, self.sources, self.sum = said.values()
 
     @classmethod
