@@ -3,6 +3,7 @@ service, and what is said of a folder that can't be worked with.
 
 usage: sessions.py PROGRAM [WORD..]       (the cases whose titles have one of the words)"""
 import fcntl
+import itertools
 import json
 import os
 import pathlib
@@ -21,7 +22,9 @@ from tests import room                                          # noqa: E402
 
 HERE = pathlib.Path(__file__).resolve().parent
 LAUNCHER, UNITS = HERE.parent / "nmstatectl-linux", HERE.parent / "units"
-README, TASKS = HERE.parents[1] / "README.md", HERE.parents[1] / "examples" / "tasks"
+TOP = HERE.parents[1]
+README, PAGE, TASKS = TOP / "README.md", TOP / "docs" / "LINUX.md", TOP / "examples" / "tasks"
+BUILT = TOP / "crates" / "nmstatectl_peer" / "out" / "nmstatectl_peer"
 MTU = {"interfaces": [{"name": "eth1", "type": "ethernet", "mtu": 9000}]}
 # What any kernel has that these tests run on, with several calls of each kind.
 BRIDGE = {"interfaces": [
@@ -326,8 +329,37 @@ def readme(s):
     s.bad += [] if "bond0.5@bond0" in room.sh("ip -br address") else ["no bond0.5"]
 
 
+# Runs the commands of standard input as a terminal would show them, in a mount namespace with files of its own.
+SHELL = """
+mount --make-rprivate / && mount -t tmpfs none /run || exit
+export TMPDIR=/run
+while IFS= read -r line <&9; do
+    printf '$ %s\\n' "$line"
+    eval "$line" </dev/null 2>&1
+    status=$?
+    [ "$status" = 0 ] || printf '[%s]\\n' "$status"
+done 9<&0
+"""
+
+
+def pasted(s):
+    """The lines of docs/LINUX.md that try it, as they stand; on a kernel without bonds the first of their blocks."""
+    if not BUILT.exists():
+        s.bad.append(f"there is no {BUILT}")
+        return
+    section = PAGE.read_text(encoding="utf-8").partition("## Try it without risk")[2].partition("\n## ")[0]
+    blocks = re.findall(r"(?m)^    \$ .*\n(?:    .*\n)*", section)
+    text = re.sub(r"(?m)^    ", "", "".join(blocks if room.has("bond") else blocks[:1]))
+    lines = "".join(re.findall(r"(?m)^\$ (.*\n)", text))
+    # The other namespaces end with this mount namespace.
+    ran = subprocess.run(["unshare", "-m", "bash", "-c", SHELL], cwd=TOP, input=lines, capture_output=True, text=True, check=False, timeout=600)
+    said = re.sub(r"(until|made|deadline) \d{9,}", r"\1 D", re.sub(r"/run/tmp\.\w+", "$dir", ran.stdout + ran.stderr))
+    one, other = ([it.rstrip() for it in text.splitlines()] for text in (said, text))
+    s.bad += [f"pasted: {a!r}, and not {b!r}" for a, b in itertools.zip_longest(one, other) if a != b][:3]
+
+
 CASES = {
-    "an MTU, and nothing else": (one_mtu, ""), "what is shown is applied": (shown_again, ""), "a bridge, rolled back": (taken_back, ""),
+    "an MTU, and nothing else": (one_mtu, ""), "what docs/LINUX.md says to try": (pasted, ""), "what is shown is applied": (shown_again, ""), "a bridge, rolled back": (taken_back, ""),
     "a bond with a VLAN, rolled back": (bond_taken_back, "bond"), "a deadline": (due, ""), "killed at each request": (killed, ""),
     "killed at each request, with a bond": (bond_killed, "bond"), "the far end killed after each run": (far_end_killed, ""),
     "the far end killed after each run, with a bond": (bond_far_end_killed, "bond"), "a hang-up": (hung_up, ""), "the pipes are cut": (cut, ""), "a call refused": (refused, ""), "not verified": (not_verified, ""),
